@@ -1,0 +1,11 @@
+-- Laws on f64 values that belong to no one function. `Order` and `Within` are what the layers above cite.
+pub mod Order
+pub mod Within
+pub mod Cases
+pub mod Values
+pub mod Whole
+pub mod Power
+pub mod Cut
+pub mod Exp
+pub mod Rows
+pub mod NanPattern

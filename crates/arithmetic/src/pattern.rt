@@ -1,0 +1,27 @@
+// An f64 and its bit pattern, for every pattern. The language's own `from_bits` and `to_bits` are not
+// defined at a NaN, so it is tested first: every NaN pattern reads as the one NaN, which is written
+// as 7ff8000000000000.
+ghost use mathlib.Core.Path.{_≡_};
+ghost use lib.Ieee.{binary64, ofBits, toBits};
+
+// The f64 that a pattern stands for.
+pub fn from_bits(n: u64) -> f64
+    ensures { λ r. ⌜ r ≡ ofBits binary64 n ⌝ }
+{
+    if 0x7ff0_0000_0000_0000 < n % 0x8000_0000_0000_0000 {
+        0.0 / 0.0
+    } else {
+        f64::from_bits(n)
+    }
+}
+
+// The pattern of an f64.
+pub fn to_bits(x: f64) -> u64
+    ensures { λ r. ⌜ r ≡ toBits binary64 x ⌝ }
+{
+    if x != x {
+        0x7ff8_0000_0000_0000
+    } else {
+        f64::to_bits(x)
+    }
+}

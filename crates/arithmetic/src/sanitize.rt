@@ -1,0 +1,30 @@
+// Sample sanitization at the limiter's boundaries (sanitize.rs).
+ghost use mathlib.Core.Path.{_≡_};
+ghost use Rattle.arithmetic.specs.Sanitize.{finiteOrZero, flushDenormal, unitGain};
+use crate::number::abs;
+use crate::number::clamp;
+
+// Outputs below this magnitude are flushed to zero.
+const DENORMAL_FLOOR: f64 = 1e-30;
+
+// x where it is finite, else silence. Only a finite number less itself is 0.
+pub fn finite_or_zero(x: f64) -> f64
+    ensures { λ r. ⌜ r ≡ finiteOrZero x ⌝ }
+{
+    if x - x == 0.0 { x } else { 0.0 }
+}
+
+// The output rule: a finite number, or +0.0 where its magnitude is below 1e-30.
+pub fn flush_denormal(x: f64) -> f64
+    ensures { λ r. ⌜ r ≡ flushDenormal x ⌝ }
+{
+    let y = finite_or_zero(x);
+    if abs(y) < DENORMAL_FLOOR { 0.0 } else { y }
+}
+
+// A gain: what is not finite counts as 0.0, and the rest is kept within 0 and 1.
+pub fn unit_gain(x: f64) -> f64
+    ensures { λ r. ⌜ r ≡ unitGain x ⌝ }
+{
+    clamp(finite_or_zero(x), 0.0, 1.0)
+}

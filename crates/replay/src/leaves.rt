@@ -1,0 +1,118 @@
+// The file `leaves`: records of six words, op, a, b, c, status and answer. An f64 is its bits, and
+// every NaN answer is the canonical one.
+use crate::tally::Replayed;
+use crate::tally::Tally;
+use arithmetic::math::ExpAnswer;
+use arithmetic::pattern::from_bits;
+use arithmetic::pattern::to_bits;
+
+// One record.
+struct Record {
+    op: u64,
+    a: u64,
+    b: u64,
+    c: u64,
+    status: u64,
+    answer: u64,
+}
+
+// What the proved code answers: document 01's number, 0 for a value, and the value's word.
+struct Answered {
+    status: u64,
+    word: u64,
+}
+
+fn value(x: f64) -> Answered {
+    Answered {
+        status: 0,
+        word: to_bits(x),
+    }
+}
+
+fn exp(x: f64) -> Answered {
+    match arithmetic::math::exp(x) {
+        ExpAnswer::Value(v) => value(v),
+        ExpAnswer::OutOfDomain => Answered {
+            status: 26,
+            word: 0,
+        },
+    }
+}
+
+// The ops by their numbers in the file; another number is answered as no record is.
+fn answer(op: u64, a: f64, b: f64, c: f64) -> Answered {
+    match op {
+        1 => value(arithmetic::sanitize::finite_or_zero(a)),
+        2 => value(arithmetic::sanitize::flush_denormal(a)),
+        3 => exp(a),
+        4 => value(arithmetic::number::abs(a)),
+        5 => value(arithmetic::number::min(a, b)),
+        6 => value(arithmetic::number::max(a, b)),
+        7 => value(arithmetic::number::clamp(a, b, c)),
+        8 => value(arithmetic::number::copysign(a, b)),
+        9 => Answered {
+            status: 0,
+            word: arithmetic::number::round(a),
+        },
+        10 => Answered {
+            status: 0,
+            word: arithmetic::number::ceil(a),
+        },
+        _ => Answered { status: 1, word: 0 },
+    }
+}
+
+fn same(leaf: Record) -> bool {
+    let got = answer(
+        leaf.op,
+        from_bits(leaf.a),
+        from_bits(leaf.b),
+        from_bits(leaf.c),
+    );
+    got.status == leaf.status && got.word == leaf.answer
+}
+
+// The five words after the op, which a whole file has.
+fn leaf(fd: i32, op: u64) -> Record {
+    let a = crate::words::next(fd).word;
+    let b = crate::words::next(fd).word;
+    let c = crate::words::next(fd).word;
+    let status = crate::words::next(fd).word;
+    let answer = crate::words::next(fd).word;
+    Record {
+        op,
+        a,
+        b,
+        c,
+        status,
+        answer,
+    }
+}
+
+// Each record of the file, up to a million.
+fn each(fd: i32) -> Replayed {
+    let mut tally = Tally::new();
+    for turn in 0..1000000usize {
+        let op = crate::words::next(fd);
+        if !op.whole {
+            return Replayed {
+                tally,
+                rest: op.rest,
+            };
+        }
+        tally = tally.counted(same(leaf(fd, op.word)));
+    }
+    Replayed { tally, rest: 0 }
+}
+
+pub fn replay() {
+    let path = b"leaves";
+    let fd = os::open_read(path);
+    if fd < 0 {
+        os::fail(path);
+        return;
+    }
+    let replayed = each(fd);
+    libc::close(fd);
+    replayed.print(path);
+}

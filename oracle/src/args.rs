@@ -1,0 +1,191 @@
+//! The command line, read into one value.
+
+use std::path::PathBuf;
+
+/// What `oracle` can do.
+pub const USAGE: &str = "usage:
+  oracle record [--out DIR]       write the recorded answers
+  oracle compare [--layer NAME] [--seed N] [--count N]
+                                  run the proved code beside the Rust
+  oracle taps                     print the detector's taps, one phase to a line
+  oracle weights LOOK             print the attack weights for a look
+  oracle steps LOOK [--release MS] GAIN...
+                                  drive step_env with gains, each 16 hex digits
+";
+
+/// One command with its arguments.
+#[derive(Debug, PartialEq)]
+pub enum Command {
+    Record {
+        out: PathBuf,
+    },
+    Compare {
+        layer: Option<String>,
+        seed: u64,
+        count: u64,
+    },
+    Taps,
+    Weights {
+        look: usize,
+    },
+    Steps {
+        look: usize,
+        release_ms: f64,
+        gains: Vec<f64>,
+    },
+}
+
+/// Options by name, and the words that are none.
+struct Words {
+    options: Vec<(String, String)>,
+    plain: Vec<String>,
+}
+
+impl Words {
+    fn read(words: &[String], known: &[&str]) -> Result<Self, String> {
+        let mut read = Self {
+            options: Vec::new(),
+            plain: Vec::new(),
+        };
+        let mut rest = words.iter();
+        while let Some(word) = rest.next() {
+            if !word.starts_with("--") {
+                read.plain.push(word.clone());
+                continue;
+            }
+            if !known.contains(&word.as_str()) {
+                return Err(format!("unknown option {word}"));
+            }
+            let value = rest.next().ok_or(format!("{word} wants a value"))?;
+            read.options.push((word.clone(), value.clone()));
+        }
+        Ok(read)
+    }
+
+    /// The last value given for an option.
+    fn option(&self, name: &str) -> Option<&str> {
+        let found = self.options.iter().rev().find(|(n, _)| n == name);
+        found.map(|(_, value)| value.as_str())
+    }
+
+    /// An option's number, or `default` where it is not given.
+    fn number<T: std::str::FromStr>(&self, name: &str, default: T) -> Result<T, String> {
+        self.option(name).map_or(Ok(default), number)
+    }
+
+    /// Refuse plain words where a command takes none.
+    fn no_plain(&self) -> Result<(), String> {
+        match self.plain.first() {
+            Some(word) => Err(format!("unexpected {word}")),
+            None => Ok(()),
+        }
+    }
+}
+
+/// A word as a number.
+fn number<T: std::str::FromStr>(word: &str) -> Result<T, String> {
+    word.parse()
+        .map_err(|_| format!("{word} is no number here"))
+}
+
+/// A float from its 16 hexadecimal digits.
+fn bits(word: &String) -> Result<f64, String> {
+    let read = u64::from_str_radix(word, 16).ok();
+    let read = read.filter(|_| word.len() == 16);
+    read.map(f64::from_bits)
+        .ok_or(format!("{word} is not 16 hexadecimal digits"))
+}
+
+/// Read the words after the program's name.
+pub fn parse(words: &[String]) -> Result<Command, String> {
+    let (name, rest) = words.split_first().ok_or("no command")?;
+    match name.as_str() {
+        "record" => record(&Words::read(rest, &["--out"])?),
+        "compare" => compare(&Words::read(rest, &["--layer", "--seed", "--count"])?),
+        "taps" => {
+            Words::read(rest, &[])?.no_plain()?;
+            Ok(Command::Taps)
+        }
+        "weights" => match Words::read(rest, &[])?.plain.as_slice() {
+            [look] => Ok(Command::Weights {
+                look: number(look)?,
+            }),
+            _ => Err("weights wants one look".into()),
+        },
+        "steps" => steps(&Words::read(rest, &["--release"])?),
+        other => Err(format!("unknown command {other}")),
+    }
+}
+
+fn record(words: &Words) -> Result<Command, String> {
+    words.no_plain()?;
+    let default = concat!(env!("CARGO_MANIFEST_DIR"), "/../crates/replay/data");
+    Ok(Command::Record {
+        out: words.option("--out").unwrap_or(default).into(),
+    })
+}
+
+fn compare(words: &Words) -> Result<Command, String> {
+    words.no_plain()?;
+    Ok(Command::Compare {
+        layer: words.option("--layer").map(str::to_owned),
+        seed: words.number("--seed", 1)?,
+        count: words.number("--count", 300_000)?,
+    })
+}
+
+fn steps(words: &Words) -> Result<Command, String> {
+    let (look, gains) = words.plain.split_first().ok_or("steps wants a look")?;
+    Ok(Command::Steps {
+        look: number(look)?,
+        release_ms: words.number("--release", 50.0)?,
+        gains: gains.iter().map(bits).collect::<Result<_, _>>()?,
+    })
+}
+
+#[cfg(test)]
+mod tests {
+    use super::*;
+
+    fn read(line: &str) -> Result<Command, String> {
+        let words: Vec<String> = line.split_whitespace().map(str::to_owned).collect();
+        parse(&words)
+    }
+
+    #[test]
+    fn commands_read_as_they_are_written() {
+        assert_eq!(read("taps"), Ok(Command::Taps));
+        assert_eq!(read("weights 72"), Ok(Command::Weights { look: 72 }));
+        assert_eq!(
+            read("compare --layer exp --seed 7 --count 20"),
+            Ok(Command::Compare {
+                layer: Some("exp".into()),
+                seed: 7,
+                count: 20
+            })
+        );
+        assert_eq!(
+            read("steps 11 3fe0000000000000"),
+            Ok(Command::Steps {
+                look: 11,
+                release_ms: 50.0,
+                gains: vec![0.5]
+            })
+        );
+    }
+
+    #[test]
+    fn bad_words_are_refused() {
+        for line in [
+            "",
+            "tap",
+            "taps x",
+            "record --in x",
+            "compare --seed",
+            "compare --seed x",
+        ] {
+            assert!(read(line).is_err(), "{line}");
+        }
+        assert!(read("steps 11 3fe").is_err());
+    }
+}

@@ -1,0 +1,159 @@
+//! A child of the Rust's own module `limiter`: it calls the private `step_env`
+//! and reads the fields that the step leaves.
+
+use super::{Kernel, Limiter, LimiterSettings, ProcessSpec};
+use crate::dsp::sanitize::finite_or_zero;
+
+/// What one gain step leaves, in document 01's words.
+#[derive(Clone, Copy, Debug, PartialEq)]
+pub(crate) struct Stepped {
+    /// This step's frame, counted from 0.
+    pub frame: u64,
+    /// The front of the ring.
+    pub floor: f64,
+    /// Entries that this step dropped from the ring, at both ends.
+    pub dropped: usize,
+    /// Entries in the ring.
+    pub kept: usize,
+    /// Floors in the attack row other than 1.
+    pub tally: usize,
+    /// The weighted mean of the attack row.
+    pub mean: f64,
+    /// The applied gain.
+    pub gain: f64,
+}
+
+/// A mono limiter of exactly this look, or the Rust's refusal.
+pub(crate) fn prepared(look: usize, release_ms: f64) -> Result<Limiter, String> {
+    let settings = LimiterSettings::new()
+        .lookahead_ms(look as f64 / 48.0)
+        .release_ms(release_ms);
+    let mut limiter = Limiter::with_settings(settings);
+    let spec = ProcessSpec {
+        sample_rate: 48_000,
+        channels: 1,
+        max_block: 1,
+        max_memory: None,
+    };
+    <Limiter as Kernel<f64>>::prepare(&mut limiter, spec).map_err(|e| e.to_string())?;
+    assert_eq!(limiter.look, look, "the look is not the one asked for");
+    Ok(limiter)
+}
+
+/// The weights that the Rust computed.
+pub(crate) fn weights(limiter: &Limiter) -> &[f64] {
+    &limiter.hann
+}
+
+/// One call of the Rust's own `step_env`.
+pub(crate) fn step(limiter: &mut Limiter, required: f64) -> Stepped {
+    let (frame, before, old_gain) = (limiter.frame, limiter.wedge_len, limiter.env);
+    let gain = limiter.step_env(required);
+    let mean = mean(limiter);
+    assert_eq!(
+        gain.to_bits(),
+        grown(old_gain, mean, limiter.release_coeff).to_bits(),
+        "the mean read here is not the one that the step used"
+    );
+    Stepped {
+        frame,
+        floor: limiter.wedge_val[limiter.wedge_head],
+        dropped: before + 1 - limiter.wedge_len,
+        kept: limiter.wedge_len,
+        tally: limiter.wm_nonunity,
+        mean,
+        gain,
+    }
+}
+
+/// The mean that the last step used. It is a local there, so it is summed
+/// again here from the fields in the same order; `step` holds it to the gain.
+fn mean(limiter: &Limiter) -> f64 {
+    if limiter.wm_nonunity == 0 {
+        return 1.0;
+    }
+    let rows = limiter.wm_hist.len();
+    let newest = limiter.wm_pos + rows - 1;
+    let mut sum = 0.0;
+    for (back, weight) in limiter.hann.iter().enumerate() {
+        sum += weight * limiter.wm_hist[(newest + rows - back) % rows];
+    }
+    sum
+}
+
+/// The gain that a mean leads to.
+fn grown(old: f64, mean: f64, coefficient: f64) -> f64 {
+    let old = finite_or_zero(old).clamp(0.0, 1.0);
+    let new = if mean <= old {
+        mean
+    } else {
+        old + (mean - old) * coefficient
+    };
+    finite_or_zero(new).clamp(0.0, 1.0)
+}
+
+#[cfg(test)]
+mod tests {
+    use super::*;
+
+    fn rows(look: usize, gains: &[f64]) -> Vec<(f64, usize, usize)> {
+        let mut limiter = prepared(look, 50.0).expect("a good look");
+        let steps = gains.iter().map(|&g| step(&mut limiter, g));
+        steps.map(|s| (s.floor, s.dropped, s.kept)).collect()
+    }
+
+    #[test]
+    fn document_01_floors_example() {
+        let expected = [(1.0, 0, 1), (0.5, 1, 1), (0.5, 0, 2)];
+        assert_eq!(rows(11, &[1.0, 0.5, 0.75]), expected);
+    }
+
+    #[test]
+    fn document_01_window_row() {
+        let mut gains = [1.0; 13];
+        gains[0] = 0.5;
+        let seen = rows(11, &gains);
+        assert!(seen[..12].iter().all(|s| s.0 == 0.5));
+        assert_eq!(seen[12], (1.0, 2, 1));
+    }
+
+    #[test]
+    fn document_01_odd_gains() {
+        for (gain, counts_as) in [
+            (f64::NAN, 0.0),
+            (f64::INFINITY, 0.0),
+            (-0.25, 0.0),
+            (1.5, 1.0),
+        ] {
+            assert_eq!(rows(11, &[gain])[0].0, counts_as);
+        }
+    }
+
+    /// What document 01 says of the floor and the tally, by plain scan; the
+    /// assertion in `step` holds the mean to the gain meanwhile.
+    #[test]
+    fn floors_and_tallies_are_those_of_a_plain_scan() {
+        let mut rng = crate::rng::Rng::new(2);
+        for look in [11, 12, 13, 40, 72] {
+            let mut limiter = prepared(look, 0.5).expect("a good look");
+            let (mut gains, mut floors) = (Vec::new(), Vec::new());
+            for _ in 0..2000 {
+                let quiet = rng.below(3) > 0;
+                let gain = if quiet { 1.0 } else { rng.unit() };
+                gains.push(gain);
+                let seen = step(&mut limiter, gain);
+                let window = gains.iter().rev().take(look + 1);
+                let floor = window.fold(1.0, |low: f64, g| low.min(*g));
+                floors.push(floor);
+                let row = floors.iter().rev().take((look - 11).max(1));
+                assert_eq!(seen.floor, floor);
+                assert_eq!(seen.tally, row.filter(|f| **f != 1.0).count());
+            }
+        }
+    }
+
+    #[test]
+    fn a_look_under_eleven_is_refused() {
+        assert!(prepared(10, 50.0).is_err());
+    }
+}

@@ -1,0 +1,68 @@
+//! Runs the proved code beside the Rust, layer by layer.
+
+mod leaves;
+mod peak;
+
+/// What a run depends on.
+#[derive(Clone, Copy, Debug)]
+pub struct Settings {
+    pub seed: u64,
+    pub count: u64,
+}
+
+/// Why a layer did not pass.
+#[derive(Debug)]
+pub enum Failure {
+    /// The first difference, after how many cases, in its smallest form.
+    Difference { compared: u64, report: String },
+    /// The linked library has no such function.
+    Missing(&'static str),
+}
+
+/// A layer's comparison: how many cases agreed.
+type Layer = fn(&Settings) -> Result<u64, Failure>;
+
+/// Every layer, leaves first.
+const LAYERS: [(&str, Layer); 3] = [
+    ("exp", leaves::exp),
+    ("leaves", leaves::others),
+    ("peak_abs", peak::run),
+];
+
+/// Run the named layer, or all; true where every answer was the same. A layer
+/// that could not run does not count as passed.
+pub fn compare(only: Option<&str>, settings: &Settings) -> Result<bool, String> {
+    let chosen: Vec<_> = LAYERS
+        .iter()
+        .filter(|(name, _)| only.is_none_or(|o| o == *name))
+        .collect();
+    if chosen.is_empty() {
+        let known = LAYERS.map(|(name, _)| name).join(", ");
+        return Err(format!("no such layer; there are {known}"));
+    }
+    let mut passed = true;
+    for (name, layer) in chosen {
+        let outcome = layer(settings);
+        passed &= outcome.is_ok();
+        println!("{}", line(name, settings.seed, &outcome).trim_end());
+    }
+    Ok(passed)
+}
+
+/// A layer's line, and the report of a difference below it.
+fn line(name: &str, seed: u64, outcome: &Result<u64, Failure>) -> String {
+    match outcome {
+        Ok(n) => format!("layer {name}: {n} compared, 0 differences, seed {seed}"),
+        Err(Failure::Difference { compared, report }) => {
+            format!("layer {name}: {compared} compared, 1 difference, seed {seed}\n{report}")
+        }
+        Err(Failure::Missing(function)) => {
+            format!("layer {name}: not compared, libprobe.a has no {function}")
+        }
+    }
+}
+
+/// A float as a reader wants it: its bits and its decimal form.
+fn shown(bits: u64) -> String {
+    format!("{bits:016x} ({:?})", f64::from_bits(bits))
+}

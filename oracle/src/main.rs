@@ -1,0 +1,82 @@
+//! The oracle: the Rust limiter, built unchanged and run for real, beside the
+//! code that is proved. See README.md.
+
+// `params!` of the Rust comes to our crate root through the generated tree,
+// and the Rust names it by its absolute path.
+#![allow(macro_expanded_macro_exports_accessed_by_absolute_paths)]
+
+mod args;
+mod arguments;
+#[cfg(feature = "probe")]
+mod compare;
+mod leaf;
+mod numbers;
+#[cfg(feature = "probe")]
+mod probe;
+mod record;
+mod rng;
+mod show;
+#[cfg(any(test, feature = "probe"))]
+mod shrink;
+mod signals;
+
+// The module tree of the Rust: its files as `build.rs` found them, and the
+// two modules of names that its crate root has and docs/src lacks.
+include!(concat!(env!("OUT_DIR"), "/tree.rs"));
+#[path = "bisque/parameter.rs"]
+mod parameter;
+#[path = "bisque/processor.rs"]
+mod processor;
+
+use std::io::Write as _;
+use std::process::ExitCode;
+
+use args::Command;
+
+/// Document 01 speaks of the release build.
+const _: () = assert!(!cfg!(debug_assertions), "build without debug assertions");
+
+fn main() -> ExitCode {
+    let words: Vec<String> = std::env::args().skip(1).collect();
+    match args::parse(&words) {
+        Ok(command) => run(command).unwrap_or_else(|line| {
+            eprintln!("oracle: {line}");
+            ExitCode::from(2)
+        }),
+        Err(line) => {
+            eprint!("oracle: {line}\n{}", args::USAGE);
+            ExitCode::from(2)
+        }
+    }
+}
+
+/// Run one command: 0 where all is well, 1 where answers differ.
+fn run(command: Command) -> Result<ExitCode, String> {
+    let text = match command {
+        Command::Record { out } => record::record(&out)?,
+        Command::Taps => show::taps(),
+        Command::Weights { look } => show::weights(look)?,
+        Command::Steps {
+            look,
+            release_ms,
+            gains,
+        } => show::steps(look, release_ms, &gains)?,
+        Command::Compare { layer, seed, count } => {
+            let passed = compared(layer.as_deref(), seed, count)?;
+            return Ok(ExitCode::from(u8::from(!passed)));
+        }
+    };
+    // A reader that closed the pipe has what it wanted.
+    let _ = std::io::stdout().write_all(text.as_bytes());
+    Ok(ExitCode::SUCCESS)
+}
+
+#[cfg(feature = "probe")]
+fn compared(layer: Option<&str>, seed: u64, count: u64) -> Result<bool, String> {
+    compare::compare(layer, &compare::Settings { seed, count })
+}
+
+#[cfg(not(feature = "probe"))]
+fn compared(_layer: Option<&str>, _seed: u64, _count: u64) -> Result<bool, String> {
+    Err("built without the proved code; build with --features probe".into())
+}

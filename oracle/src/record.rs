@@ -1,0 +1,152 @@
+//! Writes the Rust's answers that the repository keeps and a program replays.
+
+use std::f64::consts::LN_2;
+use std::fs;
+use std::path::Path;
+
+use crate::arguments::{draw, exp_argument, EXP_HALVES, EXP_KINDS};
+use crate::dsp::oversample::PolyphaseUpsampler;
+use crate::leaf::{Case, Op, LEAVES};
+use crate::numbers::{edge, edges, near, stepped};
+use crate::rng::Rng;
+use crate::signals::{signal, SIGNALS};
+
+/// The recorded files never depend on the command line.
+const SEED: u64 = 1;
+
+/// Cases of each leaf function but `exp`.
+const EACH: usize = 150;
+
+/// Both words of the record at which a sequence starts, from a zeroed
+/// detector. No answer is a NaN, so it can be told from a sample.
+const START: u64 = 0x7ff8_0000_0000_0001;
+
+/// Write every file into `folder`; answers one line a file.
+pub fn record(folder: &Path) -> Result<String, String> {
+    fs::create_dir_all(folder).map_err(|e| format!("{}: {e}", folder.display()))?;
+    let mut text = String::new();
+    for (name, words, width) in [("leaves", leaves(), 6), ("peaks", peaks(), 2)] {
+        let bytes: Vec<u8> = words.iter().flat_map(|w| w.to_le_bytes()).collect();
+        let path = folder.join(name);
+        fs::write(&path, &bytes).map_err(|e| format!("{}: {e}", path.display()))?;
+        let records = words.len() / width;
+        text += &format!(
+            "{}: {records} records, {} bytes\n",
+            path.display(),
+            bytes.len()
+        );
+    }
+    Ok(text)
+}
+
+/// The file `leaves`: op, a, b, c, status, answer.
+fn leaves() -> Vec<u64> {
+    let mut rng = Rng::new(SEED);
+    let mut cases = exp_cases(&mut rng);
+    for op in LEAVES {
+        cases.extend(leaf_cases(op, &mut rng));
+    }
+    let words = |case: Case| {
+        let ([a, b, c], answer) = (case.words, case.rust());
+        [case.op as u64, a, b, c, answer.status, answer.word]
+    };
+    cases.into_iter().flat_map(words).collect()
+}
+
+/// Every kind of argument for `exp`: both sides of each change of its way and
+/// of each power of two, the domain's ends, and random ones of each kind.
+fn exp_cases(rng: &mut Rng) -> Vec<Case> {
+    let mut list = edges();
+    for half in EXP_HALVES {
+        for start in [half << 32, (half + 1) << 32] {
+            let x = -f64::from_bits(start);
+            list.extend((-8..=8).map(|ulps| stepped(x, ulps)));
+            list.extend([-64, -32, 32, 64].map(|ulps| stepped(x, ulps)));
+        }
+    }
+    // Just past 2^-28, where 1 + x and the longer way differ in the last bit:
+    // 32 spots before the change of way and 32 after it.
+    let first = f64::from_bits(EXP_HALVES[0] << 32);
+    let spot = |j: u32| (f64::from(j) + 0.53125) * (f64::EPSILON / 2.0);
+    list.extend((0..64).map(|j| -(first + spot(j))));
+    for k in 0..1010 {
+        let change = -(f64::from(k) + 0.5) * LN_2;
+        list.push(near(rng, change, 2));
+    }
+    list.extend((-8..=8).map(|ulps| stepped(-700.0, ulps)));
+    for kind in 0..EXP_KINDS {
+        let count = if kind < 2 { 300 } else { 100 };
+        list.extend((0..count).map(|_| exp_argument(kind, rng)));
+    }
+    list.iter().map(|&x| Case::new(Op::Exp, &[x])).collect()
+}
+
+/// Cases of one leaf function. Those whose sign is open have no one answer.
+fn leaf_cases(op: Op, rng: &mut Rng) -> Vec<Case> {
+    let mut cases: Vec<Case> = if op.arity() == 1 {
+        edges().iter().map(|&x| Case::new(op, &[x])).collect()
+    } else {
+        (0..200)
+            .map(|_| Case::new(op, &[edge(rng), edge(rng), edge(rng)][..op.arity()]))
+            .filter(|case| case.allowed() && !case.open_sign())
+            .take(EACH / 3)
+            .collect()
+    };
+    while cases.len() < EACH {
+        let case = draw(op, rng);
+        if !case.open_sign() {
+            cases.push(case);
+        }
+    }
+    cases
+}
+
+/// The file `peaks`: sample, answer; each sequence after a start record.
+fn peaks() -> Vec<u64> {
+    let mut rng = Rng::new(SEED);
+    let mut words = Vec::new();
+    for kind in SIGNALS.into_iter().cycle().take(2 * SIGNALS.len()) {
+        words.extend([START, START]);
+        let mut detector = PolyphaseUpsampler::new(4, 12);
+        for x in signal(kind, 165, &mut rng) {
+            words.extend([x.to_bits(), detector.peak_abs(x).to_bits()]);
+        }
+    }
+    words
+}
+
+#[cfg(test)]
+mod tests {
+    use super::*;
+
+    #[test]
+    fn leaves_cover_each_function_often_enough() {
+        let words = leaves();
+        let count = |op: Op| words.chunks(6).filter(|r| r[0] == op as u64).count();
+        assert!(count(Op::Exp) >= 2500);
+        assert!(LEAVES.into_iter().all(|op| count(op) >= EACH));
+        let refused = words.chunks(6).filter(|r| r[4] == crate::leaf::REFUSED);
+        assert!(refused.count() > 100);
+        assert_eq!(words, leaves());
+    }
+
+    #[test]
+    fn every_power_of_two_is_among_the_exp_records() {
+        let words = leaves();
+        let exponents: std::collections::BTreeSet<u64> = words
+            .chunks(6)
+            .filter(|r| r[0] == Op::Exp as u64 && r[4] == 0)
+            .map(|r| r[5] >> 52)
+            .collect();
+        assert!((14..=1023).all(|e| exponents.contains(&e)));
+    }
+
+    #[test]
+    fn peaks_start_marks_cannot_be_mistaken() {
+        let words = peaks();
+        let marks = words.chunks(2).filter(|r| r[1] == START).count();
+        assert_eq!(marks, 2 * SIGNALS.len());
+        assert!(words.chunks(2).all(|r| (r[0] == START) == (r[1] == START)));
+        assert_eq!(words, peaks());
+    }
+}
