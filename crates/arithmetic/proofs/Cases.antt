@@ -141,18 +141,23 @@ pub less-itself : (s : Bool) (m : ℕ) (e : ℤ) → eq (sub binary64 (fin s m e
 unfolding sub
 less-itself s m e = nothing-left s (m * up e * down e) (down e * down e) (mul-pos (down-pos e) (down-pos e))
 
--- ---- finite_or_zero
-pub kept-finite : (x : Float) → eq (sub binary64 x x) Number.zero ≡ true → x ≡ finiteOrZero x
+-- ---- is_finite and finite_or_zero
+pub finite-test : (x : Float) → eq (sub binary64 x x) Number.zero ≡ finite x
 unfolding sub eq
+finite-test nan = refl
+finite-test (inf true) = refl
+finite-test (inf false) = refl
+finite-test (fin s m e) = less-itself s m e
+
+pub kept-finite : (x : Float) → finite x ≡ true → x ≡ finiteOrZero x
 kept-finite nan h = never h
-kept-finite (inf true) h = never h
-kept-finite (inf false) h = never h
+kept-finite (inf s) h = never h
 kept-finite (fin s m e) h = refl
 
-pub silenced : (x : Float) → eq (sub binary64 x x) Number.zero ≡ false → Number.zero ≡ finiteOrZero x
+pub silenced : (x : Float) → finite x ≡ false → Number.zero ≡ finiteOrZero x
 silenced nan h = refl
 silenced (inf s) h = refl
-silenced (fin s m e) h = clash (eq (sub binary64 (fin s m e) (fin s m e)) Number.zero) (less-itself s m e) h
+silenced (fin s m e) h = clash true refl h
 
 -- ---- a value that differs from itself
 eq-self : (s : Bool) (m : ℕ) (e : ℤ) → eq (fin s m e) (fin s m e) ≡ true

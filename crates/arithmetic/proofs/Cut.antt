@@ -67,7 +67,7 @@ unfolding round
 at-sum = refl
 
 scaled-le : (i t n d : ℕ) → n ≤ 700 * d → i * 1 * n * (t * 1) ≤ i * 1 * 700 * (t * d)
-scaled-le i t n d h = simp (mul-one, mul-assoc, mul-comm, mul-left-comm) (simp (mul-assoc, mul-comm, mul-left-comm) at (mul-le-mul-left (i * t) h))
+scaled-le i t n d h = simp (mul-one, mul-assoc, mul-comm) (simp (mul-assoc, mul-left-comm) at (mul-le-mul-left (i * t) h))
 
 product-le : (n d : ℕ) → 0 < d → n ≤ 700 * d → le (round binary64 false (3248660424278399 * 1 * n) (2 ^ 51 * d)) product700 ≡ true
 product-le n d D h =

@@ -81,7 +81,7 @@ lt-is (fin s m e) nan p q = absurd q
 lt-is (fin s m e) (inf t) p q = absurd q
 lt-is (fin false m e) (fin false n d) p q = simp (zero-mul, add-zero)
 lt-is (fin false m e) (fin true n d) p q = not-below (m * up e * down d + n * up d * down e) (down e) (down d)
-lt-is (fin true m e) (fin false n d) p q = simp (zero-mul, add-zero, add-comm)
+lt-is (fin true m e) (fin false n d) p q = simp (zero-mul, add-comm)
 lt-is (fin true m e) (fin true n d) p q = simp (zero-mul, zero-add)
 
 zeros : (a b : ℕ) → (eqb a b && eqb a 0) ≡ eqb (a + b) 0
@@ -160,9 +160,9 @@ lt-self x p = le→not-lt x x p p (le-self x p)
 -- (a − a') / d ≤ (b − b') / e ≤ (c − c') / f
 through : (a a' d b b' e c c' f : ℕ) → 0 < e → a * e + b' * d ≤ b * d + a' * e → b * f + c' * e ≤ c * e + b' * f → a * f + c' * d ≤ c * d + a' * f
 through a a' d b b' e c c' f E h k =
-    let u = simp (add-mul, mul-assoc, mul-comm, mul-left-comm) at (mul-le-mul-right f h) in
+    let u = simp (add-mul, mul-assoc, mul-comm) at (mul-le-mul-right f h) in
     let v = simp (add-mul, mul-assoc, mul-comm, mul-left-comm) at (mul-le-mul-right d k) in
-    le-of-mul-le-mul-right (simp (add-mul, mul-assoc, mul-comm, mul-left-comm) (omega arith)) E
+    le-of-mul-le-mul-right (simp (add-mul, mul-assoc, mul-comm) (omega arith)) E
 
 module _ (x y z : Float) (p : T (finite x)) (q : T (finite y)) (r : T (finite z)) where
   pub le-then-le : le x y ≡ true → le y z ≡ true → le x z ≡ true

@@ -1,8 +1,16 @@
 // Rust's methods on f64 as functions. No operation here is undefined at any f64, so nothing is
 // required.
 ghost use mathlib.Core.Path.{_≡_};
+ghost use lib.Ieee.Scale.{finite};
 ghost use Rattle.arithmetic.specs.Number.{absOf, minOf, maxOf, clampOf, copysignOf, roundedOf, ceilOf};
 ghost use Rattle.arithmetic.specs.Part.{Parted};
+
+// Whether x is neither a NaN nor an infinity: only a finite number less itself is 0.
+pub fn is_finite(x: f64) -> bool
+    ensures { λ r. ⌜ r ≡ finite x ⌝ }
+{
+    x - x == 0.0
+}
 
 // The magnitude: a NaN stays one, and a zero loses its sign.
 pub fn abs(x: f64) -> f64

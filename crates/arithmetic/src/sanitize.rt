@@ -2,16 +2,17 @@
 ghost use mathlib.Core.Path.{_≡_};
 ghost use Rattle.arithmetic.specs.Sanitize.{finiteOrZero, flushDenormal, unitGain};
 use crate::number::abs;
+use crate::number::is_finite;
 use crate::number::clamp;
 
 // Outputs below this magnitude are flushed to zero.
 const DENORMAL_FLOOR: f64 = 1e-30;
 
-// x where it is finite, else silence. Only a finite number less itself is 0.
+// x where it is finite, else silence.
 pub fn finite_or_zero(x: f64) -> f64
     ensures { λ r. ⌜ r ≡ finiteOrZero x ⌝ }
 {
-    if x - x == 0.0 { x } else { 0.0 }
+    if is_finite(x) { x } else { 0.0 }
 }
 
 // The output rule: a finite number, or +0.0 where its magnitude is below 1e-30.
