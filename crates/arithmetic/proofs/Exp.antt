@@ -9,6 +9,9 @@ use lib.Ieee.{Float, nan, inf, fin, le, isNan}
 use borrow.Author.Tests.{le-leb, lt-leb, le-ltb, lt-ltb}
 use Rattle.arithmetic.specs.Number
 use Rattle.arithmetic.specs.Reply.{Reply, finished, refused, float}
+use Rattle.arithmetic.specs.Answers.{replyOf}
+use Rattle.arithmetic.specs.declared.math.ExpAnswer.{ExpAnswer}
+use Rattle.arithmetic.specs.declared.math.ExpAnswer.the-variants.{Value, OutOfDomain}
 use Rattle.arithmetic.specs.Exp.{minus700, inDomain, highOf, stepsOf, scaled, reduced, expAt, expOf, expReply, cutOf}
 
 pub not-nan : (x : Float) → le x Number.zero ≡ true → T (not (isNan x))
@@ -45,3 +48,22 @@ module _ (h : ℕ) (x r : Float) where
 
   pub at-cut : (n : ℕ) → 0x3fd6_2e42 < h → 0x3ff0_a2b2 ≤ h → n ≡ cutOf x → r ≡ reduced x n → r ≡ expAt h x
   at-cut n a b k e = e ∙ sym (past a ∙ ap (reduced x) (rw (le-ltb h 0x3ff0_a2b2 b) (sym k)))
+
+-- ---- for callers whose argument is within the domain: the answer is the value
+pub exp-value : (x : Float) → inDomain x ≡ true → (a : ExpAnswer) → replyOf a ≡ expReply x → a ≡ Value (expOf x)
+unfolding expReply expOf
+exp-value x d (Value v) e =
+    let k : finished (float v ∷ []) ≡ finished (float (expOf x) ∷ []) = e ∙ rw d refl in
+    let l : float v ∷ [] ≡ float (expOf x) ∷ [] = ap (λ (r : Reply). r .values) k in
+    cc
+exp-value x d OutOfDomain e =
+    let k : refused 26 [] ≡ finished (float (expOf x) ∷ []) = e ∙ rw d refl in
+    absurd (let z : _≡_ {A = ℕ} 26 0 = ap (λ (r : Reply). r .number) k in omega arith)
+
+-- the two arms of a match on it
+module _ (x : Float) (d : inDomain x ≡ true) (a : ExpAnswer) (e : replyOf a ≡ expReply x) where
+  pub arm-value : (v : Float) → a ≡ Value v → v ≡ expOf x
+  arm-value v h = let k = exp-value x d a e in cc
+
+  pub arm-refused : {A : Type 0} → a ≡ OutOfDomain → A
+  arm-refused h = absurd (let k = exp-value x d a e in let z : _≡_ {A = ℕ} 0 1 = cc in omega arith)

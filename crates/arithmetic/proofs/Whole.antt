@@ -91,7 +91,7 @@ capped : (a : ℕ) → largest ≤ a → largest ≡ min a largest
 capped a h = omega arith
 
 -- digits of a value that the format holds
-digits : (s : Bool) (m : ℕ) (e : ℤ) → fits binary64 (fin s m e) ≡ true → m < 2 ^ 53
+pub digits : (s : Bool) (m : ℕ) (e : ℤ) → fits binary64 (fin s m e) ≡ true → m < 2 ^ 53
 unfolding fits
 digits s zero e h = lit< tt
 digits s (suc m) e h =

@@ -2,8 +2,8 @@
 ghost use mathlib.Core.Path.{_≡_};
 ghost use Rattle.arithmetic.specs.Sanitize.{finiteOrZero, flushDenormal, unitGain};
 use crate::number::abs;
-use crate::number::is_finite;
 use crate::number::clamp;
+use crate::number::is_finite;
 
 // Outputs below this magnitude are flushed to zero.
 const DENORMAL_FLOOR: f64 = 1e-30;

@@ -1,0 +1,5 @@
+-- Laws that belong to no one function.
+pub mod Domain
+pub mod WeightPart
+pub mod WeightSum
+pub mod Rows

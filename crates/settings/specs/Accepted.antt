@@ -1,0 +1,55 @@
+-- The refusals 8 to 14 of the table, and which one arises first.
+use Prim.Native.Nat.{ℕ}
+use mathlib.Core.Bool.{Bool, true, false, cond, not, _&&_, _||_}
+use lib.Dec.{leb}
+use lib.Ieee.{Float, lt}
+use lib.Ieee.Scale.{finite}
+use Rattle.arithmetic.specs.Number
+use Rattle.arithmetic.specs.Number.{bits}
+use Rattle.settings.specs.Derived.{lookOf, coefficientOf}
+use Rattle.settings.specs.declared.LimiterSettings.{LimiterSettings}
+
+-- 8: rate outside 8,000 to 192,000
+abbrev pub rateTaken : ℕ → Bool
+rateTaken rate = leb 8000 rate && leb rate 192000
+
+-- 9: margin not finite, negative, over 30 dB
+abbrev pub marginTaken : Float → Bool
+marginTaken m = finite m && not (lt m Number.zero) && not (lt (bits 0x403e_0000_0000_0000) m)
+
+-- 10: lookahead not finite or not above 0
+abbrev pub lookaheadTaken : Float → Bool
+lookaheadTaken ms = finite ms && lt Number.zero ms
+
+-- 11: release not finite, negative, over 10,000, or above 0 and below 0.01
+abbrev pub releaseTaken : Float → Bool
+releaseTaken ms =
+    finite ms && not (lt ms Number.zero) && not (lt (bits 0x40c3_8800_0000_0000) ms) && not (lt Number.zero ms && lt ms (bits 0x3f84_7ae1_47ae_147b))
+
+-- 12: look under 11 or over 4,096
+abbrev pub lookTaken : ℕ → Bool
+lookTaken look = leb 11 look && leb look 4096
+
+-- 13: channels not 1 to 8
+abbrev pub channelsTaken : ℕ → Bool
+channelsTaken n = leb 1 n && leb n 8
+
+-- 14: largest block over 65,536
+abbrev pub blockTaken : ℕ → Bool
+blockTaken n = leb n 65536
+
+-- the number where a rule is broken, else what comes after it
+abbrev pub unless : Bool → ℕ → ℕ → ℕ
+unless kept number rest = cond kept rest number
+
+-- the first of 8 to 14 that arises; 0 where none does
+abbrev pub refusalOf : LimiterSettings → ℕ → ℕ → ℕ → ℕ
+refusalOf s rate channels block =
+    unless (rateTaken rate) 8
+    (unless (marginTaken (s .«true_peak_margin_db»)) 9
+    (unless (lookaheadTaken (s .«lookahead_ms»)) 10
+    (unless (releaseTaken (s .«release_ms»)) 11
+    (unless (lookTaken (lookOf (s .«lookahead_ms») rate)) 12
+    (unless (channelsTaken channels) 13
+    (unless (blockTaken block) 14
+    0))))))

@@ -1,0 +1,29 @@
+-- Module 5 of document 01, `memory.rs`: the byte count, and a cap.
+use Prim.Native.Nat.{ℕ, _+_, _-_, _*_}
+use mathlib.Core.Bool.{Bool, true, false, cond, _&&_}
+use lib.Dec.{leb}
+use Rattle.arithmetic.specs.Number.{largest}
+use Rattle.settings.specs.Derived.{rowOf}
+use Rattle.settings.specs.declared.memory.Cap.{Cap}
+
+-- 8 × (channels × look + 2 × (look + 1) + 2 × L + 60 × channels)
+abbrev pub bytesOf : ℕ → ℕ → ℕ
+bytesOf channels look = 8 * (channels * look + 2 * (look + 1) + 2 * rowOf look + 60 * channels)
+
+-- channels 1 to 8 and look 11 to 4,096
+abbrev pub counted : ℕ → ℕ → Bool
+counted channels look = leb 1 channels && leb channels 8 && leb 11 look && leb look 4096
+
+-- the bytes needed; outside the range in which they are counted, the largest number
+abbrev pub needed : ℕ → ℕ → ℕ
+needed channels look = cond (counted channels look) (bytesOf channels look) largest
+
+-- no cap means no limit
+abbrev pub fitsCap : ℕ → Cap → Bool
+fitsCap bytes Cap.Unlimited = true
+fitsCap bytes (Cap.Bytes cap) = leb bytes cap
+
+-- what is left of a cap once so many bytes are taken, which fit it
+abbrev pub leftOf : ℕ → Cap → Cap
+leftOf bytes Cap.Unlimited = Cap.Unlimited
+leftOf bytes (Cap.Bytes cap) = Cap.Bytes (cap - bytes)
