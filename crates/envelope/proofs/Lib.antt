@@ -1,0 +1,3 @@
+-- Laws of the attack row and its mean that belong to no one function.
+pub mod Weighted
+pub mod Tally

@@ -1,0 +1,7 @@
+// From a required gain to the gain that is applied (`step_env` of limiter.rs): the attack row over the
+// floors, its weighted mean, and how the gain follows it.
+
+// The attack row and its mean.
+pub mod row;
+// The gain's attack and release.
+pub mod follow;
