@@ -1,3 +1,4 @@
 -- Laws of the attack row and its mean that belong to no one function.
 pub mod Weighted
 pub mod Tally
+pub mod Scan

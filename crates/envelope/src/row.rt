@@ -3,7 +3,7 @@ ghost use mathlib.Core.Path.{_≡_};
 ghost use mathlib.Core.Bool.{true};
 ghost use Prim.Native.Nat.{_+_, _≤_, _<_};
 ghost use lib.ListN.{length, drop};
-ghost use Rattle.envelope.specs.Row.{down, newestFirst, otherThanOne, tallyOf, nextPos, rowedAt, pushed, rowInOrder};
+ghost use Rattle.envelope.specs.Row.{down, newestFirst, otherThanOne, tallyOf, nextPos, rowedAt, pushed, allUnit, rowInOrder};
 ghost use Rattle.envelope.specs.Mean.{weightedFrom, meanOf};
 
 // The Rust's wm_pos and wm_nonunity.
@@ -47,7 +47,42 @@ fn weighted(acc: f64, weights: &[f64], j: usize, row: &[f64], from: usize, n: us
     sum
 }
 
+// Whether every floor lies within 0 and 1.
+fn all_unit(row: &[f64]) -> bool
+    ensures { λ r. ⌜ r ≡ allUnit (now (row .entry)) ⌝ }
+{
+    let mut i: usize = 0;
+    while i < row.len() {
+        let floor = row[i];
+        if !((0.0 <= floor) & (floor <= 1.0)) {
+            return false;
+        }
+        i += 1;
+    }
+    true
+}
+
+// How many floors are other than 1.
+fn tally_of(row: &[f64]) -> usize
+    ensures { λ r. ⌜ r ≡ tallyOf (now (row .entry)) ⌝ }
+{
+    let mut n: usize = 0;
+    let mut i: usize = 0;
+    while i < row.len() {
+        n += other_than_one(row[i]);
+        i += 1;
+    }
+    n
+}
+
 impl AttackRow {
+    // Whether the row is in order: within 0 and 1, the tally true, the position in it.
+    pub fn in_order(self, row: &[f64]) -> bool
+        ensures { λ r. ⌜ r ≡ rowInOrder self (now (row .entry)) ⌝ }
+    {
+        all_unit(row) & ((self.tally == tally_of(row)) & (self.pos < row.len()))
+    }
+
     // The floor replaces the oldest.
     pub fn push(self, row: &mut [f64], floor: f64) -> AttackRow
         requires { ⌜ rowInOrder self (now row) ≡ true ⌝ }

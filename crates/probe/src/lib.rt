@@ -3,3 +3,5 @@
 
 // Module 1 and 2 of document 01, and the helpers.
 pub mod leaves;
+// Module 3 of document 01.
+pub mod peaks;

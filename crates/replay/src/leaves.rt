@@ -1,13 +1,12 @@
 // The file `leaves`: records of six words, op, a, b, c, status and answer. An f64 is its bits, and
 // every NaN answer is the canonical one.
-use crate::tally::Replayed;
-use crate::tally::Tally;
+use crate::tally::Step;
 use arithmetic::math::ExpAnswer;
 use arithmetic::pattern::from_bits;
 use arithmetic::pattern::to_bits;
 
 // One record.
-struct Record {
+struct Leaf {
     op: u64,
     a: u64,
     b: u64,
@@ -62,7 +61,7 @@ fn answer(op: u64, a: f64, b: f64, c: f64) -> Answered {
     }
 }
 
-fn same(leaf: Record) -> bool {
+fn same(leaf: Leaf) -> bool {
     let got = answer(
         leaf.op,
         from_bits(leaf.a),
@@ -73,13 +72,13 @@ fn same(leaf: Record) -> bool {
 }
 
 // The five words after the op, which a whole file has.
-fn leaf(fd: i32, op: u64) -> Record {
+fn rest(fd: i32, op: u64) -> Leaf {
     let a = crate::words::next(fd).word;
     let b = crate::words::next(fd).word;
     let c = crate::words::next(fd).word;
     let status = crate::words::next(fd).word;
     let answer = crate::words::next(fd).word;
-    Record {
+    Leaf {
         op,
         a,
         b,
@@ -89,30 +88,10 @@ fn leaf(fd: i32, op: u64) -> Record {
     }
 }
 
-// Each record of the file, up to a million.
-fn each(fd: i32) -> Replayed {
-    let mut tally = Tally::new();
-    for turn in 0..1000000usize {
-        let op = crate::words::next(fd);
-        if !op.whole {
-            return Replayed {
-                tally,
-                rest: op.rest,
-            };
-        }
-        tally = tally.counted(same(leaf(fd, op.word)));
+// The rest of a record whose op was read.
+pub fn record(fd: i32, op: u64) -> Step {
+    Step {
+        counted: true,
+        same: same(rest(fd, op)),
     }
-    Replayed { tally, rest: 0 }
-}
-
-pub fn replay() {
-    let path = b"leaves";
-    let fd = os::open_read(path);
-    if fd < 0 {
-        os::fail(path);
-        return;
-    }
-    let replayed = each(fd);
-    libc::close(fd);
-    replayed.print(path);
 }

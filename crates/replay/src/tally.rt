@@ -1,6 +1,12 @@
-// How many records were replayed, how many of them differ, and which differed first.
 use libc::STDOUT_FILENO;
 
+// What a record came to: whether it counts, and whether the answer was the recorded one.
+pub struct Step {
+    pub counted: bool,
+    pub same: bool,
+}
+
+// How many records were replayed, how many of them differ, and which differed first.
 pub struct Tally {
     pub count: u64,
     pub differ: u64,
@@ -17,9 +23,12 @@ impl Tally {
     }
 
     // One more record.
-    pub fn counted(self, same: bool) -> Self {
+    pub fn with(self, step: Step) -> Self {
+        if !step.counted {
+            return self;
+        }
         let mut next = self;
-        if !same {
+        if !step.same {
             if self.differ == 0 {
                 next.first = self.count;
             }

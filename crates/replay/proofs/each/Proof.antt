@@ -2,14 +2,14 @@
 use Prim.Native.Nat.{_≤_, _-_}
 use native.Mathlib.Omega.{arith}
 use borrow.Author.Needs.{needs}
-use Rattle.replay.proofs.leaves.each.Statement.{statement}
-use Rattle.replay.proofs.leaves.each.Tie as tie
+use Rattle.replay.proofs.each.Statement.{statement}
+use Rattle.replay.proofs.each.Tie as tie
 
 abbrev Inv-loop : tie.InvT-loop
-Inv-loop fd tally₀ turn₀ tally turn = turn ≤ 1000000
+Inv-loop layer fd tally₀ store₀ turn₀ tally store turn = turn ≤ 1000000
 
 abbrev μ-loop : tie.MeasureT-loop
-μ-loop fd tally₀ turn₀ tally turn = 1000000 - turn
+μ-loop layer fd tally₀ store₀ turn₀ tally store turn = 1000000 - turn
 
 new-requires : tie.Need-new-requires Inv-loop μ-loop
 new-requires c κs = search needs
@@ -23,14 +23,11 @@ next-requires c κs = search needs
 returns : tie.Need-returns Inv-loop μ-loop
 returns c = search needs
 
-leaf-requires : tie.Need-leaf-requires Inv-loop μ-loop
-leaf-requires c κs = search needs
+record-requires : tie.Need-record-requires Inv-loop μ-loop
+record-requires c κs = search needs
 
-same-requires : tie.Need-same-requires Inv-loop μ-loop
-same-requires c κs = search needs
-
-counted-requires : tie.Need-counted-requires Inv-loop μ-loop
-counted-requires c κs = search needs
+with-requires : tie.Need-with-requires Inv-loop μ-loop
+with-requires c κs = search needs
 
 add-turn : tie.Need-add-turn Inv-loop μ-loop
 add-turn c = omega arith
@@ -54,9 +51,8 @@ each-spec =
     loop-holds
     next-requires
     returns
-    leaf-requires
-    same-requires
-    counted-requires
+    record-requires
+    with-requires
     add-turn
     loop-less
     loop-again

@@ -1,0 +1,116 @@
+-- The largest magnitude: two tests find it as well as a magnitude and one test, and it is a number that is not below 0.
+use mathlib.Core.Path.{_≡_, refl, sym, _∙_}
+use mathlib.Core.Bool.{Bool, true, false, cond}
+use mathlib.Core.List.{List, [], _∷_}
+use Prim.Native.Nat.{_*_}
+use native.Mathlib.Omega.{arith}
+use borrow.Author.Tests.{le-ltb}
+use lib.Ieee.{Float, nan, inf, fin, up, down, lt, neg, isNan}
+use Rattle.arithmetic.specs.Number.{zero, absOf, withSign}
+use Rattle.arithmetic.proofs.Order.{clash, not-lt→le, le→not-lt, le-then-le}
+use Rattle.detector.specs.Oversample.{Outcome, shifted, sumsOf, larger, largestFrom, largestOf, detected, peakAbsOf}
+use Rattle.detector.proofs.Store.{push-cases}
+
+-- ---- the two tests
+
+-- what is not below 0 is not below a value with a minus sign
+under : (p s : Float) → lt p zero ≡ false → lt p (withSign true s) ≡ false
+unfolding lt
+under nan s h = refl
+under (inf true) s h = clash true refl h
+under (inf false) nan h = refl
+under (inf false) (inf t) h = refl
+under (inf false) (fin t n d) h = refl
+under (fin b m e) nan h = refl
+under (fin b m e) (inf t) h = refl
+under (fin b m e) (fin t n d) h =
+    le→not-lt (fin b m e) (fin true n d) tt tt
+    (le-then-le (fin true n d) zero (fin b m e) tt tt tt (not-lt→le zero (fin true n d) tt tt refl) (not-lt→le (fin b m e) zero tt tt h))
+
+no-nan-above : (p : Float) → lt p nan ≡ false
+unfolding lt
+no-nan-above nan = refl
+no-nan-above (inf s) = refl
+no-nan-above (fin s m e) = refl
+
+-- what the first test leaves, and what the second makes of it
+abbrev pub first : Float → Float → Float
+first p s = cond (lt p s) s p
+
+abbrev pub second : Float → Float → Float
+second t n = cond (lt t n) n t
+
+module _ (p : Float) (h : lt p zero ≡ false) where
+  -- a value with a plus sign: the second test changes nothing
+  plus : (s : Float) → lt s (withSign true s) ≡ false → second (first p s) (withSign true s) ≡ first p s
+  plus s k = go (lt p s) refl
+    where
+      go : (b : Bool) → lt p s ≡ b → second (first p s) (withSign true s) ≡ first p s
+      go true e = rw e (rw k)
+      go false e = rw e (rw (under p s h))
+
+  both : (s : Float) → second (first p s) (neg s) ≡ larger p s
+  unfolding larger neg lt
+  both nan = simp (no-nan-above p)
+  both (inf false) = plus (inf false) refl
+  both (inf true) = rw (under p (inf true) h)
+  both (fin false m e) = plus (fin false m e) refl
+  both (fin true m e) = rw (under p (fin true m e) h)
+
+  -- the same for a value t that the first test left
+  pub second-taken : (s t : Float) → t ≡ first p s → lt t (neg s) ≡ true → neg s ≡ larger p s
+  second-taken s t e k = rw (← both s, ← e, k)
+
+  pub second-left : (s t : Float) → t ≡ first p s → lt t (neg s) ≡ false → t ≡ larger p s
+  second-left s t e k = rw (← both s, ← e, k)
+
+-- ---- a number that is not below 0
+
+-- a magnitude is not below 0
+plain : (s : Float) → lt (absOf s) zero ≡ false
+unfolding lt
+plain nan = refl
+plain (inf t) = refl
+plain (fin t m e) = le-ltb (m * up e * 1) (0 * down e) (omega arith)
+
+pub larger-not-below : (p s : Float) → lt p zero ≡ false → lt (larger p s) zero ≡ false
+unfolding larger
+larger-not-below p s h = go (lt p (absOf s)) refl
+  where
+    go : (b : Bool) → lt p (absOf s) ≡ b → lt (larger p s) zero ≡ false
+    go true e = rw e (plain s)
+    go false e = rw e h
+
+-- what `larger_of` promises of a result that equals the larger one
+pub both-ways : {r : Float} (p s : Float) → lt p zero ≡ false → r ≡ larger p s → (r ≡ larger p s) × (lt r zero ≡ false)
+both-ways p s h e = (e, rw e (larger-not-below p s h))
+
+-- a test that passed compared numbers
+above-not-nan : (p a : Float) → lt p a ≡ true → isNan a ≡ false
+unfolding lt isNan
+above-not-nan p nan h = clash false (sym (no-nan-above p) ∙ h) refl
+above-not-nan p (inf s) h = refl
+above-not-nan p (fin s m e) h = refl
+
+pub larger-not-nan : (p s : Float) → isNan p ≡ false → isNan (larger p s) ≡ false
+unfolding larger
+larger-not-nan p s h = go (lt p (absOf s)) refl
+  where
+    go : (b : Bool) → lt p (absOf s) ≡ b → isNan (larger p s) ≡ false
+    go true e = rw e (above-not-nan p (absOf s) e)
+    go false e = rw e h
+
+largest-from : (p : Float) (sums : List Float) → lt p zero ≡ false → isNan p ≡ false → (lt (largestFrom p sums) zero ≡ false) × (isNan (largestFrom p sums) ≡ false)
+unfolding largestFrom
+largest-from p [] h k = (h, k)
+largest-from p (s ∷ ss) h k = largest-from (larger p s) ss (larger-not-below p s h) (larger-not-nan p s k)
+
+pub largest-number : (sums : List Float) → (lt (largestOf sums) zero ≡ false) × (isNan (largestOf sums) ≡ false)
+unfolding largestOf lt isNan
+largest-number sums = largest-from zero sums refl refl
+
+-- whatever the store holds, a push answers a number that is not below 0
+pub push-number : (phases : List (List Float)) (store : List Float) (x : Float) → (lt (peakAbsOf phases store x .peak) zero ≡ false) × (isNan (peakAbsOf phases store x .peak) ≡ false)
+unfolding detected lt isNan
+push-number phases store x =
+    push-cases phases store x (λ (o : Outcome). (lt (o .peak) zero ≡ false) × (isNan (o .peak) ≡ false)) (λ n. largest-number (sumsOf phases (shifted store x))) (refl, refl)

@@ -1,0 +1,5 @@
+// The inter-sample peak detector: module 3 of document 01. For every store and sample the answer and
+// the store afterwards equal a definition of specs/.
+
+pub mod oversample;
+mod taps;

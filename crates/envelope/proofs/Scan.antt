@@ -1,0 +1,35 @@
+-- Scans of a row from its front: what is left, with its first floor.
+use mathlib.Core.Path.{_≡_, refl, sym, _∙_}
+use mathlib.Core.Bool.{Bool, true, false}
+use mathlib.Core.List.{List, [], _∷_}
+use Prim.Native.Nat.{ℕ, _+_, _≤_, _<_}
+use native.Mathlib.Numerals.{add-one}
+use native.Mathlib.Omega.{arith}
+use lib.ListN.{length, getD, drop, drop-of-length-le}
+use lib.Seq.{drop-cons}
+use lib.Ieee.{Float, nan}
+use Rattle.arithmetic.specs.Number
+use Rattle.arithmetic.specs.Number.{one, within}
+use Rattle.envelope.specs.Row.{allUnit, otherThanOne, tallyOf}
+
+module _ (row : List Float) (i : ℕ) (h : i < length row) where
+  split : drop i row ≡ getD row i nan ∷ drop (i + 1) row
+  split = rw (add-one i) (drop-cons row i nan h)
+
+  pub unit-broken : allUnit (drop i row) ≡ allUnit row → within Number.zero one (getD row i nan) ≡ false → false ≡ allUnit row
+  unit-broken e k = rw (split, k) at e
+
+  pub unit-next : allUnit (drop i row) ≡ allUnit row → within Number.zero one (getD row i nan) ≡ true → allUnit (drop (i + 1) row) ≡ allUnit row
+  unit-next e k = rw (split, k) at e
+
+  pub tally-next : (n m : ℕ) → n + tallyOf (drop i row) ≡ tallyOf row → m ≡ otherThanOne (getD row i nan) → n + m + tallyOf (drop (i + 1) row) ≡ tallyOf row
+  tally-next n m e k =
+      let l : n + (otherThanOne (getD row i nan) + tallyOf (drop (i + 1) row)) ≡ tallyOf row = rw split at e in
+      omega arith
+
+module _ (row : List Float) (i : ℕ) (h : length row ≤ i) where
+  pub unit-end : allUnit (drop i row) ≡ allUnit row → true ≡ allUnit row
+  unit-end e = rw (drop-of-length-le row h) at e
+
+  pub tally-end : (n : ℕ) → n + tallyOf (drop i row) ≡ tallyOf row → n ≡ tallyOf row
+  tally-end n e = let l : n + 0 ≡ tallyOf row = rw (drop-of-length-le row h) at e in omega arith
