@@ -2,3 +2,4 @@
 pub mod Weighted
 pub mod Tally
 pub mod Scan
+pub mod Gain

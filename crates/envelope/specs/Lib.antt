@@ -2,3 +2,4 @@
 pub mod Row
 pub mod Mean
 pub mod Follow
+pub mod Step

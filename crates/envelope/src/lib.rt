@@ -5,3 +5,5 @@
 pub mod row;
 // The gain's attack and release.
 pub mod follow;
+// One gain step.
+pub mod env;

@@ -1,2 +1,3 @@
--- What the C functions of the comparison say of the places that they write.
+-- What the C functions of the comparison say of the places that they write, and of what they test first.
 pub mod Out
+pub mod Setup

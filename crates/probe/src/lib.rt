@@ -5,3 +5,5 @@
 pub mod leaves;
 // Module 3 of document 01.
 pub mod peaks;
+// What setup derives and judges: module 6 of document 01.
+pub mod setup;

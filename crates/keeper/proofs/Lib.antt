@@ -1,0 +1,10 @@
+-- Laws that belong to no one function. `Step` and `Floor` are what the layers above cite, `Rows` are the starred rows.
+pub mod Places
+pub mod Drops
+pub mod Loops
+pub mod Step
+pub mod Calls
+pub mod Scan
+pub mod Window
+pub mod Floor
+pub mod Rows

@@ -1,0 +1,78 @@
+// What setup derives and judges.
+ghost use mathlib.Core.Path.{_≡_};
+ghost use mathlib.Core.Bool.{_&&_};
+ghost use Rattle.settings.specs.Settings.{settingsOf};
+ghost use Rattle.settings.specs.Derived.{lookOf};
+ghost use Rattle.settings.specs.Target.{targetOf};
+ghost use Rattle.settings.specs.Accepted.{rateTaken, releaseTaken, refusalOf};
+ghost use Rattle.probe.specs.Setup.{weightsTaken, coeffOr};
+use arithmetic::number::is_finite;
+use settings::LimiterSettings;
+
+#[no_mangle]
+pub extern "C" fn probe_look(ms: f64, rate: u32) -> u64
+    ensures { λ r. ⌜ r ≡ lookOf ms rate ⌝ }
+{
+    settings::derived::look(ms, rate)
+}
+
+#[no_mangle]
+pub extern "C" fn probe_target(threshold: f64, margin: f64) -> f64
+    ensures { λ r. ⌜ r ≡ targetOf threshold margin ⌝ }
+{
+    settings::target::target(threshold, margin)
+}
+
+// Whether setup takes a release and a rate.
+fn has_coeff(ms: f64, rate: u32) -> bool
+    ensures { λ r. ⌜ r ≡ (releaseTaken ms && rateTaken rate) ⌝ }
+{
+    let release = is_finite(ms) & !(ms < 0.0) & !(10000.0 < ms) & !((0.0 < ms) & (ms < 0.01));
+    release & ((8000 <= rate) & (rate <= 192000))
+}
+
+// The release coefficient; −1.0, which none is, for a release or a rate that setup refuses.
+#[no_mangle]
+pub extern "C" fn probe_coeff(ms: f64, rate: u32) -> f64
+    ensures { λ r. ⌜ r ≡ coeffOr ms rate ⌝ }
+{
+    if has_coeff(ms, rate) {
+        settings::derived::release_coeff(ms, rate)
+    } else {
+        -1.0
+    }
+}
+
+// The first of 8 to 14 that arises, or 0.
+#[no_mangle]
+pub extern "C" fn probe_refusal(
+    threshold: f64,
+    margin: f64,
+    lookahead: f64,
+    release: f64,
+    rate: u32,
+    channels: usize,
+    max_block: usize,
+) -> u32
+    ensures { λ r. ⌜ r ≡ refusalOf (settingsOf threshold margin lookahead release) rate channels «max_block» ⌝ }
+{
+    let s = LimiterSettings {
+        threshold_db: threshold,
+        true_peak_margin_db: margin,
+        lookahead_ms: lookahead,
+        release_ms: release,
+    };
+    settings::accepted::refusal(s, rate, channels, max_block)
+}
+
+// The weights rule; more than 4,096 weights, which no look has, are not accepted.
+#[no_mangle]
+pub extern "C" fn probe_weights(weights: &[f64]) -> bool
+    ensures { λ r. ⌜ r ≡ weightsTaken (now (weights .entry)) ⌝ }
+{
+    if weights.len() <= 4096 {
+        settings::weights::accepted(weights)
+    } else {
+        false
+    }
+}
