@@ -1,5 +1,6 @@
 -- The weighted sum goes floor by floor, and over two parts of the row one after the other.
 use mathlib.Core.Path.{_≡_, refl, sym, ap, _∙_}
+use mathlib.Core.Bool.{Bool, cond}
 use mathlib.Core.List.{List, [], _∷_, _++_}
 use Prim.Native.Nat.{ℕ, zero, suc, _+_, _-_, _*_, _≤_, _<_}
 use native.Mathlib.Nat.{suc-pred-eq-of-pos, zero-add}
@@ -37,7 +38,8 @@ joined acc (w ∷ ws) (x ∷ xs) ys h = joined (add binary64 acc (mul binary64 w
 -- ---- the mean
 pub mean-one : (weights row : List Float) (pos : ℕ) → pos ≤ length row → tallyOf row ≡ 0 → one ≡ meanOf weights (newestFirst pos row)
 unfolding meanOf
-mean-one weights row pos h e = rw (tally-newest row pos h, eq-eqb (tallyOf row) 0 e) refl
+mean-one weights row pos h e =
+    sym (ap (λ (b : Bool). cond b one (weightedFrom Number.zero weights (newestFirst pos row))) (eq-eqb (tallyOf (newestFirst pos row)) 0 (tally-newest row pos h ∙ e)))
 
 -- both parts, from what the code finds: the mean is the left fold over the row newest first, whatever its position
 pub mean-sum : (weights row : List Float) (pos : ℕ) (a b : Float) → pos ≤ length row → length weights ≡ length row → (tallyOf row ≡ 0 → ⊥)
