@@ -75,7 +75,7 @@ product-le n d D h =
     (is-true _ (round-mono binary64 (3248660424278399 * 1 * n) (2 ^ 51 * d) (3248660424278399 * 1 * 700) (2 ^ 51 * 1) (mul-pos (lit< tt) D) (lit< tt) (scaled-le 3248660424278399 (2 ^ 51) n d h)))
 
 -- rounding gives nothing below zero
-zero-round : (a c : ℕ) → 0 < c → le Number.zero (round binary64 false a c) ≡ true
+pub zero-round : (a c : ℕ) → 0 < c → le Number.zero (round binary64 false a c) ≡ true
 zero-round a c C =
     subst (λ (z : Float). le z (round binary64 false a c) ≡ true) nothing
     (is-true _ (round-mono binary64 0 1 a c (lit< tt) C (simp zero-mul (omega arith))))
@@ -83,7 +83,7 @@ zero-round a c C =
     nothing : round binary64 false 0 1 ≡ Number.zero
     nothing = unfold round in refl
 
-abbrev opened : Float → Float
+abbrev pub opened : Float → Float
 opened y = add binary64 y (fin false 1 (negsuc 0))
 
 sum-le : (n d : ℕ) → n * 2 ^ 43 ≤ 8883055847636247 * d → (n * 2 + 1 * 1 * d) * (2 ^ 43 * 2) ≤ (8883055847636247 * 1 * 2 + 1 * 1 * 2 ^ 43) * (d * 2)
@@ -108,7 +108,7 @@ half-more (fin false m e) s p h = (
 
 -- ---- the steps at −x
 -- −(y − 1/2) with y negative is its magnitude and half more
-turned : (y : Float) → signOf y ≡ false → T (finite y) → neg (sub binary64 (neg y) half) ≡ opened y
+pub turned : (y : Float) → signOf y ≡ false → T (finite y) → neg (sub binary64 (neg y) half) ≡ opened y
 unfolding sub neg ofBits
 turned nan s p = absurd p
 turned (inf t) s p = absurd p
@@ -142,7 +142,7 @@ bounded z h k =
     }
 
 -- the magnitude of an x from −700 on
-magnitude : (m : ℕ) (e : ℤ) → le minus700 (fin true m e) ≡ true → m * up e ≤ 700 * down e
+pub magnitude : (m : ℕ) (e : ℤ) → le minus700 (fin true m e) ≡ true → m * up e ≤ 700 * down e
 unfolding ofBits
 magnitude m e h = omega (arith, leb-true (left (fin true 175 (pos 2)) (fin true m e)) (right (fin true 175 (pos 2)) (fin true m e)) (sym (le-is (fin true 175 (pos 2)) (fin true m e) tt tt) ∙ h))
 

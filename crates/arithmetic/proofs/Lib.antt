@@ -1,4 +1,4 @@
--- Laws on f64 values that belong to no one function. `Order` and `Within` are what the layers above cite.
+-- Laws on f64 values that belong to no one function. `Order`, `Within` and `Unit` are what the layers above cite.
 pub mod Order
 pub mod Within
 pub mod Cases
@@ -9,3 +9,8 @@ pub mod Cut
 pub mod Exp
 pub mod Rows
 pub mod NanPattern
+pub mod UnitBound
+pub mod UnitScaled
+pub mod UnitHigh
+pub mod UnitReduced
+pub mod Unit

@@ -145,7 +145,7 @@ fits-u64 a h = omega arith
 halfway : (m : ℕ) (e : ℤ) (t : ℕ) → t < 2 ^ 52 → lt (fin false m e) (add binary64 (ofInt binary64 (pos t)) (fin false 1 (negsuc 0))) ≡ ltb (m * up e * 2) ((t * 2 + 1) * down e)
 halfway m e t h = lt-values (fin false m e) (add binary64 (ofInt binary64 (pos t)) (fin false 1 (negsuc 0))) (m * up e) (down e) (t * 2 + 1) 2 (down-pos e) (lit< tt) (refl, refl) (half-value t h)
 
-next : (t d : ℕ) → (t + 1) * d ≡ t * d + d
+pub next : (t d : ℕ) → (t + 1) * d ≡ t * d + d
 next t d = add-mul t 1 d ∙ ap (λ (z : ℕ). t * d + z) (one-mul d)
 
 twice : (t d : ℕ) → t * (2 * d) ≡ 2 * (t * d)

@@ -1,26 +1,27 @@
 -- The arguments that the limiter hands to `exp` lie within its domain.
-use mathlib.Core.Path.{_≡_, refl, sym, ap, _∙_, subst}
+use mathlib.Core.Path.{_≡_, refl, sym, _∙_, subst}
 use mathlib.Core.Bool.{Bool, true, false, cond, not, _&&_, Bool·beq}
 use mathlib.Core.Logic.{_⊎_, inl, inr}
-use Prim.Native.Nat.{ℕ, _+_, _*_, _≤_, _<_}
+use Prim.Native.Nat.{ℕ, _+_, _*_, _<_}
 use native.Mathlib.Nat.{mul-pos, zero-mul, mul-one}
 use native.Mathlib.Omega.{arith}
-use lib.Dec.{T, leb, ltb, eqb, lit<, lit≤, lt→ltb, ltb→lt}
+use lib.Dec.{T, leb, ltb, lit<, lt→ltb, ltb→lt}
 use lib.IntN.{ℤ, pos}
 use lib.Ieee.{Float, nan, inf, fin, binary64, unlike, up, down, round, lt, eq, le, mul, div, neg, ofInt, ofBits}
 use lib.Ieee.Bits.{is-true}
 use lib.Ieee.Fits.{up-pos, down-pos}
 use lib.Ieee.Order.{round-mono}
-use lib.Ieee.Positive.{positive, positive-finite, num, le→cross, mul-mono, first-pos}
+use lib.Ieee.Positive.{positive, positive-finite, le→cross, mul-mono, first-pos}
 use lib.Ieee.Positive as P
 use lib.Ieee.Scale.{finite, round-same}
-use borrow.Author.Tests.{leb-true, ltb-true, ltb-false, lt-ltb, le-leb, eqb-true, ne-eqb, not-true}
+use borrow.Author.Tests.{leb-true, ltb-true, ltb-false, lt-ltb, ne-eqb, not-true}
 use Rattle.arithmetic.specs.Number
 use Rattle.arithmetic.specs.Number.{signOf}
 use Rattle.arithmetic.specs.Exp.{minus700, inDomain}
-use Rattle.arithmetic.proofs.Order.{not-lt→le, clash, and-true, or-yes, le-is, left, right}
+use Rattle.arithmetic.proofs.Order.{not-lt→le, clash, and-true, or-yes}
 use Rattle.arithmetic.proofs.Cut.{neg-round, sign-round}
 use Rattle.arithmetic.proofs.Exp.{in-domain}
+use Rattle.arithmetic.proofs.UnitBound.{le→numbers, numbers→le}
 use Rattle.settings.specs.Derived.{thousandth, minusOne, framesOf}
 use Rattle.settings.specs.Accepted.{rateTaken, releaseTaken}
 use Rattle.settings.specs.Target.{kept}
@@ -143,10 +144,8 @@ turned (inf true) s h = clash true refl s
 turned (inf false) s h = clash false h refl
 turned (fin true m e) s h = clash true refl s
 turned (fin false m e) s h =
-    let k = leb-true (left (fin false m e) (fin false 13 (pos 0))) (right (fin false m e) (fin false 13 (pos 0))) (sym (le-is (fin false m e) (fin false 13 (pos 0)) tt tt) ∙ h) in
-    in-domain (fin true m e)
-    (le-is minus700 (fin true m e) tt tt ∙ le-leb (left minus700 (fin true m e)) (right minus700 (fin true m e)) (omega arith))
-    (le-is (fin true m e) Number.zero tt tt ∙ le-leb (left (fin true m e) Number.zero) (right (fin true m e) Number.zero) (omega arith))
+    let k = le→numbers (fin false m e) (fin false 13 (pos 0)) tt tt h in
+    in-domain (fin true m e) (numbers→le minus700 (fin true m e) tt tt (omega arith)) (numbers→le (fin true m e) Number.zero tt tt (omega arith))
 
 -- −1 / rel is minus the rounded inverse of rel, which is from 0 to 13
 inverse : (rel : Float) → T (positive rel) → T (le leastFrames rel) → inDomain (div binary64 minusOne rel) ≡ true

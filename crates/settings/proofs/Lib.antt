@@ -1,5 +1,6 @@
 -- Laws that belong to no one function.
 pub mod Domain
+pub mod Unit
 pub mod WeightPart
 pub mod WeightSum
 pub mod Rows

@@ -1,5 +1,5 @@
 -- `release_coeff`: −1 / rel is within the domain.
-use mathlib.Core.Path.{_≡_, refl, ap, _∙_}
+use mathlib.Core.Path.{_≡_, refl}
 use borrow.Author.Needs.{needs}
 use mathlib.Core.Bool.{true}
 use lib.Ieee.{Float, binary64, div, ofBits, neg}
