@@ -4,3 +4,4 @@ pub mod Unit
 pub mod WeightPart
 pub mod WeightSum
 pub mod Rows
+pub mod Taken

@@ -1,0 +1,2 @@
+-- Laws of the limiter that belong to no one function.
+pub mod Judge

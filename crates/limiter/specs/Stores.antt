@@ -1,0 +1,50 @@
+-- The lent stores, in document 01's order.
+use Prim.Native.Nat.{ℕ, _+_, _*_}
+use mathlib.Core.Bool.{Bool, _&&_}
+use mathlib.Core.List.{List}
+use lib.Dec.{eqb}
+use lib.ListN.{length, replicate}
+use lib.Ieee.{Float}
+use Rattle.arithmetic.specs.Number
+use Rattle.arithmetic.specs.Number.{one}
+use Rattle.settings.specs.Derived.{rowOf}
+
+pub record Stores : Type 0 where
+  pub delay : List Float
+  pub marks : List ℕ
+  pub minima : List Float
+  pub weights : List Float
+  pub row : List Float
+  pub detector : List Float
+
+abbrev pub storesAt : List Float → List ℕ → List Float → List Float → List Float → List Float → Stores
+storesAt delay marks minima weights row detector = record { delay = delay; marks = marks; minima = minima; weights = weights; row = row; detector = detector }
+
+-- the stores' lengths, in their order
+pub record Lengths : Type 0 where
+  pub delay : ℕ
+  pub marks : ℕ
+  pub minima : ℕ
+  pub weights : ℕ
+  pub row : ℕ
+  pub detector : ℕ
+
+abbrev pub lengthsOf : Stores → Lengths
+lengthsOf s = record { delay = length (s .delay); marks = length (s .marks); minima = length (s .minima); weights = length (s .weights); row = length (s .row); detector = length (s .detector) }
+
+-- 16: delay channels × look; marks look + 1; minima look + 1; weights L; attack row L; detector channels × 12
+abbrev pub lengthsFit : ℕ → ℕ → Lengths → Bool
+lengthsFit channels look l =
+    eqb (l .delay) (channels * look) && eqb (l .marks) (look + 1) && eqb (l .minima) (look + 1) && eqb (l .weights) (rowOf look) && eqb (l .row) (rowOf look)
+    && eqb (l .detector) (channels * 12)
+
+-- success fills delay, marks, minima and detector with 0, the row with 1.0, and only reads the weights
+abbrev pub filled : Stores → Stores
+filled s =
+    storesAt (replicate (length (s .delay)) Number.zero) (replicate (length (s .marks)) 0) (replicate (length (s .minima)) Number.zero) (s .weights)
+    (replicate (length (s .row)) one) (replicate (length (s .detector)) Number.zero)
+
+-- reset leaves marks and minima as they are
+abbrev pub cleared : Stores → Stores
+cleared s =
+    storesAt (replicate (length (s .delay)) Number.zero) (s .marks) (s .minima) (s .weights) (replicate (length (s .row)) one) (replicate (length (s .detector)) Number.zero)

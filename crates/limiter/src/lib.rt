@@ -1,0 +1,8 @@
+// Module 6 of document 01: the limiter kernel that the driver runs (limiter.rs).
+
+// The state.
+pub mod state;
+// Fills and lengths of the lent stores.
+pub mod stores;
+// Setup.
+pub mod prepare;

@@ -1,0 +1,169 @@
+// Setup of the limiter alone (`prepare` of limiter.rs).
+ghost use mathlib.Core.Path.{_≡_};
+ghost use Prim.Native.Nat.{_≤_};
+ghost use lib.Dec.{eqb};
+ghost use lib.ListN.{length};
+ghost use Rattle.limiter.specs.Stores.{lengthsFit, storesAt};
+ghost use Rattle.limiter.specs.Prepare.{numbered, prepareReply, lengthsAt, storesRefusal, capReply, prepareRefusal, preparedAt, prepareOf};
+use crate::state::Limiter;
+use crate::stores::fill;
+use settings::LimiterSettings;
+use settings::memory::Cap;
+
+// What setup answers: finished; one of the refusals 8 to 14, 16 and 17 by its number; or 15 with the
+// bytes needed and the cap that was left.
+pub enum PrepareAnswer {
+    Finished,
+    Refused(u32),
+    OverCap { needed: u64, cap: u64 },
+}
+
+pub struct Prepared {
+    pub answer: PrepareAnswer,
+    pub limiter: Limiter,
+}
+
+// The stores' lengths, in document 01's order.
+pub struct StoreLengths {
+    pub delay: usize,
+    pub marks: usize,
+    pub minima: usize,
+    pub weights: usize,
+    pub row: usize,
+    pub detector: usize,
+}
+
+fn answer_of(number: u32) -> PrepareAnswer
+    ensures { λ r. ⌜ prepareReply r ≡ numbered number ⌝ }
+{
+    if number == 0 {
+        PrepareAnswer::Finished
+    } else {
+        PrepareAnswer::Refused(number)
+    }
+}
+
+// 15 where the bytes are over the cap, else the answer of a later number.
+fn capped(needed: u64, cap: Cap, later: u32) -> PrepareAnswer
+    ensures { λ r. ⌜ prepareReply r ≡ capReply needed cap later ⌝ }
+{
+    match cap {
+        Cap::Unlimited => answer_of(later),
+        Cap::Bytes(most) => {
+            if needed <= most {
+                answer_of(later)
+            } else {
+                PrepareAnswer::OverCap { needed, cap: most }
+            }
+        }
+    }
+}
+
+// Whether each store has its exact length.
+pub fn lengths_fit(channels: usize, look: usize, l: StoreLengths) -> bool
+    requires { ⌜ channels ≤ 8 ⌝ }
+    requires { ⌜ look ≤ 4096 ⌝ }
+    ensures { λ r. ⌜ r ≡ lengthsFit channels look (lengthsAt l) ⌝ }
+{
+    let row = settings::memory::row_len(look);
+    (l.delay == channels * look)
+        & (l.marks == look + 1)
+        & (l.minima == look + 1)
+        & (l.weights == row)
+        & (l.row == row)
+        & (l.detector == channels * 12)
+}
+
+// 16 where a length is not its store's, 17 where the weights are not accepted, else 0.
+fn stores_refusal(channels: usize, look: usize, l: StoreLengths, weights: &[f64]) -> u32
+    requires { ⌜ channels ≤ 8 ⌝ }
+    requires { ⌜ look ≤ 4096 ⌝ }
+    requires { ⌜ l .weights ≡ length (now weights) ⌝ }
+    ensures { λ r. ⌜ r ≡ storesRefusal channels look (lengthsAt l) (now (weights .entry)) ⌝ }
+{
+    if !lengths_fit(channels, look, l) {
+        return 16;
+    }
+    if settings::weights::accepted(weights) {
+        0
+    } else {
+        17
+    }
+}
+
+// Whether an answer is finished work, by its number.
+fn is_finished(answer: PrepareAnswer) -> bool
+    ensures { λ r. ⌜ r ≡ eqb (prepareReply answer .number) 0 ⌝ }
+{
+    match answer {
+        PrepareAnswer::Finished => true,
+        PrepareAnswer::Refused(n) => n == 0,
+        PrepareAnswer::OverCap { needed: _, cap: _ } => false,
+    }
+}
+
+// What setup answers, before anything is written.
+fn judge(
+    s: LimiterSettings,
+    rate: u32,
+    channels: usize,
+    max_block: usize,
+    cap: Cap,
+    l: StoreLengths,
+    weights: &[f64],
+) -> PrepareAnswer
+    requires { ⌜ l .weights ≡ length (now weights) ⌝ }
+    ensures { λ r. ⌜ prepareReply r ≡ prepareRefusal s rate channels «max_block» cap (lengthsAt l) (now (weights .entry)) ⌝ }
+{
+    let first = settings::accepted::refusal(s, rate, channels, max_block);
+    if first != 0 {
+        return answer_of(first);
+    }
+    let look = settings::derived::look(s.lookahead_ms, rate) as usize;
+    let later = stores_refusal(channels, look, l, weights);
+    capped(settings::memory::bytes_needed(channels, look), cap, later)
+}
+
+impl Limiter {
+    // Sets a limiter up on lent stores: nothing is written unless nothing is refused.
+    pub fn prepare(
+        s: LimiterSettings,
+        rate: u32,
+        channels: usize,
+        max_block: usize,
+        cap: Cap,
+        delay: &mut [f64],
+        marks: &mut [u64],
+        minima: &mut [f64],
+        weights: &[f64],
+        row: &mut [f64],
+        detector: &mut [f64],
+    ) -> Prepared
+        ensures { λ r. ⌜ preparedAt r (storesAt (now (delay .exit)) (now (marks .exit)) (now (minima .exit)) (now (weights .entry)) (now (row .exit)) (now (detector .exit))) ≡ prepareOf s rate channels «max_block» cap (storesAt (now (delay .entry)) (now (marks .entry)) (now (minima .entry)) (now (weights .entry)) (now (row .entry)) (now (detector .entry))) ⌝ }
+    {
+        let l = StoreLengths {
+            delay: delay.len(),
+            marks: marks.len(),
+            minima: minima.len(),
+            weights: weights.len(),
+            row: row.len(),
+            detector: detector.len(),
+        };
+        let answer = judge(s, rate, channels, max_block, cap, l, weights);
+        if !is_finished(answer) {
+            return Prepared {
+                answer,
+                limiter: Limiter::not_set_up(),
+            };
+        }
+        keeper::clear_marks(marks);
+        keeper::clear_minima(minima);
+        fill(delay, 0.0);
+        fill(row, 1.0);
+        fill(detector, 0.0);
+        Prepared {
+            answer,
+            limiter: Limiter::started(s, rate, channels, max_block),
+        }
+    }
+}
