@@ -1,8 +1,9 @@
 -- The small helpers that document 01 names in place of Rust's methods on f64, for every f64: NaN, infinities, both zeros and subnormals.
 use Prim.Native.Nat.{ℕ, _+_, _-_, _*_, _/_, _^_, min}
 use mathlib.Core.Bool.{Bool, true, false, cond, _&&_, _||_}
+use lib.Dec.{eqb}
 use lib.IntN.{pos}
-use lib.Ieee.{Float, nan, inf, fin, binary64, up, down, lt, le, isNan, ofBits}
+use lib.Ieee.{Float, nan, inf, fin, binary64, up, down, lt, le, isNan, ofBits, toBits}
 
 -- the f64 that a bit pattern stands for
 abbrev pub bits : ℕ → Float
@@ -79,3 +80,7 @@ upward n d = (n + (d - 1)) / d
 
 abbrev pub ceilOf : Float → ℕ
 ceilOf x = wholeBy upward x
+
+-- the same value, sign included; a NaN is the same as a NaN
+abbrev pub sameValue : Float → Float → Bool
+sameValue x y = eqb (toBits binary64 x) (toBits binary64 y)

@@ -3,6 +3,7 @@
 // as 7ff8000000000000.
 ghost use mathlib.Core.Path.{_≡_};
 ghost use lib.Ieee.{binary64, ofBits, toBits};
+ghost use Rattle.arithmetic.specs.Number.{sameValue};
 
 // The f64 that a pattern stands for.
 pub fn from_bits(n: u64) -> f64
@@ -24,4 +25,11 @@ pub fn to_bits(x: f64) -> u64
     } else {
         f64::to_bits(x)
     }
+}
+
+// Whether two values are the same, sign included.
+pub fn same_value(x: f64, y: f64) -> bool
+    ensures { λ r. ⌜ r ≡ sameValue x y ⌝ }
+{
+    to_bits(x) == to_bits(y)
 }
