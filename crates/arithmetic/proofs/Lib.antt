@@ -9,6 +9,7 @@ pub mod Cut
 pub mod Exp
 pub mod Rows
 pub mod NanPattern
+pub mod Same
 pub mod UnitBound
 pub mod UnitScaled
 pub mod UnitHigh

@@ -1,0 +1,11 @@
+-- Laws that belong to no one function.
+pub mod Tests
+pub mod One
+pub mod Domain
+pub mod Slots
+pub mod Calls
+pub mod Ramp
+pub mod Prepared
+pub mod NotNan
+pub mod Updates
+pub mod Rows
