@@ -1,2 +1,3 @@
 -- Laws of the limiter that belong to no one function.
 pub mod Judge
+pub mod Ready

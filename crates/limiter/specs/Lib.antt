@@ -2,4 +2,5 @@
 pub mod State
 pub mod Stores
 pub mod Prepare
+pub mod Order
 pub mod Reset

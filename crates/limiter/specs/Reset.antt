@@ -1,8 +1,17 @@
--- Reset: the starting values again.
+-- Reset: the starting values again, marks and minima unread and unchanged.
 use Rattle.limiter.specs.State.{started}
 use Rattle.limiter.specs.Stores.{Stores, cleared}
 use Rattle.limiter.specs.declared.state.Limiter.{Limiter}
 
--- restores starting values, and leaves marks and minima unread and unchanged
 abbrev pub resetState : Limiter → Limiter
 resetState l = started (l .settings) (l .rate) (l .channels) (l .«max_block»)
+
+pub record Reset : Type 0 where
+  pub limiter : Limiter
+  pub stores : Stores
+
+abbrev pub resetAt : Limiter → Stores → Reset
+resetAt l stores = record { limiter = l; stores = stores }
+
+unfoldable pub resetOf : Limiter → Stores → Reset
+resetOf l stores = resetAt (resetState l) (cleared stores)

@@ -6,3 +6,7 @@ pub mod state;
 pub mod stores;
 // Setup.
 pub mod prepare;
+// The kernel's share of 18 and 19.
+pub mod order;
+// Reset.
+pub mod reset;

@@ -1,0 +1,110 @@
+-- The kernel's share of 18 and 19 over setup and reset, and what they say.
+use mathlib.Core.Path.{_≡_, refl, sym, ap, _∙_}
+use mathlib.Core.Bool.{Bool, true, false, cond, _&&_}
+use mathlib.Core.List.{List, [], _∷_}
+use Prim.Native.Nat.{ℕ, zero, suc, _+_, _-_, _≤_, _<_}
+use native.Mathlib.Omega.{arith}
+use lib.Dec.{eqb, leb, ltb}
+use lib.ListN.{length, replicate, length-replicate}
+use lib.Ieee.{Float, le, ne}
+use borrow.Author.Tests.{eqb-true, eq-eqb, ne-eqb, leb-true, le-leb, lt-ltb}
+use Rattle.arithmetic.specs.Number
+use Rattle.arithmetic.specs.Number.{one, within, sameValue}
+use Rattle.arithmetic.proofs.Order.{and-true}
+use Rattle.arithmetic.proofs.Same.{same-self}
+use Rattle.keeper.specs.Keeper.{keepingAt, ordered}
+use Rattle.keeper.proofs.Floor.{empty-order}
+use Rattle.envelope.specs.Row.{allUnit, tallyOf, rowInOrder}
+use Rattle.settings.specs.Derived.{lookOf, rowOf, coefficientOf}
+use Rattle.settings.specs.Accepted.{refusalOf, lookTaken, rateTaken, releaseTaken}
+use Rattle.settings.specs.declared.LimiterSettings.{LimiterSettings}
+use Rattle.settings.proofs.Taken.{Taken, taken}
+use Rattle.settings.proofs.Unit.{target-unit}
+use Rattle.limiter.specs.State.{notSetUp, started}
+use Rattle.limiter.specs.Reset.{resetState}
+use Rattle.limiter.specs.Order.{prepared, inOrder}
+use Rattle.limiter.specs.declared.state.Limiter.{Limiter}
+
+-- ---- what 18 says
+pub record Prepared (l : Limiter) : Type 0 where
+  pub accepted : refusalOf (l .settings) (l .rate) (l .channels) (l .«max_block») ≡ 0
+  pub rules : Taken (l .settings) (l .rate) (l .channels) (l .«max_block»)
+  pub look-is : l .env .keeper .look ≡ lookOf (l .settings .«lookahead_ms») (l .rate)
+  pub coeff-is : sameValue (l .«release_coeff») (coefficientOf (l .settings .«release_ms») (l .rate)) ≡ true
+
+pub prepared-is : (l : Limiter) → prepared l ≡ true → Prepared l
+unfolding prepared
+prepared-is l h =
+    let n = refusalOf (l .settings) (l .rate) (l .channels) (l .«max_block») in
+    let k = eqb (l .env .keeper .look) (lookOf (l .settings .«lookahead_ms») (l .rate)) in
+    let c = sameValue (l .«release_coeff») (coefficientOf (l .settings .«release_ms») (l .rate)) in
+    let a = and-true (eqb n 0) (k && c) h in
+    let b = and-true k c (a .1) in
+    let z = eqb-true n 0 (a .0) in
+    record {
+      accepted = z;
+      rules = taken (l .settings) (l .rate) (l .channels) (l .«max_block») z;
+      look-is = eqb-true (l .env .keeper .look) (lookOf (l .settings .«lookahead_ms») (l .rate)) (b .0);
+      coeff-is = b .1;
+    }
+
+-- ---- the test, from what the code finds
+module _ (l : Limiter) (number : ℕ) (N : number ≡ refusalOf (l .settings) (l .rate) (l .channels) (l .«max_block»)) where
+  pub refused-settings : (number ≡ 0 → ⊥) → false ≡ prepared l
+  unfolding prepared
+  refused-settings n = rw (ne-eqb (refusalOf (l .settings) (l .rate) (l .channels) (l .«max_block»)) 0 (λ z. n (N ∙ z))) refl
+
+  pub accepted-rules : number ≡ 0 → Taken (l .settings) (l .rate) (l .channels) (l .«max_block»)
+  accepted-rules z = taken (l .settings) (l .rate) (l .channels) (l .«max_block») (sym N ∙ z)
+
+  pub accepted-settings : (look : ℕ) (coeff : Float) (same : Bool) → number ≡ 0 → look ≡ lookOf (l .settings .«lookahead_ms») (l .rate) → coeff ≡ coefficientOf (l .settings .«release_ms») (l .rate)
+      → same ≡ sameValue (l .«release_coeff») coeff → eqb (l .env .keeper .look) look && same ≡ prepared l
+  unfolding prepared
+  accepted-settings look coeff same z L C S = rw (eq-eqb (refusalOf (l .settings) (l .rate) (l .channels) (l .«max_block»)) 0 (sym N ∙ z), S, C, L) refl
+
+-- ---- setup and reset leave a limiter that is set up
+pub started-prepared : (s : LimiterSettings) (rate channels block : ℕ) → refusalOf s rate channels block ≡ 0 → prepared (started s rate channels block) ≡ true
+unfolding prepared
+started-prepared s rate channels block h =
+    rw (eq-eqb (refusalOf s rate channels block) 0 h, eq-eqb (lookOf (s .«lookahead_ms») rate) (lookOf (s .«lookahead_ms») rate) refl, same-self (coefficientOf (s .«release_ms») rate)) refl
+
+pub reset-prepared : (l : Limiter) → prepared l ≡ true → prepared (resetState l) ≡ true
+reset-prepared l h = started-prepared (l .settings) (l .rate) (l .channels) (l .«max_block») (prepared-is l h .accepted)
+
+-- a limiter that is not set up is refused by 18
+pub not-prepared : prepared notSetUp ≡ false
+unfolding prepared
+not-prepared = refl
+
+-- ---- and in order, whatever marks and minima hold
+ones-unit : (n : ℕ) → allUnit (replicate n one) ≡ true
+unfolding le
+ones-unit zero = refl
+ones-unit (suc n) = ones-unit n
+
+ones-tally : (n : ℕ) → tallyOf (replicate n one) ≡ 0
+unfolding ne
+ones-tally zero = refl
+ones-tally (suc n) = rw (ones-tally n) refl
+
+ones-in-order : (n : ℕ) → 0 < n → rowInOrder (record { pos = 0; tally = 0 }) (replicate n one) ≡ true
+unfolding rowInOrder
+ones-in-order n h = rw (ones-unit n, ones-tally n, length-replicate n one, lt-ltb 0 n h) refl
+
+one-unit : within Number.zero one one ≡ true
+unfolding le
+one-unit = refl
+
+pub started-in-order : (s : LimiterSettings) (rate channels block : ℕ) → refusalOf s rate channels block ≡ 0 → (marks : List ℕ) (minima : List Float)
+    → inOrder (started s rate channels block) marks minima (replicate (rowOf (lookOf (s .«lookahead_ms») rate)) one) ≡ true
+unfolding inOrder
+started-in-order s rate channels block h marks minima =
+    let look = lookOf (s .«lookahead_ms») rate in
+    let t = and-true (leb 11 look) (leb look 4096) (taken s rate channels block h .look-is) in
+    let least : 11 ≤ look = leb-true 11 look (t .0) in
+    rw (empty-order look 0 marks minima (omega arith), ones-in-order (rowOf look) (omega (arith, least)), lt-ltb 0 look (omega (arith, least)), le-leb 0 look (omega arith), one-unit, target-unit (s .«threshold_db») (s .«true_peak_margin_db»)) refl
+
+pub reset-in-order : (l : Limiter) → prepared l ≡ true → (marks : List ℕ) (minima : List Float) → inOrder (resetState l) marks minima (replicate (rowOf (l .env .keeper .look)) one) ≡ true
+reset-in-order l h marks minima =
+    let p = prepared-is l h in
+    rw (p .look-is) (started-in-order (l .settings) (l .rate) (l .channels) (l .«max_block») (p .accepted) marks minima)

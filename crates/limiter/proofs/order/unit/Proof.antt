@@ -1,0 +1,12 @@
+-- `unit`: both bounds.
+use mathlib.Core.Path.{refl}
+use lib.Ieee.{ofBits}
+use Rattle.limiter.proofs.order.unit.Statement.{statement}
+use Rattle.limiter.proofs.order.unit.Tie as tie
+
+returns : tie.Need-returns
+unfolding ofBits
+returns c = refl
+
+pub unit-spec : {M : Type 1} → statement M
+unit-spec = tie.close (tie.spec returns)

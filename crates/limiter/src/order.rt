@@ -1,0 +1,46 @@
+// The kernel's share of 18 and 19.
+ghost use mathlib.Core.Path.{_≡_};
+ghost use Prim.Native.Nat.{_+_};
+ghost use lib.ListN.{length};
+ghost use Rattle.arithmetic.specs.Number.{one, within};
+ghost use Rattle.arithmetic.specs.Number;
+ghost use Rattle.limiter.specs.Order.{prepared, inOrder};
+use crate::state::Limiter;
+use arithmetic::pattern::same_value;
+
+// Whether x lies within 0 and 1.
+fn unit(x: f64) -> bool
+    ensures { λ r. ⌜ r ≡ within Number.zero one x ⌝ }
+{
+    (0.0 <= x) & (x <= 1.0)
+}
+
+impl Limiter {
+    // 18: accepted settings, with look and release coefficient that are theirs.
+    pub fn is_prepared(self) -> bool
+        ensures { λ r. ⌜ r ≡ prepared self ⌝ }
+    {
+        let s = self.settings;
+        let number = settings::accepted::refusal(s, self.rate, self.channels, self.max_block);
+        if number != 0 {
+            return false;
+        }
+        let look = settings::derived::look(s.lookahead_ms, self.rate) as usize;
+        let coeff = settings::derived::release_coeff(s.release_ms, self.rate);
+        (self.env.keeper.look == look) & same_value(self.release_coeff, coeff)
+    }
+
+    // 19: state and stores in order. The caller has judged the stores' lengths.
+    pub fn in_order(self, marks: &[u64], minima: &[f64], row: &[f64]) -> bool
+        requires { ⌜ (length (now marks) ≡ self .env .keeper .look + 1) × (length (now minima) ≡ self .env .keeper .look + 1) ⌝ }
+        ensures { λ r. ⌜ r ≡ inOrder self (now (marks .entry)) (now (minima .entry)) (now (row .entry)) ⌝ }
+    {
+        let e = self.env;
+        let look = e.keeper.look;
+        let kept = e.keeper.in_order(marks, minima);
+        let rowed = e.attack.in_order(row);
+        let gain = unit(e.gain);
+        let target = unit(self.target);
+        kept & (rowed & ((self.delay_pos < look) & ((self.drained <= look) & (gain & target))))
+    }
+}
