@@ -3,3 +3,4 @@ pub mod Weighted
 pub mod Tally
 pub mod Scan
 pub mod Gain
+pub mod Newest
