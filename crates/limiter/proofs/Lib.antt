@@ -1,3 +1,5 @@
 -- Laws of the limiter that belong to no one function.
 pub mod Judge
 pub mod Ready
+pub mod Frames
+pub mod Keeping

@@ -3,4 +3,5 @@ pub mod State
 pub mod Stores
 pub mod Prepare
 pub mod Order
+pub mod Run
 pub mod Reset

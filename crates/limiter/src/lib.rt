@@ -10,3 +10,5 @@ pub mod prepare;
 pub mod order;
 // Reset.
 pub mod reset;
+// Runs of frames: render and drain.
+pub mod run;

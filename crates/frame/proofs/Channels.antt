@@ -1,0 +1,185 @@
+-- The turns of the loops over a run's channels: the stores of the channels passed, and what the rest comes to, stay the whole.
+use mathlib.Core.Path.{_≡_, refl, sym, ap, _∙_, subst}
+use mathlib.Core.Bool.{true}
+use mathlib.Core.List.{List, [], _∷_, _++_, append-nil, append-assoc}
+use Prim.Native.Nat.{ℕ, zero, suc, _+_, _-_, _*_, _≤_, _<_}
+use native.Mathlib.Numerals.{add-one}
+use native.Mathlib.Nat.{add-mul, mul-le-mul-right, suc-mul, zero-mul}
+use native.Mathlib.Omega.{arith}
+use lib.ListN.{length, take, drop, length-append, length-drop, take-append-drop, drop-of-length-le}
+use lib.Seq.{length-take-le, drop-append-le, drop-drop, take-at, drop-at, take-all}
+use lib.Ieee.{Float}
+use Rattle.detector.specs.Oversample.{remembered}
+use Rattle.detector.specs.Run.{runLength, RunOutcome, runOutcomeAt, pushesOf, peaksAbsOf}
+use Rattle.detector.specs.Taps.{taps}
+use Rattle.detector.proofs.Store.{run-pushes}
+use Rattle.frame.specs.Rules.{Rules, presentRules}
+use Rattle.frame.specs.Passes.{heardAll, Peaks, peaksAt, channelPeaks, peaksPass, Outputs, outputsAt, Written, writtenAt, channelOutputs, outputsPass}
+
+-- ---- one channel's places in a flat store: w of them, from c × w on
+pub one-more : (c w : ℕ) → (c + 1) * w ≡ c * w + w
+one-more c w = rw (add-one c) (suc-mul c w)
+
+pub places-end : (c channels w : ℕ) → c < channels → c * w + w ≤ channels * w
+places-end c channels w h =
+    let k : (c + 1) * w ≤ channels * w = mul-le-mul-right w (omega arith) in
+    subst (λ (m : ℕ). m ≤ channels * w) (one-more c w) k
+
+-- how many elements a part has
+pub part-length : (l : List Float) (a w k : ℕ) → a + w ≤ length l → k ≡ w → length (take k (drop a l)) ≡ w
+part-length l a w k h e = rw e (length-take-le w (drop a l) (rw (length-drop a l) (omega arith)))
+
+-- past its end
+past : (l : List Float) (a w : ℕ) → a + w ≤ length l → drop w (take w (drop a l)) ≡ []
+past l a w h = drop-of-length-le (take w (drop a l)) {i = w} (rw (part-length l a w w h refl) (omega arith))
+
+-- the store with ys in the channel's first m places
+module _ (l ys : List Float) (a w m : ℕ) (h : a + w ≤ length l) (fits : m ≤ w) (n : length ys ≡ m) where
+  abbrev rest : List Float
+  rest = drop a l
+
+  abbrev passed : List Float
+  passed = take a l ++ (ys ++ drop m (take w rest))
+
+  enough : w ≤ length rest
+  enough = rw (length-drop a l) (omega arith)
+
+  put : take a l ++ (ys ++ drop m rest) ≡ passed ++ drop w rest
+  put =
+      let d : drop m rest ≡ drop m (take w rest) ++ drop w rest =
+      ap (drop m) (sym (take-append-drop w rest)) ∙ drop-append-le m (take w rest) (drop w rest) (rw (length-take-le w rest enough) fits)
+      in
+      ap (λ (z : List Float). take a l ++ (ys ++ z)) d
+      ∙ ap (λ (z : List Float). take a l ++ z) (sym (append-assoc ys (drop m (take w rest)) (drop w rest)))
+      ∙ sym (append-assoc (take a l) (ys ++ drop m (take w rest)) (drop w rest))
+
+  passed-length : length passed ≡ a + w
+  passed-length =
+      length-append (take a l) (ys ++ drop m (take w rest))
+      ∙ rw (length-take-le a l (omega arith), length-append ys (drop m (take w rest)), length-drop m (take w rest), length-take-le w rest enough, n) (omega arith)
+
+  pub put-passed : take (a + w) (take a l ++ (ys ++ drop m rest)) ≡ take a l ++ (ys ++ drop m (take w rest))
+  put-passed = ap (take (a + w)) put ∙ take-at passed (drop w rest) (a + w) passed-length
+
+  pub put-ahead : drop (a + w) (take a l ++ (ys ++ drop m rest)) ≡ drop w (drop a l)
+  put-ahead = ap (drop (a + w)) put ∙ drop-at passed (drop w rest) (a + w) passed-length
+
+-- ---- peaks
+-- the stores of the channels passed, and what the rest comes to
+abbrev pub peaksSince : Rules → ℕ → ℕ → ℕ → List Float → List Float → List Float → Peaks
+peaksSince rules channels n c peaks detector audio =
+    let later = peaksPass rules c (channels - c) n peaks (drop (c * remembered) detector) (drop (c * runLength) audio) in
+    peaksAt (later .peaks) (take (c * remembered) detector ++ later .detector)
+
+pub peaks-start : (rules : Rules) (channels n : ℕ) (peaks detector audio : List Float) → peaksSince rules channels n 0 peaks detector audio ≡ peaksPass rules 0 channels n peaks detector audio
+peaks-start rules channels n peaks detector audio =
+    let e : channels - 0 ≡ channels = omega arith in
+    rw (e, zero-mul remembered, zero-mul runLength) refl
+
+pub peaks-done : (rules : Rules) (channels n c : ℕ) (peaks detector audio : List Float) → channels ≤ c → length detector ≡ channels * remembered → peaksAt peaks detector ≡ peaksSince rules channels n c peaks detector audio
+unfolding peaksPass
+peaks-done rules channels n c peaks detector audio h l =
+    let e : channels - c ≡ 0 = omega arith in
+    rw (e, take-append-drop (c * remembered) detector) refl
+
+module _ (rules : Rules) (channels n c : ℕ) (peaks l audio : List Float) where
+  peaks-next : (o : Peaks) (l' : List Float) → c < channels → o ≡ channelPeaks rules c peaks (take remembered (drop (c * remembered) l)) (take n (drop (c * runLength) audio))
+      → take ((c + 1) * remembered) l' ≡ take (c * remembered) l ++ o .detector → drop ((c + 1) * remembered) l' ≡ drop remembered (drop (c * remembered) l)
+      → drop ((c + 1) * runLength) audio ≡ drop runLength (drop (c * runLength) audio)
+      → peaksSince rules channels n (c + 1) (o .peaks) l' audio ≡ peaksSince rules channels n c peaks l audio
+  unfolding peaksPass
+  peaks-next o l' h e t d s =
+      let k = channels - (c + 1) in
+      let b : channels - c ≡ suc k = omega arith in
+      let later = peaksPass rules (c + 1) k n (o .peaks) (drop remembered (drop (c * remembered) l)) (drop runLength (drop (c * runLength) audio)) in
+      let x : peaksSince rules channels n (c + 1) (o .peaks) l' audio ≡ peaksAt (later .peaks) (take (c * remembered) l ++ (o .detector ++ later .detector)) =
+      rw (d, s, t) (ap (peaksAt (later .peaks)) (append-assoc (take (c * remembered) l) (o .detector) (later .detector)))
+      in
+      x ∙ rw (b, e) refl
+
+-- the same from what the code finds; every channel counts, so that no channel's number is asked
+pub peaks-more : (channels n c k1 k2 : ℕ) (peaks l audio peaks' ys : List Float) → c < channels → length l ≡ channels * remembered → k1 ≡ remembered → k2 ≡ n
+    → length ys ≡ length (take k1 (drop (c * remembered) l)) → peaksAt peaks' ys ≡ channelPeaks presentRules 0 peaks (take k1 (drop (c * remembered) l)) (take k2 (drop (c * runLength) audio))
+    → peaksSince presentRules channels n (c + 1) peaks' (take (c * remembered) l ++ (ys ++ drop k1 (drop (c * remembered) l))) audio ≡ peaksSince presentRules channels n c peaks l audio
+unfolding channelPeaks
+peaks-more channels n c k1 k2 peaks l audio peaks' ys h f e1 e2 m o =
+    let a = c * remembered in
+    let within : a + remembered ≤ length l = rw f (places-end c channels remembered h) in
+    let many : length ys ≡ remembered = m ∙ part-length l a remembered k1 within e1 in
+    let l' = take a l ++ (ys ++ drop k1 (drop a l)) in
+    let t : take ((c + 1) * remembered) l' ≡ take a l ++ ys =
+    rw (one-more c remembered, e1) (put-passed l ys a remembered remembered within (omega arith) many ∙ rw (past l a remembered within) (ap (λ (z : List Float). take a l ++ z) (append-nil ys)))
+    in
+    let d : drop ((c + 1) * remembered) l' ≡ drop remembered (drop a l) = rw (one-more c remembered, e1) (put-ahead l ys a remembered remembered within (omega arith) many) in
+    let s : drop ((c + 1) * runLength) audio ≡ drop runLength (drop (c * runLength) audio) = rw (one-more c runLength) (sym (drop-drop runLength (c * runLength) audio)) in
+    peaks-next presentRules channels n c peaks l audio (peaksAt peaks' ys) l' h (rw (e1, e2) at o) t d s
+
+-- ---- outputs
+abbrev pub outputsSince : Rules → ℕ → ℕ → List Float → ℕ → ℕ → ℕ → List Float → List Float → Written
+outputsSince rules look pos gains channels n c delay audio =
+    let later = outputsPass rules look pos gains (channels - c) n (drop (c * look) delay) (drop (c * runLength) audio) in
+    writtenAt (take (c * runLength) audio ++ later .audio) (take (c * look) delay ++ later .delay)
+
+module _ (rules : Rules) (look pos : ℕ) (gains : List Float) (channels n : ℕ) where
+  pub outputs-start : (delay audio : List Float) → outputsSince rules look pos gains channels n 0 delay audio ≡ outputsPass rules look pos gains channels n delay audio
+  outputs-start delay audio =
+      let e : channels - 0 ≡ channels = omega arith in
+      rw (e, zero-mul look) refl
+
+  pub outputs-end : (c : ℕ) (delay audio : List Float) → channels ≤ c → writtenAt audio delay ≡ outputsSince rules look pos gains channels n c delay audio
+  unfolding outputsPass
+  outputs-end c delay audio h =
+      let e : channels - c ≡ 0 = omega arith in
+      rw (e, take-append-drop (c * look) delay, take-append-drop (c * runLength) audio) refl
+
+  outputs-next : (c : ℕ) (delay audio : List Float) (o : Outputs) (d' a' : List Float) → c < channels
+      → o ≡ channelOutputs rules look pos gains (take look (drop (c * look) delay)) (take n (drop (c * runLength) audio))
+      → take ((c + 1) * look) d' ≡ take (c * look) delay ++ o .line → drop ((c + 1) * look) d' ≡ drop look (drop (c * look) delay)
+      → take ((c + 1) * runLength) a' ≡ take (c * runLength) audio ++ (o .outputs ++ drop n (take runLength (drop (c * runLength) audio))) → drop ((c + 1) * runLength) a' ≡ drop runLength (drop (c * runLength) audio)
+      → outputsSince rules look pos gains channels n (c + 1) d' a' ≡ outputsSince rules look pos gains channels n c delay audio
+  unfolding outputsPass
+  outputs-next c delay audio o d' a' h e dt dd at ad =
+      let k = channels - (c + 1) in
+      let b : channels - c ≡ suc k = omega arith in
+      let left = drop n (take runLength (drop (c * runLength) audio)) in
+      let later = outputsPass rules look pos gains k n (drop look (drop (c * look) delay)) (drop runLength (drop (c * runLength) audio)) in
+      let au : take (c * runLength) audio ++ (o .outputs ++ left) ++ later .audio ≡ take (c * runLength) audio ++ (o .outputs ++ (left ++ later .audio)) =
+      append-assoc (take (c * runLength) audio) (o .outputs ++ left) (later .audio) ∙ ap (λ (z : List Float). take (c * runLength) audio ++ z) (append-assoc (o .outputs) left (later .audio))
+      in
+      let x : outputsSince rules look pos gains channels n (c + 1) d' a' ≡ writtenAt (take (c * runLength) audio ++ (o .outputs ++ (left ++ later .audio))) (take (c * look) delay ++ (o .line ++ later .delay)) =
+      rw (dd, ad, dt, at, au, append-assoc (take (c * look) delay) (o .line) (later .delay)) refl
+      in
+      x ∙ rw (b, e) refl
+
+  -- the same from what the code finds
+  pub outputs-turn : (c k1 k2 : ℕ) (delay audio line ys : List Float) → c < channels → length delay ≡ channels * look → c * runLength + runLength ≤ length audio → n ≤ runLength → k1 ≡ look → k2 ≡ n
+      → length line ≡ length (take k1 (drop (c * look) delay)) → length ys ≡ length (take k2 (drop (c * runLength) audio))
+      → outputsAt ys line ≡ channelOutputs rules (length (take k1 (drop (c * look) delay))) pos gains (take k1 (drop (c * look) delay)) (take k2 (drop (c * runLength) audio))
+      → outputsSince rules look pos gains channels n (c + 1) (take (c * look) delay ++ (line ++ drop k1 (drop (c * look) delay))) (take (c * runLength) audio ++ (ys ++ drop k2 (drop (c * runLength) audio)))
+      ≡ outputsSince rules look pos gains channels n c delay audio
+  outputs-turn c k1 k2 delay audio line ys h f g p e1 e2 m1 m2 o =
+      let a = c * look in
+      let b = c * runLength in
+      let within : a + look ≤ length delay = rw f (places-end c channels look h) in
+      let many : length line ≡ look = m1 ∙ part-length delay a look k1 within e1 in
+      let few : length ys ≡ n = m2 ∙ part-length audio b n k2 (omega arith) e2 in
+      let d' = take a delay ++ (line ++ drop k1 (drop a delay)) in
+      let a' = take b audio ++ (ys ++ drop k2 (drop b audio)) in
+      let dt : take ((c + 1) * look) d' ≡ take a delay ++ line =
+      rw (one-more c look, e1) (put-passed delay line a look look within (omega arith) many ∙ rw (past delay a look within) (ap (λ (z : List Float). take a delay ++ z) (append-nil line)))
+      in
+      let dd : drop ((c + 1) * look) d' ≡ drop look (drop a delay) = rw (one-more c look, e1) (put-ahead delay line a look look within (omega arith) many) in
+      let at : take ((c + 1) * runLength) a' ≡ take b audio ++ (ys ++ drop n (take runLength (drop b audio))) = rw (one-more c runLength, e2) (put-passed audio ys b runLength n g p few) in
+      let ad : drop ((c + 1) * runLength) a' ≡ drop runLength (drop b audio) = rw (one-more c runLength, e2) (put-ahead audio ys b runLength n g p few) in
+      outputs-next c delay audio (outputsAt ys line) d' a' h (rw (e1, e2, part-length delay a look look within refl) at o) dt dd at ad
+
+-- ---- one channel's peaks, from what the calls find
+pub channel-heard : (store samples peaks run heardPeaks answers left : List Float) → length store ≡ remembered → length samples ≤ runLength → run ≡ samples
+    → runOutcomeAt answers left ≡ peaksAbsOf taps store run → heardPeaks ≡ heardAll true peaks samples answers
+    → (peaksAt heardPeaks left ≡ channelPeaks presentRules 0 peaks store samples) × (answers ≡ pushesOf taps store samples .peaks)
+unfolding channelPeaks
+channel-heard store samples peaks run heardPeaks answers left n s e o h =
+    let p : runOutcomeAt answers left ≡ pushesOf taps store samples = o ∙ rw e (run-pushes taps store samples n s) in
+    let a : answers ≡ pushesOf taps store samples .peaks = ap (λ (r : RunOutcome). r .peaks) p in
+    let l : left ≡ pushesOf taps store samples .store = ap (λ (r : RunOutcome). r .store) p in
+    (rw (h, a, l) refl, a)

@@ -1,0 +1,294 @@
+-- A run in passes is the run frame by frame: each channel's store and line is its own, so its frames can be taken before the next channel's.
+use mathlib.Core.Path.{_≡_, refl, sym, ap, _∙_, subst}
+use mathlib.Core.Bool.{Bool}
+use mathlib.Core.List.{List, [], _∷_, _++_, map}
+use Prim.Native.Nat.{ℕ, zero, suc, _+_, _-_, _*_, _≤_, _<_}
+use native.Mathlib.Nat.{suc-mul, suc-inj}
+use native.Mathlib.Omega.{arith}
+use lib.ListN.{length, getD, set, take, drop, replicate, length-set, length-drop, length-map, length-replicate, take-append-drop}
+use lib.Seq.{take-at, drop-at, length-take-le}
+use lib.Ieee.{Float}
+use Rattle.arithmetic.specs.Number
+use Rattle.arithmetic.specs.Sanitize.{finiteOrZero}
+use Rattle.detector.specs.Oversample.{Outcome, remembered, peakAbsOf}
+use Rattle.detector.specs.Run.{runLength, pushesOf}
+use Rattle.detector.proofs.Store.{push-length, pushes-length}
+use Rattle.envelope.specs.Row.{nextPos}
+use Rattle.envelope.specs.Step.{Enveloped, gainStepOf}
+use Rattle.frame.specs.Rules.{Rules}
+use Rattle.frame.specs.Frame.{heard, Linked, linkedFrom, requiredGain, Delayed, delayedFrom, Moving, Framed, frameOf}
+use Rattle.frame.specs.Run.{Frames, framesOf, before, framesIn, firstOf, othersOf, writtenIn, RunDone, runOf}
+use Rattle.frame.specs.Passes.{heardAll, Peaks, peaksAt, channelPeaks, peaksPass, Gains, gainsOf, posAfter, Outputs, outputsAt, channelOutputs, Written, writtenAt, outputsPass}
+
+-- ---- lengths
+before-length : (xs : List Float) (fs : List (List Float)) → length xs ≡ length fs → length (before xs fs) ≡ length fs
+unfolding before
+before-length [] [] h = refl
+before-length [] (f ∷ fs) h = absurd (omega arith)
+before-length (x ∷ xs) [] h = absurd (omega arith)
+before-length (x ∷ xs) (f ∷ fs) h = ap suc (before-length xs fs (omega arith))
+
+-- each channel has n samples
+module _ (n : ℕ) (short : n ≤ runLength) where
+  samples-length : (k : ℕ) (audio : List Float) → suc k * runLength ≤ length audio → length (take n audio) ≡ n
+  samples-length k audio h = let e = suc-mul k runLength in length-take-le n audio (omega arith)
+
+  others-fit : (k : ℕ) (audio : List Float) → suc k * runLength ≤ length audio → k * runLength ≤ length (drop runLength audio)
+  others-fit k audio h = let e = suc-mul k runLength in rw (length-drop runLength audio) (omega arith)
+
+  pub frames-length : (k : ℕ) (audio : List Float) → k * runLength ≤ length audio → length (framesIn k n audio) ≡ n
+  unfolding framesIn
+  frames-length zero audio h = length-replicate n []
+  frames-length (suc k) audio h =
+      let i = frames-length k (drop runLength audio) (others-fit k audio h) in
+      before-length (take n audio) (framesIn k n (drop runLength audio)) (samples-length k audio h ∙ sym i) ∙ i
+
+heard-length : (counts : Bool) (ps xs answers : List Float) → length xs ≡ length ps → length answers ≡ length ps → length (heardAll counts ps xs answers) ≡ length ps
+unfolding heardAll
+heard-length counts [] xs answers h k = refl
+heard-length counts (p ∷ ps) [] answers h k = absurd (omega arith)
+heard-length counts (p ∷ ps) (x ∷ xs) [] h k = absurd (omega arith)
+heard-length counts (p ∷ ps) (x ∷ xs) (a ∷ later) h k = ap suc (heard-length counts ps xs later (omega arith) (omega arith))
+
+-- ---- the peaks of a list of frames, frame by frame
+unfoldable linkedAll : Rules → ℕ → List Float → List Float → List (List Float) → Peaks
+linkedAll rules c [] detector fs = peaksAt [] detector
+linkedAll rules c (p ∷ ps) detector [] = peaksAt [] detector
+linkedAll rules c (p ∷ ps) detector (f ∷ fs) =
+    let o = linkedFrom rules c p detector f in
+    let later = linkedAll rules c ps (o .detector) fs in
+    peaksAt (o .peak ∷ later .peaks) (later .detector)
+
+module _ (rules : Rules) where
+  -- a channel and then the others
+  abbrev channelThen : ℕ → List Float → List Float → List Float → List Float → List (List Float) → Peaks
+  channelThen c ps s r xs fs =
+      let o = channelPeaks rules c ps s xs in
+      let later = linkedAll rules (c + 1) (o .peaks) r fs in
+      peaksAt (later .peaks) (o .detector ++ later .detector)
+
+  -- one frame: its first channel, and then the others
+  first-heard : (c : ℕ) (p x : Float) (f s r : List Float) → length s ≡ remembered
+      → linkedFrom rules c p (s ++ r) (x ∷ f) ≡ (let q = peakAbsOf (rules .taps) s x in let l = linkedFrom rules (c + 1) (heard (rules .counts c) p x (q .peak)) r f in record { peak = l .peak; detector = q .store ++ l .detector })
+  unfolding linkedFrom
+  first-heard c p x f s r n = rw (take-at s r remembered n, drop-at s r remembered n) refl
+
+  channel-first : (c : ℕ) (ps xs : List Float) (fs : List (List Float)) (s r : List Float) → length s ≡ remembered → length xs ≡ length ps → length fs ≡ length ps
+      → linkedAll rules c ps (s ++ r) (before xs fs) ≡ channelThen c ps s r xs fs
+  unfolding linkedAll before channelPeaks heardAll pushesOf
+  channel-first c [] [] [] s r n h k = refl
+  channel-first c [] (x ∷ xs) fs s r n h k = absurd (omega arith)
+  channel-first c [] [] (f ∷ fs) s r n h k = absurd (omega arith)
+  channel-first c (p ∷ ps) [] fs s r n h k = absurd (omega arith)
+  channel-first c (p ∷ ps) (x ∷ xs) [] s r n h k = absurd (omega arith)
+  channel-first c (p ∷ ps) (x ∷ xs) (f ∷ fs) s r n h k =
+      let q = peakAbsOf (rules .taps) s x in
+      let l = linkedFrom rules (c + 1) (heard (rules .counts c) p x (q .peak)) r f in
+      rw (first-heard c p x f s r n, channel-first c ps xs fs (q .store) (l .detector) (push-length (rules .taps) s x ∙ n) (suc-inj h) (suc-inj k)) refl
+
+  -- no channel: nothing is heard
+  none-heard : (c : ℕ) (ps detector : List Float) → linkedAll rules c ps detector (replicate (length ps) []) ≡ peaksAt ps detector
+  unfolding linkedAll linkedFrom
+  none-heard c [] detector = refl
+  none-heard c (p ∷ ps) detector = rw (none-heard c ps detector) refl
+
+  heard-enough : (c : ℕ) (ps s xs : List Float) → length xs ≡ length ps → length (channelPeaks rules c ps s xs .peaks) ≡ length ps
+  unfolding channelPeaks
+  heard-enough c ps s xs h = heard-length (rules .counts c) ps xs (pushesOf (rules .taps) s xs .peaks) h (pushes-length (rules .taps) s xs ∙ h)
+
+  -- channel by channel
+  pass-linked : (k c n : ℕ) (ps detector audio : List Float) → n ≤ runLength → length ps ≡ n → length detector ≡ k * remembered → k * runLength ≤ length audio
+      → linkedAll rules c ps detector (framesIn k n audio) ≡ peaksPass rules c k n ps detector audio
+  unfolding framesIn peaksPass
+  pass-linked zero c n ps detector audio short m d a = rw (← m) (none-heard c ps detector)
+  pass-linked (suc k) c n ps detector audio short m d a =
+      let s = take remembered detector in
+      let r = drop remembered detector in
+      let xs = take n audio in
+      let fs = framesIn k n (drop runLength audio) in
+      let w = suc-mul k remembered in
+      let xn = samples-length n short k audio a in
+      let fn = frames-length n short k (drop runLength audio) (others-fit n short k audio a) in
+      let o = channelPeaks rules c ps s xs in
+      let i = pass-linked k (c + 1) n (o .peaks) r (drop runLength audio) short (heard-enough c ps s xs (xn ∙ sym m) ∙ m) (rw (length-drop remembered detector) (omega arith)) (others-fit n short k audio a) in
+      ap (λ (l : List Float). linkedAll rules c ps l (before xs fs)) (sym (take-append-drop remembered detector))
+      ∙ channel-first c ps xs fs s r (length-take-le remembered detector (omega arith)) (xn ∙ sym m) (fn ∙ sym m)
+      ∙ ap (λ (later : Peaks). peaksAt (later .peaks) (o .detector ++ later .detector)) i
+
+-- ---- the outputs of a list of frames, frame by frame
+record AllDelayed : Type 0 where
+  outputs : List (List Float)
+  delay : List Float
+
+unfoldable delayedAll : Rules → ℕ → ℕ → List Float → List Float → List (List Float) → AllDelayed
+delayedAll rules look pos [] delay fs = record { outputs = []; delay = delay }
+delayedAll rules look pos (g ∷ gs) delay [] = record { outputs = []; delay = delay }
+delayedAll rules look pos (g ∷ gs) delay (f ∷ fs) =
+    let o = delayedFrom rules look pos g delay f in
+    let later = delayedAll rules look (nextPos look pos) gs (o .delay) fs in
+    record { outputs = o .outputs ∷ later .outputs; delay = later .delay }
+
+module _ (rules : Rules) (look : ℕ) where
+  -- a channel and the others beside it
+  abbrev channelBeside : ℕ → List Float → List Float → List Float → List Float → List (List Float) → AllDelayed
+  channelBeside pos gs s r xs fs =
+      let o = channelOutputs rules look pos gs s xs in
+      let others = delayedAll rules look pos gs r fs in
+      record { outputs = before (o .outputs) (others .outputs); delay = o .line ++ others .delay }
+
+  channel-beside : (pos : ℕ) (gs xs : List Float) (fs : List (List Float)) (s r : List Float) → length s ≡ look → length xs ≡ length gs → length fs ≡ length gs
+      → delayedAll rules look pos gs (s ++ r) (before xs fs) ≡ channelBeside pos gs s r xs fs
+  unfolding delayedAll before channelOutputs delayedFrom
+  channel-beside pos [] [] [] s r n h k = refl
+  channel-beside pos [] (x ∷ xs) fs s r n h k = absurd (omega arith)
+  channel-beside pos [] [] (f ∷ fs) s r n h k = absurd (omega arith)
+  channel-beside pos (g ∷ gs) [] fs s r n h k = absurd (omega arith)
+  channel-beside pos (g ∷ gs) (x ∷ xs) [] s r n h k = absurd (omega arith)
+  channel-beside pos (g ∷ gs) (x ∷ xs) (f ∷ fs) s r n h k =
+      let l = delayedFrom rules look pos g r f in
+      let y = finiteOrZero x in
+      rw (take-at s r look n, drop-at s r look n, channel-beside (nextPos look pos) gs xs fs (set s pos y) (l .delay) (length-set s pos y ∙ n) (suc-inj h) (suc-inj k)) refl
+
+  -- no channel: nothing moves
+  none-moved : (pos : ℕ) (gs delay : List Float) → delayedAll rules look pos gs delay (replicate (length gs) []) .delay ≡ delay
+  unfolding delayedAll delayedFrom
+  none-moved pos [] delay = refl
+  none-moved pos (g ∷ gs) delay = none-moved (nextPos look pos) gs delay
+
+  outputs-many : (pos : ℕ) (gs s xs : List Float) → length xs ≡ length gs → length (channelOutputs rules look pos gs s xs .outputs) ≡ length gs
+  unfolding channelOutputs
+  outputs-many pos [] s xs h = refl
+  outputs-many pos (g ∷ gs) s [] h = absurd (omega arith)
+  outputs-many pos (g ∷ gs) s (x ∷ xs) h = ap suc (outputs-many (nextPos look pos) gs (set s pos (finiteOrZero x)) xs (suc-inj h))
+
+  delayed-many : (pos : ℕ) (gs delay : List Float) (fs : List (List Float)) → length fs ≡ length gs → length (delayedAll rules look pos gs delay fs .outputs) ≡ length gs
+  unfolding delayedAll
+  delayed-many pos [] delay fs h = refl
+  delayed-many pos (g ∷ gs) delay [] h = absurd (omega arith)
+  delayed-many pos (g ∷ gs) delay (f ∷ fs) h = ap suc (delayed-many (nextPos look pos) gs (delayedFrom rules look pos g delay f .delay) fs (suc-inj h))
+
+-- the outputs of a channel stand first, and the others' after them
+firsts : (xs : List Float) (fs : List (List Float)) → length xs ≡ length fs → map (λ (f : List Float). firstOf f) (before xs fs) ≡ xs
+unfolding before
+firsts [] fs h = refl
+firsts (x ∷ xs) [] h = absurd (omega arith)
+firsts (x ∷ xs) (f ∷ fs) h = ap (λ (l : List Float). x ∷ l) (firsts xs fs (suc-inj h))
+
+others : (xs : List Float) (fs : List (List Float)) → length xs ≡ length fs → map (λ (f : List Float). othersOf f) (before xs fs) ≡ fs
+unfolding before
+others [] [] h = refl
+others [] (f ∷ fs) h = absurd (omega arith)
+others (x ∷ xs) [] h = absurd (omega arith)
+others (x ∷ xs) (f ∷ fs) h = ap (λ (l : List (List Float)). f ∷ l) (others xs fs (suc-inj h))
+
+module _ (rules : Rules) (look pos : ℕ) (gs : List Float) where
+  abbrev written : ℕ → ℕ → List Float → List Float → AllDelayed → Written
+  written k n audio delay d = writtenAt (writtenIn k n audio (d .outputs)) (d .delay)
+
+  -- channel by channel
+  pass-delayed : (k n : ℕ) (delay audio : List Float) → n ≤ runLength → length gs ≡ n → length delay ≡ k * look → k * runLength ≤ length audio
+      → written k n audio delay (delayedAll rules look pos gs delay (framesIn k n audio)) ≡ outputsPass rules look pos gs k n delay audio
+  unfolding framesIn outputsPass writtenIn
+  pass-delayed zero n delay audio short m d a = rw (← m) (ap (writtenAt audio) (none-moved rules look pos gs delay))
+  pass-delayed (suc k) n delay audio short m d a =
+      let s = take look delay in
+      let r = drop look delay in
+      let xs = take n audio in
+      let fs = framesIn k n (drop runLength audio) in
+      let w = suc-mul k look in
+      let xn = samples-length n short k audio a in
+      let fn = frames-length n short k (drop runLength audio) (others-fit n short k audio a) in
+      let o = channelOutputs rules look pos gs s xs in
+      let later = delayedAll rules look pos gs r fs in
+      let i = pass-delayed k n r (drop runLength audio) short m (rw (length-drop look delay) (omega arith)) (others-fit n short k audio a) in
+      let many = outputs-many rules look pos gs s xs (xn ∙ sym m) ∙ sym (delayed-many rules look pos gs r fs (fn ∙ sym m)) in
+      let e = ap (λ (l : List Float). delayedAll rules look pos gs l (before xs fs)) (sym (take-append-drop look delay)) ∙ channel-beside rules look pos gs xs fs s r (length-take-le look delay (omega arith)) (xn ∙ sym m) (fn ∙ sym m) in
+      let left = drop n (take runLength audio) in
+      ap (written (suc k) n audio delay) e
+      ∙ rw (firsts (o .outputs) (later .outputs) many, others (o .outputs) (later .outputs) many) refl
+      ∙ ap (λ (v : Written). writtenAt (o .outputs ++ (left ++ v .audio)) (o .line ++ v .delay)) i
+
+-- ---- the frames in turn, taken apart into peaks, gain steps and outputs
+module _ (rules : Rules) (weights : List Float) (coeff : Float) (look : ℕ) (target : Float) where
+  abbrev required : List Float → List Float
+  required peaks = map (λ (p : Float). requiredGain target p) peaks
+
+  abbrev outputsOf : List Framed → List (List Float)
+  outputsOf fs = map (λ (f : Framed). f .outputs) fs
+
+  abbrev peaksOf : Moving → List (List Float) → Peaks
+  peaksOf m fs = linkedAll rules 0 (replicate (length fs) Number.zero) (m .detector) fs
+
+  abbrev stepsOf : Moving → List (List Float) → Gains
+  stepsOf m fs = gainsOf weights coeff (m .env) (required (peaksOf m fs .peaks))
+
+  abbrev delaysOf : Moving → List (List Float) → AllDelayed
+  delaysOf m fs = delayedAll rules look (m .pos) (stepsOf m fs .gains) (m .delay) fs
+
+  record Apart (m : Moving) (fs : List (List Float)) (r : Frames) : Type 0 where
+    outs : outputsOf (r .frames) ≡ delaysOf m fs .outputs
+    env : r .moving .env ≡ stepsOf m fs .env
+    delay : r .moving .delay ≡ delaysOf m fs .delay
+    pos : r .moving .pos ≡ posAfter look (m .pos) (length fs)
+    detector : r .moving .detector ≡ peaksOf m fs .detector
+
+  apart : (m : Moving) (fs : List (List Float)) → Apart m fs (framesOf rules weights coeff look target m fs)
+  unfolding framesOf frameOf linkedAll gainsOf delayedAll posAfter
+  apart m [] = record { outs = refl; env = refl; delay = refl; pos = refl; detector = refl }
+  apart m (f ∷ fs) =
+      let x = frameOf rules weights coeff look target m f in
+      let i = apart (x .moving) fs in
+      record { outs = ap (λ (l : List (List Float)). x .outputs ∷ l) (i .outs); env = i .env; delay = i .delay; pos = i .pos; detector = i .detector }
+
+  -- ---- a run in passes
+  linked-many : (c : ℕ) (ps detector : List Float) (fs : List (List Float)) → length fs ≡ length ps → length (linkedAll rules c ps detector fs .peaks) ≡ length ps
+  unfolding linkedAll
+  linked-many c [] detector fs h = refl
+  linked-many c (p ∷ ps) detector [] h = absurd (omega arith)
+  linked-many c (p ∷ ps) detector (f ∷ fs) h = ap suc (linked-many c ps (linkedFrom rules c p detector f .detector) fs (suc-inj h))
+
+  gains-many : (e : Enveloped) (xs : List Float) → length (gainsOf weights coeff e xs .gains) ≡ length xs
+  unfolding gainsOf
+  gains-many e [] = refl
+  gains-many e (x ∷ xs) = ap suc (gains-many (gainStepOf weights coeff e x .env) xs)
+
+  abbrev runDone : Enveloped → List Float → ℕ → List Float → List Float → RunDone
+  runDone e delay pos detector audio = record { moving = record { env = e; delay = delay; pos = pos; detector = detector }; audio = audio }
+
+  same-run : (e e' : Enveloped) (d d' : List Float) (p p' : ℕ) (t t' a a' : List Float) → e ≡ e' → d ≡ d' → p ≡ p' → t ≡ t' → a ≡ a' → runDone e d p t a ≡ runDone e' d' p' t' a'
+  same-run e e' d d' p p' t t' a a' E D P T A = rw (E, D, P, T, A) refl
+
+  module _ (channels n : ℕ) (m : Moving) (audio : List Float) (short : n ≤ runLength) (delays : length (m .delay) ≡ channels * look) (detectors : length (m .detector) ≡ channels * remembered) (enough : channels * runLength ≤ length audio) where
+    abbrev fs : List (List Float)
+    fs = framesIn channels n audio
+
+    so-many : length fs ≡ n
+    so-many = frames-length n short channels audio enough
+
+    pub run-passes : (P : Peaks) (rg : List Float) (G : Gains) (W : Written) (p : ℕ) → P ≡ peaksPass rules 0 channels n (replicate n Number.zero) (m .detector) audio → rg ≡ required (P .peaks)
+        → G ≡ gainsOf weights coeff (m .env) rg → W ≡ outputsPass rules look (m .pos) (G .gains) channels n (m .delay) audio → p ≡ posAfter look (m .pos) n
+        → runDone (G .env) (W .delay) p (P .detector) (W .audio) ≡ runOf rules weights coeff look target channels n m audio
+    unfolding runOf
+    run-passes P rg G W p pe re ge we pe' =
+        let i = apart m fs in
+        let zs = replicate n Number.zero in
+        let linked = linkedAll rules 0 zs (m .detector) fs in
+        let counted : peaksOf m fs ≡ linked = ap (λ (k : ℕ). linkedAll rules 0 (replicate k Number.zero) (m .detector) fs) so-many in
+        let zl : length zs ≡ n = length-replicate n Number.zero in
+        let P' : peaksOf m fs ≡ P = counted ∙ pass-linked rules channels 0 n zs (m .detector) audio short zl detectors enough ∙ sym pe in
+        let G' : stepsOf m fs ≡ G = ap (λ (q : Peaks). gainsOf weights coeff (m .env) (required (q .peaks))) P' ∙ sym (ge ∙ ap (gainsOf weights coeff (m .env)) re) in
+        let peaks-n : length (peaksOf m fs .peaks) ≡ n = ap (λ (q : Peaks). length (q .peaks)) counted ∙ linked-many 0 zs (m .detector) fs (so-many ∙ sym zl) ∙ zl in
+        let gains-n : length (stepsOf m fs .gains) ≡ n = gains-many (m .env) (required (peaksOf m fs .peaks)) ∙ length-map (peaksOf m fs .peaks) (λ (q : Float). requiredGain target q) ∙ peaks-n in
+        let gs = stepsOf m fs .gains in
+        let W' : written rules look (m .pos) gs channels n audio (m .delay) (delaysOf m fs) ≡ W =
+        pass-delayed rules look (m .pos) gs channels n (m .delay) audio short gains-n delays enough
+        ∙ ap (λ (q : Gains). outputsPass rules look (m .pos) (q .gains) channels n (m .delay) audio) G'
+        ∙ sym we
+        in
+        let r = framesOf rules weights coeff look target m fs in
+        same-run (G .env) (r .moving .env) (W .delay) (r .moving .delay) p (r .moving .pos) (P .detector) (r .moving .detector) (W .audio) (writtenIn channels n audio (outputsOf (r .frames)))
+        (sym (i .env ∙ ap (λ (q : Gains). q .env) G'))
+        (sym (i .delay ∙ ap (λ (q : Written). q .delay) W'))
+        (pe' ∙ sym (i .pos ∙ ap (posAfter look (m .pos)) so-many))
+        (sym (i .detector ∙ ap (λ (q : Peaks). q .detector) P'))
+        (sym (ap (writtenIn channels n audio) (i .outs) ∙ ap (λ (q : Written). q .audio) W'))

@@ -1,0 +1,141 @@
+-- The turns of the loops over a run's frames: what stands in the places passed, and what the rest comes to, stay the whole.
+use mathlib.Core.Path.{_≡_, refl, sym, ap, _∙_, subst}
+use mathlib.Core.Bool.{Bool, true, false, cond}
+use mathlib.Core.List.{List, [], _∷_, _++_, map, append-nil}
+use Prim.Native.Nat.{ℕ, zero, suc, _+_, _-_, _≤_, _<_}
+use native.Mathlib.Numerals.{add-one}
+use native.Mathlib.Omega.{arith}
+use lib.Dec.{eqb}
+use lib.ListN.{length, getD, set, take, drop, replicate, drop-of-length-le}
+use lib.Seq.{take-suc-set, append-snoc, drop-cons, drop-set-lt, take-all}
+use lib.Arith.{lt-of-le-ne}
+use lib.Ieee.{Float, nan}
+use borrow.Author.Tests.{eqb-true, eqb-false}
+use Rattle.arithmetic.specs.Sanitize.{finiteOrZero}
+use Rattle.keeper.specs.InOrder.{mostFrames}
+use Rattle.keeper.specs.Keeper.{steppedOf}
+use Rattle.envelope.specs.Row.{nextPos}
+use Rattle.envelope.specs.Step.{Enveloped, gainStepOf, EnvReady}
+use Rattle.envelope.proofs.Gain.{env-after}
+use Rattle.frame.specs.Rules.{Rules}
+use Rattle.frame.specs.Frame.{heard, givenOut}
+use Rattle.frame.specs.Passes.{heardAll, Gains, gainsOf, posAfter, Outputs, outputsAt, channelOutputs}
+
+-- ---- a list whose elements are replaced in turn
+module _ (l : List Float) (i : ℕ) (h : i < length l) where
+  pub split : drop i l ≡ getD l i nan ∷ drop (i + 1) l
+  split = rw (add-one i) (drop-cons l i nan h)
+
+  pub kept : (y : Float) → drop (i + 1) (set l i y) ≡ drop (i + 1) l
+  kept y = drop-set-lt (i + 1) l i y (omega arith)
+
+  pub stored : (y : Float) (rest : List Float) → take (i + 1) (set l i y) ++ rest ≡ take i l ++ (y ∷ rest)
+  stored y rest = rw (add-one i, take-suc-set l i y h) (append-snoc (take i l) y rest)
+
+-- all passed
+pub none-left : (l : List Float) (i : ℕ) → length l ≤ i → drop i l ≡ []
+none-left l i h = drop-of-length-le l {i = i} h
+
+pub all-stored : (l : List Float) (i : ℕ) → length l ≤ i → take i l ++ [] ≡ l
+all-stored l i h = append-nil (take i l) ∙ take-all i l h
+
+-- ---- required gains
+module _ (f : Float → Float) (l : List Float) (i : ℕ) where
+  pub map-more : (y : Float) → i < length l → y ≡ f (getD l i nan) → take (i + 1) (set l i y) ++ map f (drop (i + 1) (set l i y)) ≡ take i l ++ map f (drop i l)
+  map-more y h e = rw (stored l i h y (map f (drop (i + 1) (set l i y))), kept l i h y, split l i h, e) refl
+
+  pub map-done : length l ≤ i → l ≡ take i l ++ map f (drop i l)
+  map-done h = rw (none-left l i h) (sym (all-stored l i h))
+
+-- ---- a channel's share in the peaks
+module _ (counts : Bool) (l xs answers : List Float) (i : ℕ) where
+  pub heard-more : (y : Float) → i < length l → i < length xs → i < length answers → y ≡ heard counts (getD l i nan) (getD xs i nan) (getD answers i nan)
+      → take (i + 1) (set l i y) ++ heardAll counts (drop (i + 1) (set l i y)) (drop (i + 1) xs) (drop (i + 1) answers) ≡ take i l ++ heardAll counts (drop i l) (drop i xs) (drop i answers)
+  unfolding heardAll
+  heard-more y h k m e =
+      stored l i h y (heardAll counts (drop (i + 1) (set l i y)) (drop (i + 1) xs) (drop (i + 1) answers))
+      ∙ rw (kept l i h y, split l i h, split xs i k, split answers i m, e) refl
+
+  pub heard-done : length l ≤ i → l ≡ take i l ++ heardAll counts (drop i l) (drop i xs) (drop i answers)
+  unfolding heardAll
+  heard-done h = rw (none-left l i h) (sym (all-stored l i h))
+
+-- ---- gain steps
+-- the gains passed, and what the rest comes to
+abbrev pub gainsFrom : List Float → Float → Enveloped → ℕ → List Float → Gains
+gainsFrom weights coeff e i l =
+    let later = gainsOf weights coeff e (drop i l) in
+    record { gains = take i l ++ later .gains; env = later .env }
+
+module _ (weights : List Float) (coeff : Float) (e : Enveloped) (i : ℕ) (l : List Float) where
+  pub gains-more : (next : Enveloped) → i < length l → next ≡ gainStepOf weights coeff e (getD l i nan) .env
+      → gainsFrom weights coeff next (i + 1) (set l i (next .gain)) ≡ gainsFrom weights coeff e i l
+  unfolding gainsOf
+  gains-more next h n =
+      let y = next .gain in
+      let later = gainsOf weights coeff next (drop (i + 1) l) in
+      let a : gainsFrom weights coeff next (i + 1) (set l i y) ≡ record { gains = take i l ++ (y ∷ later .gains); env = later .env } =
+      rw (kept l i h y, stored l i h y (later .gains)) refl
+      in
+      a ∙ rw (split l i h, n) refl
+
+  pub gains-done : length l ≤ i → record { gains = l; env = e } ≡ gainsFrom weights coeff e i l
+  unfolding gainsOf
+  gains-done h = rw (none-left l i h, all-stored l i h) refl
+
+  -- a step takes a frame, and leaves an envelope that is ready where there is room
+  pub frame-more : gainStepOf weights coeff e (getD l i nan) .env .keeping .keeper .frame ≡ e .keeping .keeper .frame + 1
+  unfolding gainStepOf steppedOf
+  frame-more = refl
+
+  pub ready-more : (n : ℕ) → EnvReady weights e → e .keeping .keeper .frame + (n - i) ≤ mostFrames → i + 1 < n → EnvReady weights (gainStepOf weights coeff e (getD l i nan) .env)
+  ready-more n r h k = env-after weights coeff e (getD l i nan) r (omega arith)
+
+-- ---- outputs
+pub next-inside : (look pos : ℕ) → pos < look → nextPos look pos < look
+next-inside look pos h = go (eqb (pos + 1) look) refl
+  where
+    go : (b : Bool) → eqb (pos + 1) look ≡ b → cond b 0 (pos + 1) < look
+    go true e = omega (arith, eqb-true (pos + 1) look e)
+    go false e = lt-of-le-ne (omega arith) (eqb-false (pos + 1) look e)
+
+-- the outputs passed, and what the rest comes to
+abbrev pub outputsFrom : Rules → ℕ → ℕ → List Float → List Float → ℕ → List Float → Outputs
+outputsFrom rules look pos gains line i l =
+    let later = channelOutputs rules look pos (drop i gains) line (drop i l) in
+    outputsAt (take i l ++ later .outputs) (later .line)
+
+module _ (rules : Rules) (look : ℕ) (pos : ℕ) (gains line : List Float) (i : ℕ) (l : List Float) where
+  pub outputs-more : (x y : Float) (next : ℕ) → i < length l → i < length gains → x ≡ finiteOrZero (getD l i nan) → y ≡ givenOut rules (getD line pos nan) (getD gains i nan) → next ≡ nextPos look pos
+      → outputsFrom rules look next gains (set line pos x) (i + 1) (set l i y) ≡ outputsFrom rules look pos gains line i l
+  unfolding channelOutputs
+  outputs-more x y next h k e f n =
+      let later = channelOutputs rules look next (drop (i + 1) gains) (set line pos x) (drop (i + 1) l) in
+      let a : outputsFrom rules look next gains (set line pos x) (i + 1) (set l i y) ≡ outputsAt (take i l ++ (y ∷ later .outputs)) (later .line) =
+      rw (kept l i h y, stored l i h y (later .outputs)) refl
+      in
+      a ∙ rw (split l i h, split gains i k, e, f, n) refl
+
+  pub outputs-done : length l ≤ i → length gains ≡ length l → outputsAt l line ≡ outputsFrom rules look pos gains line i l
+  unfolding channelOutputs
+  outputs-done h k = rw (none-left l i h, none-left gains i (omega arith), all-stored l i h) refl
+
+-- ---- the delay position
+pub pos-more : (look p n i : ℕ) → i < n → posAfter look (nextPos look p) (n - (i + 1)) ≡ posAfter look p (n - i)
+unfolding posAfter
+pos-more look p n i h = let e : n - i ≡ suc (n - (i + 1)) = omega arith in rw e refl
+
+pub pos-done : (look p n i : ℕ) → n ≤ i → p ≡ posAfter look p (n - i)
+unfolding posAfter
+pos-done look p n i h = let e : n - i ≡ 0 = omega arith in rw e refl
+
+pub pos-inside : (look p n : ℕ) → p < look → posAfter look p n < look
+unfolding posAfter
+pos-inside look p zero h = h
+pos-inside look p (suc n) h = pos-inside look (nextPos look p) n (next-inside look p h)
+
+-- ---- the first n of a fresh array
+pub first-of : (n k : ℕ) (x : Float) → n ≤ k → take n (replicate k x) ≡ replicate n x
+first-of zero k x h = refl
+first-of (suc n) zero x h = absurd (omega arith)
+first-of (suc n) (suc k) x h = ap (λ (l : List Float). x ∷ l) (first-of n k x (omega arith))

@@ -1,0 +1,106 @@
+-- `gain_steps`: the gains passed, and what the rest comes to.
+use mathlib.Core.Path.{_≡_, refl, sym, ap, _∙_, subst}
+use Prim.Native.Nat.{_+_, _-_, _≤_, _<_}
+use native.Mathlib.Omega.{arith}
+use borrow.Author.Needs.{needs}
+use lib.ListN.{length, getD, length-set}
+use lib.Ieee.{nan}
+use denote.Ref.{now}
+use Rattle.keeper.specs.InOrder.{mostFrames}
+use Rattle.envelope.specs.Step.{Enveloped, GainStepped, envelopedAt, gainStepOf, EnvReady}
+use Rattle.frame.specs.Passes.{gainsOf}
+use Rattle.frame.proofs.Turns.{gainsFrom, gains-more, gains-done, ready-more, frame-more}
+use Rattle.frame.proofs.gains.gain_steps.Statement.{statement}
+use Rattle.frame.proofs.gains.gain_steps.Tie as tie
+
+abbrev Inv-loop : tie.InvT-loop
+Inv-loop marks₀ minima₀ weights row₀ coeff gains₀ n e₀ i₀ marks minima row gains e i =
+    (i ≤ n) × (length gains ≡ n) × (e .keeper .frame + (n - i) ≤ mostFrames) × (i < n → EnvReady weights (envelopedAt e marks minima row))
+    × (gainsFrom weights coeff (envelopedAt e marks minima row) i gains ≡ gainsOf weights coeff (envelopedAt e₀ marks₀ minima₀ row₀) gains₀)
+    × (length marks ≡ length marks₀) × (length minima ≡ length minima₀) × (length row ≡ length row₀)
+
+abbrev μ-loop : tie.MeasureT-loop
+μ-loop marks₀ minima₀ weights row₀ coeff gains₀ n e₀ i₀ marks minima row gains e i = n - i
+
+loop-holds : tie.Need-loop-holds Inv-loop μ-loop
+loop-holds c = (search needs, refl, omega arith, λ k. c .before .before .before .before .before .pre .0, refl, refl, refl, refl)
+
+mul-step-env : tie.Need-mul-step-env Inv-loop μ-loop
+mul-step-env c = search needs
+
+slice-read-step-env : tie.Need-slice-read-step-env Inv-loop μ-loop
+slice-read-step-env c = search needs
+
+step-env-requires : tie.Need-step-env-requires Inv-loop μ-loop
+step-env-requires c κs = let l = c .before .before .before .before .before in l .loop .inv .3 (c .before .before .before .before .loop-test .taken)
+
+mul-gains : tie.Need-mul-gains Inv-loop μ-loop
+mul-gains c = search needs
+
+slice-write-gains : tie.Need-slice-write-gains Inv-loop μ-loop
+slice-write-gains c = search needs
+
+add-i : tie.Need-add-i Inv-loop μ-loop
+add-i c = search needs
+
+loop-less : tie.Need-loop-less Inv-loop μ-loop
+loop-less c = search needs
+
+loop-again : tie.Need-loop-again Inv-loop μ-loop
+loop-again c =
+    let s = c .before .before .before .before .before .before .before in
+    let l = s .before .before .before .before .before .before in
+    let a = l .before .before .before .before .before .before .args in
+    let w = now (a .weights) in
+    let e = envelopedAt (l .loop .e) (l .loop .marks) (l .loop .minima) (l .loop .row) in
+    let next = envelopedAt (s .step-env .result .env) (s .step-env .last .1 .0) (s .step-env .last .1 .1 .0) (s .step-env .last .1 .1 .1 .1 .0) in
+    let came : next ≡ gainStepOf w (a .coeff) e (getD (l .loop .gains) (l .loop .i) nan) .env = ap (λ (g : GainStepped). g .env) (s .step-env .ensures) in
+    let frame = ap (λ (f : Enveloped). f .keeping .keeper .frame) came ∙ frame-more w (a .coeff) e (l .loop .i) (l .loop .gains) in (
+      omega arith,
+      simp length-set (l .loop .inv .1),
+      omega (arith, frame, l .loop .inv .2, s .before .before .before .before .before .loop-test .taken),
+      λ k. subst (λ (f : Enveloped). EnvReady w f) (sym came) (ready-more w (a .coeff) e (l .loop .i) (l .loop .gains) (length (now (a .gains))) (l .loop .inv .3 (s .before .before .before .before .before .loop-test .taken)) (l .loop .inv .2) k),
+      gains-more w (a .coeff) e (l .loop .i) (l .loop .gains) next (omega arith) came ∙ l .loop .inv .4,
+      s .step-env .kept .1 .0 ∙ l .loop .inv .5,
+      s .step-env .kept .1 .1 .0 ∙ l .loop .inv .6,
+      s .step-env .kept .1 .1 .1 .1 .0 ∙ l .loop .inv .7,
+    )
+
+same-length : tie.Need-same-length Inv-loop μ-loop
+same-length c = search needs
+
+same-length-2 : tie.Need-same-length-2 Inv-loop μ-loop
+same-length-2 c = search needs
+
+same-length-3 : tie.Need-same-length-3 Inv-loop μ-loop
+same-length-3 c = search needs
+
+same-length-4 : tie.Need-same-length-4 Inv-loop μ-loop
+same-length-4 c = search needs
+
+returns : tie.Need-returns Inv-loop μ-loop
+returns c =
+    let l = c .before in
+    let a = l .before .before .before .before .before .before .args in
+    gains-done (now (a .weights)) (a .coeff) (envelopedAt (l .loop .e) (l .loop .marks) (l .loop .minima) (l .loop .row)) (l .loop .i) (l .loop .gains) (omega arith) ∙ l .loop .inv .4
+
+pub gain-steps-spec : {M : Type 1} → statement M
+gain-steps-spec =
+    tie.close
+    (tie.spec
+    Inv-loop
+    μ-loop
+    loop-holds
+    mul-step-env
+    slice-read-step-env
+    step-env-requires
+    mul-gains
+    slice-write-gains
+    add-i
+    loop-less
+    loop-again
+    same-length
+    same-length-2
+    same-length-3
+    same-length-4
+    returns)

@@ -1,0 +1,137 @@
+-- `all_outputs`: the channels passed, and what the rest comes to.
+use mathlib.Core.Path.{_≡_, refl, sym, ap, _∙_}
+use Prim.Native.Nat.{_+_, _-_, _*_, _≤_, _<_}
+use native.Mathlib.Omega.{arith}
+use borrow.Author.Needs.{needs}
+use lib.ListN.{length, length-set}
+use denote.Ref.{now}
+use Rattle.frame.specs.Rules.{presentRules}
+use Rattle.frame.specs.Passes.{posAfter, outputsPass}
+use Rattle.frame.proofs.Channels.{places-end, part-length, outputsSince, outputs-start, outputs-end, outputs-turn}
+use Rattle.frame.proofs.outputs.all_outputs.Statement.{statement}
+use Rattle.frame.proofs.outputs.all_outputs.Tie as tie
+
+abbrev Inv-loop : tie.InvT-loop
+Inv-loop channels look pos n gains delay₀ audio₀ next₀ c₀ delay audio next c =
+    (c ≤ channels) × (length delay ≡ channels * look) × (length audio ≡ 256) × (outputsSince presentRules look pos gains channels n c delay audio ≡ outputsPass presentRules look pos gains channels n delay₀ audio₀)
+    × (1 ≤ c → next ≡ posAfter look pos n)
+
+abbrev μ-loop : tie.MeasureT-loop
+μ-loop channels look pos n gains delay₀ audio₀ next₀ c₀ delay audio next c = channels - c
+
+loop-holds : tie.Need-loop-holds Inv-loop μ-loop
+loop-holds c =
+    let a = c .before .before .before .args in
+    (search needs, search needs, search needs, outputs-start presentRules (a .look) (a .pos) (now (a .gains)) (a .channels) (a .n) (now (a .delay)) (now (a .audio)), λ k. absurd (omega arith))
+
+mul-at : tie.Need-mul-at Inv-loop μ-loop
+mul-at c =
+    let l = c .before in
+    let a = l .before .before .before .before .args in
+    omega (arith, places-end (l .loop .c) (a .channels) (a .look) (c .loop-test .taken), l .loop .inv .1)
+
+mul-first : tie.Need-mul-first Inv-loop μ-loop
+mul-first c = search needs
+
+add-channel-outputs : tie.Need-add-channel-outputs Inv-loop μ-loop
+add-channel-outputs c =
+    let l = c .before in
+    let a = l .before .before .before .before .args in
+    omega (arith, places-end (l .loop .c) (a .channels) (a .look) (c .loop-test .taken), l .loop .inv .1)
+
+mul-channel-outputs : tie.Need-mul-channel-outputs Inv-loop μ-loop
+mul-channel-outputs c =
+    let l = c .before in
+    let a = l .before .before .before .before .args in
+    omega (arith, places-end (l .loop .c) (a .channels) (a .look) (c .loop-test .taken), l .loop .inv .1)
+
+sub-channel-outputs : tie.Need-sub-channel-outputs Inv-loop μ-loop
+sub-channel-outputs c = search needs
+
+part-channel-outputs-start : tie.Need-part-channel-outputs-start Inv-loop μ-loop
+part-channel-outputs-start c = search needs
+
+part-channel-outputs-end : tie.Need-part-channel-outputs-end Inv-loop μ-loop
+part-channel-outputs-end c =
+    let l = c .before in
+    let a = l .before .before .before .before .args in
+    omega (arith, places-end (l .loop .c) (a .channels) (a .look) (c .loop-test .taken), l .loop .inv .1)
+
+add-channel-outputs-2 : tie.Need-add-channel-outputs-2 Inv-loop μ-loop
+add-channel-outputs-2 c = search needs
+
+mul-channel-outputs-2 : tie.Need-mul-channel-outputs-2 Inv-loop μ-loop
+mul-channel-outputs-2 c = search needs
+
+sub-channel-outputs-2 : tie.Need-sub-channel-outputs-2 Inv-loop μ-loop
+sub-channel-outputs-2 c = search needs
+
+part-channel-outputs-start-2 : tie.Need-part-channel-outputs-start-2 Inv-loop μ-loop
+part-channel-outputs-start-2 c = search needs
+
+part-channel-outputs-end-2 : tie.Need-part-channel-outputs-end-2 Inv-loop μ-loop
+part-channel-outputs-end-2 c = search needs
+
+channel-outputs-requires : tie.Need-channel-outputs-requires Inv-loop μ-loop
+channel-outputs-requires c κs = search needs
+
+add-c : tie.Need-add-c Inv-loop μ-loop
+add-c c = search needs
+
+loop-less : tie.Need-loop-less Inv-loop μ-loop
+loop-less c = search needs
+
+loop-again : tie.Need-loop-again Inv-loop μ-loop
+loop-again c =
+    let o = c .before .before .before .before in
+    let l = o .before .before .before .before in
+    let a = l .before .before .before .before .args in (
+      omega arith,
+      search needs,
+      search needs,
+      outputs-turn presentRules (a .look) (a .pos) (now (a .gains)) (a .channels) (a .n) (l .loop .c) (l .loop .c * a .look + a .look - l .loop .c * a .look) (l .loop .c * 32 + a .n - l .loop .c * 32) (l .loop .delay) (l .loop .audio)
+          (o .channel-outputs .last .0) (o .channel-outputs .last .1 .1 .1 .0) (omega arith) (l .loop .inv .1) (omega arith) (omega arith) (omega arith) (omega arith)
+          (o .channel-outputs .kept .0) (o .channel-outputs .kept .1 .1 .1 .0) (o .channel-outputs .ensures .0)
+          ∙ l .loop .inv .3,
+      λ k. o .channel-outputs .ensures .1
+          ∙ rw (part-length (l .loop .delay) (l .loop .c * a .look) (a .look) (l .loop .c * a .look + a .look - l .loop .c * a .look) (rw (l .loop .inv .1) (places-end (l .loop .c) (a .channels) (a .look) (omega arith))) (omega arith), part-length (l .loop .audio) (l .loop .c * 32) (a .n) (l .loop .c * 32 + a .n - l .loop .c * 32) (omega arith) (omega arith)) refl,
+    )
+
+same-length : tie.Need-same-length Inv-loop μ-loop
+same-length c = search needs
+
+same-length-2 : tie.Need-same-length-2 Inv-loop μ-loop
+same-length-2 c = search needs
+
+returns : tie.Need-returns Inv-loop μ-loop
+returns c =
+    let l = c .before in
+    let a = l .before .before .before .before .args in
+    (outputs-end presentRules (a .look) (a .pos) (now (a .gains)) (a .channels) (a .n) (l .loop .c) (l .loop .delay) (l .loop .audio) (omega arith) ∙ l .loop .inv .3, l .loop .inv .4 (omega arith))
+
+pub all-outputs-spec : {M : Type 1} → statement M
+all-outputs-spec =
+    tie.close
+    (tie.spec
+    Inv-loop
+    μ-loop
+    loop-holds
+    mul-at
+    mul-first
+    add-channel-outputs
+    mul-channel-outputs
+    sub-channel-outputs
+    part-channel-outputs-start
+    part-channel-outputs-end
+    add-channel-outputs-2
+    mul-channel-outputs-2
+    sub-channel-outputs-2
+    part-channel-outputs-start-2
+    part-channel-outputs-end-2
+    channel-outputs-requires
+    add-c
+    loop-less
+    loop-again
+    same-length
+    same-length-2
+    returns)

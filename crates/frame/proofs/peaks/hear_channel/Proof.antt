@@ -1,0 +1,45 @@
+-- `hear_channel`: each callee's promise in its place of the definition.
+use borrow.Author.Needs.{needs}
+use denote.Ref.{now}
+use Rattle.frame.proofs.Channels.{channel-heard}
+use Rattle.frame.proofs.peaks.hear_channel.Statement.{statement}
+use Rattle.frame.proofs.peaks.hear_channel.Tie as tie
+
+copy-run-requires : tie.Need-copy-run-requires
+copy-run-requires c κs = search needs
+
+peaks-abs-requires : tie.Need-peaks-abs-requires
+peaks-abs-requires c κs = search needs
+
+hear-run-requires : tie.Need-hear-run-requires
+hear-run-requires c κs = search needs
+
+same-length : tie.Need-same-length
+same-length c = search needs
+
+same-length-2 : tie.Need-same-length-2
+same-length-2 c = search needs
+
+same-length-3 : tie.Need-same-length-3
+same-length-3 c = search needs
+
+returns : tie.Need-returns
+returns c =
+    let h = c .before .before in
+    let p = c .before .before .before .before .before .before .before .before .before in
+    let r = p .before .before .before .before .before in
+    let s = c .before .before .before .before .before .before .before .before .before .before .before .before .before .before .before .before .before .before .before .before in
+    channel-heard (now (s .args .store)) (now (s .args .samples)) (now (s .args .peaks)) (r .copy-run .last .1 .0) (h .hear-run .last .0) (p .peaks-abs .last .1 .0) (p .peaks-abs .last .0)
+    (s .pre .0) (s .pre .1 .1 .1) (r .copy-run .ensures) (p .peaks-abs .ensures) (h .hear-run .ensures)
+
+pub hear-channel-spec : {M : Type 1} → statement M
+hear-channel-spec =
+    tie.close
+    (tie.spec
+    copy-run-requires
+    peaks-abs-requires
+    hear-run-requires
+    same-length
+    same-length-2
+    same-length-3
+    returns)

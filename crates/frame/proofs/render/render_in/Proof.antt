@@ -1,0 +1,101 @@
+-- `render_in`: the passes add up to the frames in turn.
+use mathlib.Core.Path.{_≡_, sym, ap, _∙_}
+use mathlib.Core.List.{List}
+use Prim.Native.Nat.{_+_, _*_, _≤_}
+use native.Mathlib.Omega.{arith}
+use borrow.Author.Needs.{needs}
+use lib.ListN.{length, length-replicate}
+use lib.Ieee.{Float}
+use denote.Ref.{now}
+use Rattle.arithmetic.specs.Number.{zero}
+use Rattle.detector.specs.Run.{runLength}
+use Rattle.frame.specs.Rules.{presentRules}
+use Rattle.frame.specs.Run.{movingAt}
+use Rattle.frame.specs.Passes.{peaksAt, peaksPass, gainsAt, writtenAt}
+use Rattle.frame.proofs.Exchange.{run-passes}
+use Rattle.frame.proofs.render.render_in.Statement.{statement}
+use Rattle.frame.proofs.render.render_in.Tie as tie
+
+so-many : (s : tie.Start) → length (now (s .args .gains)) ≡ s .args .n
+so-many s = ap (λ (l : List Float). length l) (s .pre .1) ∙ length-replicate (s .args .n) zero
+
+all-peaks-requires : tie.Need-all-peaks-requires
+all-peaks-requires c κs = let s = c .before .before .before .before .before .before .before .before .before .before .before in let r = s .pre .0 in (r .most, (r .short, (r .audio-fit, (r .detector-fit, so-many s))))
+
+required-gains-requires : tie.Need-required-gains-requires
+required-gains-requires c κs = search needs
+
+gain-steps-requires : tie.Need-gain-steps-requires
+gain-steps-requires c κs =
+    let s = c .before .before .before .before .before .before .before .before .before .before .before .before .before .before .before .before .before .before .before .before .before .before .before .before in
+    let r = s .pre .0 in
+    let many = c .before .before .before .before .before .before .required-gains .kept .1 .0 ∙ c .before .before .before .before .before .before .before .before .before .before .before .before .all-peaks .kept .1 .1 .1 .1 .0 ∙ so-many s in
+    (r .env, rw many (r .room))
+
+all-outputs-requires : tie.Need-all-outputs-requires
+all-outputs-requires c κs =
+    let s = c .before .before .before .before .before .before .before .before .before .before .before .before .before .before .before .before .before .before .before .before .before .before .before .before .before .before .before .before .before .before .before .before .before .before .before .before in
+    let r = s .pre .0 in
+    (r .some, (r .most, (r .short, (r .place, (r .audio-fit, (r .delay-fit, c .before .before .before .before .before .before .before .before .before .before .before .gain-steps .kept .1 .1 .1 .1 .1 .1 .0 ∙ c .before .before .before .before .before .before .before .before .before .before .before .before .before .before .before .before .before .before .required-gains .kept .1 .0 ∙ c .before .before .before .before .before .before .before .before .before .before .before .before .before .before .before .before .before .before .before .before .before .before .before .before .all-peaks .kept .1 .1 .1 .1 .0 ∙ so-many s))))))
+
+same-length : tie.Need-same-length
+same-length c = search needs
+
+same-length-2 : tie.Need-same-length-2
+same-length-2 c = search needs
+
+same-length-3 : tie.Need-same-length-3
+same-length-3 c = search needs
+
+same-length-4 : tie.Need-same-length-4
+same-length-4 c = search needs
+
+same-length-5 : tie.Need-same-length-5
+same-length-5 c = search needs
+
+same-length-6 : tie.Need-same-length-6
+same-length-6 c = c .before .before .before .before .before .before .before .before .before .before .before .before .before .before .before .before .before .before .before .before .before .before .before .before .before .before .before .before .before .all-peaks .kept .1 .1 .1 .0
+
+same-length-7 : tie.Need-same-length-7
+same-length-7 c = c .before .before .before .before .before .before .before .before .before .before .before .before .before .before .before .before .gain-steps .kept .1 .1 .1 .1 .1 .1 .0 ∙ c .before .before .before .before .before .before .before .before .before .before .before .before .before .before .before .before .before .before .before .before .before .before .before .required-gains .kept .1 .0 ∙ c .before .before .before .before .before .before .before .before .before .before .before .before .before .before .before .before .before .before .before .before .before .before .before .before .before .before .before .before .before .all-peaks .kept .1 .1 .1 .1 .0
+
+returns : tie.Need-returns
+returns c =
+    let o = c .before .before .before .before in
+    let g = c .before .before .before .before .before .before .before .before .before .before .before .before .before .before .before .before in
+    let q = c .before .before .before .before .before .before .before .before .before .before .before .before .before .before .before .before .before .before .before .before .before .before .before in
+    let p = c .before .before .before .before .before .before .before .before .before .before .before .before .before .before .before .before .before .before .before .before .before .before .before .before .before .before .before .before .before in
+    let s = c .before .before .before .before .before .before .before .before .before .before .before .before .before .before .before .before .before .before .before .before .before .before .before .before .before .before .before .before .before .before .before .before .before .before .before .before .before .before .before .before .before in
+    let r = s .pre .0 in
+    let a = s .args in
+    let audio = now (a .audio) in
+    let m = movingAt (a .env) (a .pos) (now (a .delay)) (now (a .marks)) (now (a .minima)) (now (a .row)) (now (a .detector)) in
+    let enough : a .channels * runLength ≤ length audio = omega (arith, r .most, r .audio-fit) in
+    run-passes presentRules (now (a .weights)) (a .coeff) (a .look) (a .target) (a .channels) (a .n) m audio (r .short) (r .delay-fit) (r .detector-fit) enough
+    (peaksAt (p .all-peaks .last .1 .1 .1 .1 .0) (p .all-peaks .last .1 .1 .1 .0))
+    (q .required-gains .last .1 .0)
+    (gainsAt (g .gain-steps .result) (g .gain-steps .last .1 .0) (g .gain-steps .last .1 .1 .0) (g .gain-steps .last .1 .1 .1 .1 .0) (g .gain-steps .last .1 .1 .1 .1 .1 .1 .0))
+    (writtenAt (o .all-outputs .last .1 .1 .1 .1 .1 .1 .0) (o .all-outputs .last .1 .1 .1 .1 .1 .0))
+    (o .all-outputs .result)
+    (p .all-peaks .ensures ∙ ap (λ (l : List Float). peaksPass presentRules 0 (a .channels) (a .n) l (now (a .detector)) audio) (s .pre .1))
+    (q .required-gains .ensures)
+    (g .gain-steps .ensures)
+    (o .all-outputs .ensures .0)
+    (o .all-outputs .ensures .1)
+
+pub render-in-spec : {M : Type 1} → statement M
+render-in-spec =
+    tie.close
+    (tie.spec
+    all-peaks-requires
+    required-gains-requires
+    gain-steps-requires
+    all-outputs-requires
+    same-length
+    same-length-2
+    same-length-3
+    same-length-4
+    same-length-5
+    same-length-6
+    same-length-7
+    returns)

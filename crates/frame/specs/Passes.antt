@@ -1,0 +1,93 @@
+-- How the code goes about a run: in passes over all its frames, each channel by itself. That the passes add up to the frames in turn is proved in proofs/.
+use Prim.Native.Nat.{ℕ, zero, suc, _+_}
+use mathlib.Core.Bool.{Bool}
+use mathlib.Core.List.{List, [], _∷_, _++_, map}
+use lib.ListN.{getD, set, take, drop}
+use lib.Ieee.{Float, nan}
+use Rattle.arithmetic.specs.Sanitize.{finiteOrZero}
+use Rattle.detector.specs.Oversample.{remembered}
+use Rattle.detector.specs.Run.{runLength, pushesOf}
+use Rattle.envelope.specs.Row.{nextPos}
+use Rattle.envelope.specs.Step.{Enveloped, gainStepOf, envelopedAt}
+use Rattle.envelope.specs.declared.env.Envelope.{Envelope}
+use Rattle.frame.specs.Rules.{Rules}
+use Rattle.frame.specs.Frame.{heard, givenOut}
+
+-- ---- peaks
+-- a channel's share in the peak of each frame
+unfoldable pub heardAll : Bool → List Float → List Float → List Float → List Float
+heardAll counts [] xs answers = []
+heardAll counts (p ∷ ps) [] answers = []
+heardAll counts (p ∷ ps) (x ∷ xs) [] = []
+heardAll counts (p ∷ ps) (x ∷ xs) (a ∷ later) = heard counts p x a ∷ heardAll counts ps xs later
+
+pub record Peaks : Type 0 where
+  pub peaks : List Float
+  pub detector : List Float
+
+abbrev pub peaksAt : List Float → List Float → Peaks
+peaksAt peaks detector = record { peaks = peaks; detector = detector }
+
+unfoldable pub channelPeaks : Rules → ℕ → List Float → List Float → List Float → Peaks
+channelPeaks rules c peaks store xs =
+    let o = pushesOf (rules .taps) store xs in
+    peaksAt (heardAll (rules .counts c) peaks xs (o .peaks)) (o .store)
+
+-- a channel, and what the later ones make of it
+unfoldable pub peaksPass : Rules → ℕ → ℕ → ℕ → List Float → List Float → List Float → Peaks
+peaksPass rules c zero n peaks detector audio = peaksAt peaks detector
+peaksPass rules c (suc k) n peaks detector audio =
+    let o = channelPeaks rules c peaks (take remembered detector) (take n audio) in
+    let later = peaksPass rules (c + 1) k n (o .peaks) (drop remembered detector) (drop runLength audio) in
+    peaksAt (later .peaks) (o .detector ++ later .detector)
+
+-- ---- gain steps
+pub record Gains : Type 0 where
+  pub gains : List Float
+  pub env : Enveloped
+
+abbrev pub gainsAt : Envelope → List ℕ → List Float → List Float → List Float → Gains
+gainsAt e marks minima row gains = record { gains = gains; env = envelopedAt e marks minima row }
+
+-- the gain applied after each of these required gains, and the envelope afterwards
+unfoldable pub gainsOf : List Float → Float → Enveloped → List Float → Gains
+gainsOf weights coeff e [] = record { gains = []; env = e }
+gainsOf weights coeff e (x ∷ xs) =
+    let next = gainStepOf weights coeff e x .env in
+    let later = gainsOf weights coeff next xs in
+    record { gains = next .gain ∷ later .gains; env = later .env }
+
+-- ---- outputs
+-- the delay position after n frames
+unfoldable pub posAfter : ℕ → ℕ → ℕ → ℕ
+posAfter look pos zero = pos
+posAfter look pos (suc n) = posAfter look (nextPos look pos) n
+
+pub record Outputs : Type 0 where
+  pub outputs : List Float
+  pub line : List Float
+
+abbrev pub outputsAt : List Float → List Float → Outputs
+outputsAt outputs line = record { outputs = outputs; line = line }
+
+-- one channel's outputs at these gains, and its line afterwards
+unfoldable pub channelOutputs : Rules → ℕ → ℕ → List Float → List Float → List Float → Outputs
+channelOutputs rules look pos [] line xs = outputsAt [] line
+channelOutputs rules look pos (g ∷ gs) line [] = outputsAt [] line
+channelOutputs rules look pos (g ∷ gs) line (x ∷ xs) =
+    let later = channelOutputs rules look (nextPos look pos) gs (set line pos (finiteOrZero x)) xs in
+    outputsAt (givenOut rules (getD line pos nan) g ∷ later .outputs) (later .line)
+
+pub record Written : Type 0 where
+  pub audio : List Float
+  pub delay : List Float
+
+abbrev pub writtenAt : List Float → List Float → Written
+writtenAt audio delay = record { audio = audio; delay = delay }
+
+unfoldable pub outputsPass : Rules → ℕ → ℕ → List Float → ℕ → ℕ → List Float → List Float → Written
+outputsPass rules look pos gains zero n delay audio = writtenAt audio delay
+outputsPass rules look pos gains (suc k) n delay audio =
+    let o = channelOutputs rules look pos gains (take look delay) (take n audio) in
+    let later = outputsPass rules look pos gains k n (drop look delay) (drop runLength audio) in
+    writtenAt (o .outputs ++ (drop n (take runLength audio) ++ later .audio)) (o .line ++ later .delay)

@@ -1,0 +1,11 @@
+// One run of frames through the limiter (`render` and `flush` of limiter.rs): linked peak, required gain,
+// gain step, delayed output.
+
+// The linked peak over the channels.
+mod peaks;
+// Required gains and gain steps.
+mod gains;
+// The delayed outputs.
+mod outputs;
+// A run in passes.
+pub mod render;

@@ -1,0 +1,83 @@
+// The delayed outputs of a run.
+ghost use mathlib.Core.Path.{_≡_};
+ghost use Prim.Native.Nat.{_+_, _*_, _≤_, _<_};
+ghost use lib.ListN.{length};
+ghost use Rattle.detector.specs.Run.{runLength};
+ghost use Rattle.envelope.specs.Row.{nextPos};
+ghost use Rattle.frame.specs.Rules.{presentRules};
+ghost use Rattle.frame.specs.Frame.{givenOut};
+ghost use Rattle.frame.specs.Passes.{posAfter, outputsAt, channelOutputs, writtenAt, outputsPass};
+use arithmetic::sanitize::finite_or_zero;
+use arithmetic::sanitize::flush_denormal;
+
+// The position after this one, round at the line's end.
+fn next_pos(look: usize, pos: usize) -> usize
+    requires { ⌜ pos < look ⌝ }
+    ensures { λ r. ⌜ r ≡ nextPos look pos ⌝ }
+    ensures { λ r. ⌜ r < look ⌝ }
+{
+    let next = pos + 1;
+    if next == look { 0 } else { next }
+}
+
+// What a frame gives out for what lay in the line.
+fn given_out(d: f64, gain: f64) -> f64
+    ensures { λ r. ⌜ r ≡ givenOut presentRules d gain ⌝ }
+{
+    flush_denormal(finite_or_zero(d) * gain)
+}
+
+// One channel over a run: the outputs take the samples' places, and the samples go into the line. The
+// position that the next frame finds is handed back.
+fn channel_outputs(line: &mut [f64], pos: usize, gains: &[f64], samples: &mut [f64]) -> usize
+    requires { ⌜ pos < length (now line) ⌝ }
+    requires { ⌜ length (now gains) ≡ length (now samples) ⌝ }
+    ensures { λ _. ⌜ outputsAt (now (samples .exit)) (now (line .exit)) ≡ channelOutputs presentRules (length (now (line .entry))) pos (now (gains .entry)) (now (line .entry)) (now (samples .entry)) ⌝ }
+    ensures { λ r. ⌜ r ≡ posAfter (length (now (line .entry))) pos (length (now (samples .entry))) ⌝ }
+{
+    let look = line.len();
+    let n = samples.len();
+    let mut p = pos;
+    for i in 0..n {
+        let x = finite_or_zero(samples[i]);
+        let d = line[p];
+        line[p] = x;
+        p = next_pos(look, p);
+        samples[i] = given_out(d, gains[i]);
+    }
+    p
+}
+
+// All channels over a run of n frames. Each goes on from the same position to the same position.
+pub fn all_outputs(
+    channels: usize,
+    look: usize,
+    pos: usize,
+    n: usize,
+    gains: &[f64],
+    delay: &mut [f64],
+    audio: &mut [f64],
+) -> usize
+    requires { ⌜ 1 ≤ channels ⌝ }
+    requires { ⌜ channels ≤ 8 ⌝ }
+    requires { ⌜ n ≤ runLength ⌝ }
+    requires { ⌜ pos < look ⌝ }
+    requires { ⌜ length (now audio) ≡ 8 * runLength ⌝ }
+    requires { ⌜ length (now delay) ≡ channels * look ⌝ }
+    requires { ⌜ length (now gains) ≡ n ⌝ }
+    ensures { λ _. ⌜ writtenAt (now (audio .exit)) (now (delay .exit)) ≡ outputsPass presentRules look pos (now (gains .entry)) channels n (now (delay .entry)) (now (audio .entry)) ⌝ }
+    ensures { λ r. ⌜ r ≡ posAfter look pos n ⌝ }
+{
+    let mut next = pos;
+    for c in 0..channels {
+        let at = c * look;
+        let first = c * 32;
+        next = channel_outputs(
+            &mut delay[at..at + look],
+            pos,
+            gains,
+            &mut audio[first..first + n],
+        );
+    }
+    next
+}

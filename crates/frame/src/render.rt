@@ -1,0 +1,90 @@
+// A run of up to 32 frames, in passes over all its frames (`render` of limiter.rs; a drain is a run of silence).
+ghost use mathlib.Core.Path.{_≡_};
+ghost use lib.ListN.{replicate};
+ghost use Rattle.arithmetic.specs.Number.{zero};
+ghost use Rattle.frame.specs.Rules.{presentRules};
+ghost use Rattle.frame.specs.Run.{runOf, movingAt, renderedAt, RunReady};
+use crate::gains::gain_steps;
+use crate::gains::required_gains;
+use crate::outputs::all_outputs;
+use crate::peaks::all_peaks;
+use envelope::env::Envelope;
+
+// What a run leaves beside the stores.
+pub struct Rendered {
+    pub env: Envelope,
+    // the delay position
+    pub pos: usize,
+}
+
+// The passes. The gains, one for each frame, start at 0.0, where the linked peaks start.
+fn render_in(
+    env: Envelope,
+    coeff: f64,
+    target: f64,
+    channels: usize,
+    look: usize,
+    pos: usize,
+    n: usize,
+    audio: &mut [f64],
+    delay: &mut [f64],
+    marks: &mut [u64],
+    minima: &mut [f64],
+    weights: &[f64],
+    row: &mut [f64],
+    detector: &mut [f64],
+    gains: &mut [f64],
+) -> Rendered
+    requires { ⌜ RunReady (now weights) look channels n (movingAt env pos (now delay) (now marks) (now minima) (now row) (now detector)) (now audio) ⌝ }
+    requires { ⌜ now gains ≡ replicate n zero ⌝ }
+    ensures { λ r. ⌜ renderedAt r (now (audio .exit)) (now (delay .exit)) (now (marks .exit)) (now (minima .exit)) (now (row .exit)) (now (detector .exit)) ≡ runOf presentRules (now (weights .entry)) coeff look target channels n (movingAt env pos (now (delay .entry)) (now (marks .entry)) (now (minima .entry)) (now (row .entry)) (now (detector .entry))) (now (audio .entry)) ⌝ }
+{
+    all_peaks(channels, n, audio, detector, gains);
+    required_gains(target, gains);
+    let after = gain_steps(env, marks, minima, weights, row, coeff, gains);
+    let next = all_outputs(channels, look, pos, n, gains, delay, audio);
+    Rendered {
+        env: after,
+        pos: next,
+    }
+}
+
+// A run of n frames: each sample of `audio` gives way to its output.
+pub fn render_run(
+    env: Envelope,
+    coeff: f64,
+    target: f64,
+    channels: usize,
+    look: usize,
+    pos: usize,
+    n: usize,
+    audio: &mut [f64],
+    delay: &mut [f64],
+    marks: &mut [u64],
+    minima: &mut [f64],
+    weights: &[f64],
+    row: &mut [f64],
+    detector: &mut [f64],
+) -> Rendered
+    requires { ⌜ RunReady (now weights) look channels n (movingAt env pos (now delay) (now marks) (now minima) (now row) (now detector)) (now audio) ⌝ }
+    ensures { λ r. ⌜ renderedAt r (now (audio .exit)) (now (delay .exit)) (now (marks .exit)) (now (minima .exit)) (now (row .exit)) (now (detector .exit)) ≡ runOf presentRules (now (weights .entry)) coeff look target channels n (movingAt env pos (now (delay .entry)) (now (marks .entry)) (now (minima .entry)) (now (row .entry)) (now (detector .entry))) (now (audio .entry)) ⌝ }
+{
+    let mut gains = [0.0; 32];
+    render_in(
+        env,
+        coeff,
+        target,
+        channels,
+        look,
+        pos,
+        n,
+        audio,
+        delay,
+        marks,
+        minima,
+        weights,
+        row,
+        detector,
+        &mut gains[0..n],
+    )
+}

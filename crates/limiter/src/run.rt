@@ -1,0 +1,106 @@
+// A run of up to 32 frames through the limiter (`render` and `flush` of limiter.rs). Its audio has 32
+// places a channel, and each sample gives way to its output.
+ghost use mathlib.Core.Path.{_≡_};
+ghost use Prim.Native.Nat.{_+_};
+ghost use Rattle.frame.specs.Rules.{presentRules};
+ghost use Rattle.limiter.specs.Stores.{storesAt};
+ghost use Rattle.limiter.specs.Run.{movedOn, KernelReady, ranAt, renderOf, drainOf};
+use crate::state::Limiter;
+use crate::stores::fill;
+use frame::render::Rendered;
+use frame::render::render_run;
+
+impl Limiter {
+    // The state after a run.
+    fn moved_on(self, run: Rendered, target: f64, drained: usize) -> Limiter
+        ensures { λ r. ⌜ r ≡ movedOn self (run .env) (run .pos) target drained ⌝ }
+    {
+        let settings = self.settings;
+        let env = run.env;
+        Limiter {
+            settings,
+            rate: self.rate,
+            channels: self.channels,
+            max_block: self.max_block,
+            release_coeff: self.release_coeff,
+            env,
+            delay_pos: run.pos,
+            target,
+            drained,
+        }
+    }
+
+    fn drained_to(mut self, drained: usize) -> Limiter
+        ensures { λ r. ⌜ r ≡ movedOn self (self .env) (self .«delay_pos») (self .target) drained ⌝ }
+    {
+        self.drained = drained;
+        self
+    }
+
+    // Renders n frames at a target, which the limiter keeps for drains.
+    pub fn render(
+        self,
+        target: f64,
+        n: usize,
+        audio: &mut [f64],
+        delay: &mut [f64],
+        marks: &mut [u64],
+        minima: &mut [f64],
+        weights: &[f64],
+        row: &mut [f64],
+        detector: &mut [f64],
+    ) -> Limiter
+        requires { ⌜ KernelReady self n (storesAt (now delay) (now marks) (now minima) (now weights) (now row) (now detector)) (now audio) ⌝ }
+        ensures { λ r. ⌜ ranAt r (storesAt (now (delay .exit)) (now (marks .exit)) (now (minima .exit)) (now (weights .entry)) (now (row .exit)) (now (detector .exit))) (now (audio .exit)) ≡ renderOf presentRules self target n (storesAt (now (delay .entry)) (now (marks .entry)) (now (minima .entry)) (now (weights .entry)) (now (row .entry)) (now (detector .entry))) (now (audio .entry)) ⌝ }
+    {
+        let env = self.env;
+        let run = render_run(
+            env,
+            self.release_coeff,
+            target,
+            self.channels,
+            env.keeper.look,
+            self.delay_pos,
+            n,
+            audio,
+            delay,
+            marks,
+            minima,
+            weights,
+            row,
+            detector,
+        );
+        self.moved_on(run, target, 0)
+    }
+
+    // Drains n frames of the tail: silence at the kept target.
+    pub fn drain(
+        self,
+        n: usize,
+        audio: &mut [f64],
+        delay: &mut [f64],
+        marks: &mut [u64],
+        minima: &mut [f64],
+        weights: &[f64],
+        row: &mut [f64],
+        detector: &mut [f64],
+    ) -> Limiter
+        requires { ⌜ KernelReady self n (storesAt (now delay) (now marks) (now minima) (now weights) (now row) (now detector)) (now audio) ⌝ }
+        ensures { λ r. ⌜ ranAt r (storesAt (now (delay .exit)) (now (marks .exit)) (now (minima .exit)) (now (weights .entry)) (now (row .exit)) (now (detector .exit))) (now (audio .exit)) ≡ drainOf presentRules self n (storesAt (now (delay .entry)) (now (marks .entry)) (now (minima .entry)) (now (weights .entry)) (now (row .entry)) (now (detector .entry))) (now (audio .entry)) ⌝ }
+    {
+        fill(audio, 0.0);
+        let drained = self.drained + n;
+        let after = self.render(
+            self.target,
+            n,
+            audio,
+            delay,
+            marks,
+            minima,
+            weights,
+            row,
+            detector,
+        );
+        after.drained_to(drained)
+    }
+}
