@@ -1,20 +1,20 @@
 -- The turns of the loops over a run's channels: the stores of the channels passed, and what the rest comes to, stay the whole.
 use mathlib.Core.Path.{_≡_, refl, sym, ap, _∙_, subst}
 use mathlib.Core.Bool.{true}
-use mathlib.Core.List.{List, [], _∷_, _++_, append-nil, append-assoc}
-use Prim.Native.Nat.{ℕ, zero, suc, _+_, _-_, _*_, _≤_, _<_}
+use mathlib.Core.List.{List, [], _++_, append-nil, append-assoc}
+use Prim.Native.Nat.{ℕ, suc, _+_, _-_, _*_, _≤_, _<_}
 use native.Mathlib.Numerals.{add-one}
-use native.Mathlib.Nat.{add-mul, mul-le-mul-right, suc-mul, zero-mul}
+use native.Mathlib.Nat.{mul-le-mul-right, suc-mul, zero-mul}
 use native.Mathlib.Omega.{arith}
 use lib.ListN.{length, take, drop, length-append, length-drop, take-append-drop, drop-of-length-le}
-use lib.Seq.{length-take-le, drop-append-le, drop-drop, take-at, drop-at, take-all}
+use lib.Seq.{length-take-le, drop-append-le, drop-drop, take-at, drop-at}
 use lib.Ieee.{Float}
 use Rattle.detector.specs.Oversample.{remembered}
 use Rattle.detector.specs.Run.{runLength, RunOutcome, runOutcomeAt, pushesOf, peaksAbsOf}
 use Rattle.detector.specs.Taps.{taps}
 use Rattle.detector.proofs.Store.{run-pushes}
 use Rattle.frame.specs.Rules.{Rules, presentRules}
-use Rattle.frame.specs.Passes.{heardAll, Peaks, peaksAt, channelPeaks, peaksPass, Outputs, outputsAt, Written, writtenAt, channelOutputs, outputsPass}
+use Rattle.frame.specs.Passes.{heardAll, Peaks, peaksAt, channelPeaks, peaksPass, Outputs, outputsAt, Written, writtenAt, posAfter, channelOutputs, outputsPass}
 
 -- ---- one channel's places in a flat store: w of them, from c × w on
 pub one-more : (c w : ℕ) → (c + 1) * w ≡ c * w + w
@@ -76,9 +76,9 @@ peaks-start rules channels n peaks detector audio =
     let e : channels - 0 ≡ channels = omega arith in
     rw (e, zero-mul remembered, zero-mul runLength) refl
 
-pub peaks-done : (rules : Rules) (channels n c : ℕ) (peaks detector audio : List Float) → channels ≤ c → length detector ≡ channels * remembered → peaksAt peaks detector ≡ peaksSince rules channels n c peaks detector audio
+pub peaks-done : (rules : Rules) (channels n c : ℕ) (peaks detector audio : List Float) → channels ≤ c → peaksAt peaks detector ≡ peaksSince rules channels n c peaks detector audio
 unfolding peaksPass
-peaks-done rules channels n c peaks detector audio h l =
+peaks-done rules channels n c peaks detector audio h =
     let e : channels - c ≡ 0 = omega arith in
     rw (e, take-append-drop (c * remembered) detector) refl
 
@@ -172,6 +172,11 @@ module _ (rules : Rules) (look pos : ℕ) (gains : List Float) (channels n : ℕ
       let at : take ((c + 1) * runLength) a' ≡ take b audio ++ (ys ++ drop n (take runLength (drop b audio))) = rw (one-more c runLength, e2) (put-passed audio ys b runLength n g p few) in
       let ad : drop ((c + 1) * runLength) a' ≡ drop runLength (drop b audio) = rw (one-more c runLength, e2) (put-ahead audio ys b runLength n g p few) in
       outputs-next c delay audio (outputsAt ys line) d' a' h (rw (e1, e2, part-length delay a look look within refl) at o) dt dd at ad
+
+pub pos-turn : (look pos channels n c k1 k2 : ℕ) (delay audio : List Float) (next : ℕ) → c < channels → length delay ≡ channels * look → c * runLength + n ≤ length audio → k1 ≡ look → k2 ≡ n
+    → next ≡ posAfter (length (take k1 (drop (c * look) delay))) pos (length (take k2 (drop (c * runLength) audio))) → next ≡ posAfter look pos n
+pos-turn look pos channels n c k1 k2 delay audio next h f g e1 e2 o =
+    rw (part-length delay (c * look) look k1 (rw f (places-end c channels look h)) e1, part-length audio (c * runLength) n k2 g e2) at o
 
 -- ---- one channel's peaks, from what the calls find
 pub channel-heard : (store samples peaks run heardPeaks answers left : List Float) → length store ≡ remembered → length samples ≤ runLength → run ≡ samples

@@ -1,47 +1,55 @@
 -- A run in passes is the run frame by frame: each channel's store and line is its own, so its frames can be taken before the next channel's.
-use mathlib.Core.Path.{_≡_, refl, sym, ap, _∙_, subst}
+use mathlib.Core.Path.{_≡_, refl, sym, ap, _∙_}
 use mathlib.Core.Bool.{Bool}
 use mathlib.Core.List.{List, [], _∷_, _++_, map}
-use Prim.Native.Nat.{ℕ, zero, suc, _+_, _-_, _*_, _≤_, _<_}
+use Prim.Native.Nat.{ℕ, zero, suc, _+_, _-_, _*_, _≤_}
 use native.Mathlib.Nat.{suc-mul, suc-inj}
 use native.Mathlib.Omega.{arith}
-use lib.ListN.{length, getD, set, take, drop, replicate, length-set, length-drop, length-map, length-replicate, take-append-drop}
+use lib.ListN.{length, set, take, drop, replicate, length-set, length-drop, length-map, length-replicate, take-append-drop}
 use lib.Seq.{take-at, drop-at, length-take-le}
 use lib.Ieee.{Float}
 use Rattle.arithmetic.specs.Number
 use Rattle.arithmetic.specs.Sanitize.{finiteOrZero}
-use Rattle.detector.specs.Oversample.{Outcome, remembered, peakAbsOf}
+use Rattle.detector.specs.Oversample.{remembered, peakAbsOf}
 use Rattle.detector.specs.Run.{runLength, pushesOf}
 use Rattle.detector.proofs.Store.{push-length, pushes-length}
 use Rattle.envelope.specs.Row.{nextPos}
 use Rattle.envelope.specs.Step.{Enveloped, gainStepOf}
 use Rattle.frame.specs.Rules.{Rules}
-use Rattle.frame.specs.Frame.{heard, Linked, linkedFrom, requiredGain, Delayed, delayedFrom, Moving, Framed, frameOf}
-use Rattle.frame.specs.Run.{Frames, framesOf, before, framesIn, firstOf, othersOf, writtenIn, RunDone, runOf}
-use Rattle.frame.specs.Passes.{heardAll, Peaks, peaksAt, channelPeaks, peaksPass, Gains, gainsOf, posAfter, Outputs, outputsAt, channelOutputs, Written, writtenAt, outputsPass}
+use Rattle.frame.specs.Frame.{heard, linkedFrom, requiredGain, delayedFrom, Moving, Framed, frameOf}
+use Rattle.frame.specs.Run.{Frames, framesOf, frameIn, framesFrom, framesIn, firstOf, othersOf, writtenIn, RunDone, runOf, gainsOfFrames}
+use Rattle.frame.proofs.Turns.{split}
+use Rattle.frame.specs.Passes.{heardAll, Peaks, peaksAt, channelPeaks, peaksPass, Gains, gainsOf, posAfter, channelOutputs, Written, writtenAt, outputsPass}
 
--- ---- lengths
-before-length : (xs : List Float) (fs : List (List Float)) → length xs ≡ length fs → length (before xs fs) ≡ length fs
-unfolding before
-before-length [] [] h = refl
-before-length [] (f ∷ fs) h = absurd (omega arith)
-before-length (x ∷ xs) [] h = absurd (omega arith)
-before-length (x ∷ xs) (f ∷ fs) h = ap suc (before-length xs fs (omega arith))
+-- ---- the frames of a run, channel by channel
+pub frames-length : (k n i : ℕ) (audio : List Float) → length (framesFrom k i n audio) ≡ n
+unfolding framesFrom
+frames-length k zero i audio = refl
+frames-length k (suc n) i audio = ap suc (frames-length k n (i + 1) audio)
+
+-- a channel's samples each before the frame of the other channels' samples
+unfoldable before : List Float → List (List Float) → List (List Float)
+before [] frames = []
+before (x ∷ xs) [] = []
+before (x ∷ xs) (f ∷ fs) = (x ∷ f) ∷ before xs fs
+
+frames-beside : (k n i : ℕ) (audio : List Float) → i + n ≤ length audio → framesFrom (suc k) i n audio ≡ before (take n (drop i audio)) (framesFrom k i n (drop runLength audio))
+unfolding framesFrom frameIn before
+frames-beside k zero i audio h = refl
+frames-beside k (suc n) i audio h = rw (split audio i (omega arith), frames-beside k n (i + 1) audio (omega arith)) refl
+
+frames-none : (n i : ℕ) (audio : List Float) → framesFrom 0 i n audio ≡ replicate n []
+unfolding framesFrom frameIn
+frames-none zero i audio = refl
+frames-none (suc n) i audio = ap (λ (l : List (List Float)). [] ∷ l) (frames-none n (i + 1) audio)
 
 -- each channel has n samples
-module _ (n : ℕ) (short : n ≤ runLength) where
-  samples-length : (k : ℕ) (audio : List Float) → suc k * runLength ≤ length audio → length (take n audio) ≡ n
-  samples-length k audio h = let e = suc-mul k runLength in length-take-le n audio (omega arith)
+module _ (n : ℕ) (short : n ≤ runLength) (k : ℕ) (audio : List Float) (h : suc k * runLength ≤ length audio) where
+  samples-fit : n ≤ length audio
+  samples-fit = let e = suc-mul k runLength in omega arith
 
-  others-fit : (k : ℕ) (audio : List Float) → suc k * runLength ≤ length audio → k * runLength ≤ length (drop runLength audio)
-  others-fit k audio h = let e = suc-mul k runLength in rw (length-drop runLength audio) (omega arith)
-
-  pub frames-length : (k : ℕ) (audio : List Float) → k * runLength ≤ length audio → length (framesIn k n audio) ≡ n
-  unfolding framesIn
-  frames-length zero audio h = length-replicate n []
-  frames-length (suc k) audio h =
-      let i = frames-length k (drop runLength audio) (others-fit k audio h) in
-      before-length (take n audio) (framesIn k n (drop runLength audio)) (samples-length k audio h ∙ sym i) ∙ i
+  others-fit : k * runLength ≤ length (drop runLength audio)
+  others-fit = let e = suc-mul k runLength in rw (length-drop runLength audio) (omega arith)
 
 heard-length : (counts : Bool) (ps xs answers : List Float) → length xs ≡ length ps → length answers ≡ length ps → length (heardAll counts ps xs answers) ≡ length ps
 unfolding heardAll
@@ -99,19 +107,20 @@ module _ (rules : Rules) where
   -- channel by channel
   pass-linked : (k c n : ℕ) (ps detector audio : List Float) → n ≤ runLength → length ps ≡ n → length detector ≡ k * remembered → k * runLength ≤ length audio
       → linkedAll rules c ps detector (framesIn k n audio) ≡ peaksPass rules c k n ps detector audio
-  unfolding framesIn peaksPass
-  pass-linked zero c n ps detector audio short m d a = rw (← m) (none-heard c ps detector)
+  unfolding peaksPass
+  pass-linked zero c n ps detector audio short m d a = rw (frames-none n 0 audio, ← m) (none-heard c ps detector)
   pass-linked (suc k) c n ps detector audio short m d a =
       let s = take remembered detector in
       let r = drop remembered detector in
       let xs = take n audio in
       let fs = framesIn k n (drop runLength audio) in
       let w = suc-mul k remembered in
-      let xn = samples-length n short k audio a in
-      let fn = frames-length n short k (drop runLength audio) (others-fit n short k audio a) in
+      let xn = length-take-le n audio (samples-fit n short k audio a) in
+      let fn = frames-length k n 0 (drop runLength audio) in
       let o = channelPeaks rules c ps s xs in
       let i = pass-linked k (c + 1) n (o .peaks) r (drop runLength audio) short (heard-enough c ps s xs (xn ∙ sym m) ∙ m) (rw (length-drop remembered detector) (omega arith)) (others-fit n short k audio a) in
-      ap (λ (l : List Float). linkedAll rules c ps l (before xs fs)) (sym (take-append-drop remembered detector))
+      ap (linkedAll rules c ps detector) (frames-beside k n 0 audio (omega (arith, samples-fit n short k audio a)))
+      ∙ ap (λ (l : List Float). linkedAll rules c ps l (before xs fs)) (sym (take-append-drop remembered detector))
       ∙ channel-first c ps xs fs s r (length-take-le remembered detector (omega arith)) (xn ∙ sym m) (fn ∙ sym m)
       ∙ ap (λ (later : Peaks). peaksAt (later .peaks) (o .detector ++ later .detector)) i
 
@@ -188,21 +197,21 @@ module _ (rules : Rules) (look pos : ℕ) (gs : List Float) where
   -- channel by channel
   pass-delayed : (k n : ℕ) (delay audio : List Float) → n ≤ runLength → length gs ≡ n → length delay ≡ k * look → k * runLength ≤ length audio
       → written k n audio delay (delayedAll rules look pos gs delay (framesIn k n audio)) ≡ outputsPass rules look pos gs k n delay audio
-  unfolding framesIn outputsPass writtenIn
-  pass-delayed zero n delay audio short m d a = rw (← m) (ap (writtenAt audio) (none-moved rules look pos gs delay))
+  unfolding outputsPass writtenIn
+  pass-delayed zero n delay audio short m d a = rw (frames-none n 0 audio, ← m) (ap (writtenAt audio) (none-moved rules look pos gs delay))
   pass-delayed (suc k) n delay audio short m d a =
       let s = take look delay in
       let r = drop look delay in
       let xs = take n audio in
       let fs = framesIn k n (drop runLength audio) in
       let w = suc-mul k look in
-      let xn = samples-length n short k audio a in
-      let fn = frames-length n short k (drop runLength audio) (others-fit n short k audio a) in
+      let xn = length-take-le n audio (samples-fit n short k audio a) in
+      let fn = frames-length k n 0 (drop runLength audio) in
       let o = channelOutputs rules look pos gs s xs in
       let later = delayedAll rules look pos gs r fs in
       let i = pass-delayed k n r (drop runLength audio) short m (rw (length-drop look delay) (omega arith)) (others-fit n short k audio a) in
       let many = outputs-many rules look pos gs s xs (xn ∙ sym m) ∙ sym (delayed-many rules look pos gs r fs (fn ∙ sym m)) in
-      let e = ap (λ (l : List Float). delayedAll rules look pos gs l (before xs fs)) (sym (take-append-drop look delay)) ∙ channel-beside rules look pos gs xs fs s r (length-take-le look delay (omega arith)) (xn ∙ sym m) (fn ∙ sym m) in
+      let e = ap (delayedAll rules look pos gs delay) (frames-beside k n 0 audio (omega (arith, samples-fit n short k audio a))) ∙ ap (λ (l : List Float). delayedAll rules look pos gs l (before xs fs)) (sym (take-append-drop look delay)) ∙ channel-beside rules look pos gs xs fs s r (length-take-le look delay (omega arith)) (xn ∙ sym m) (fn ∙ sym m) in
       let left = drop n (take runLength audio) in
       ap (written (suc k) n audio delay) e
       ∙ rw (firsts (o .outputs) (later .outputs) many, others (o .outputs) (later .outputs) many) refl
@@ -226,6 +235,7 @@ module _ (rules : Rules) (weights : List Float) (coeff : Float) (look : ℕ) (ta
   delaysOf m fs = delayedAll rules look (m .pos) (stepsOf m fs .gains) (m .delay) fs
 
   record Apart (m : Moving) (fs : List (List Float)) (r : Frames) : Type 0 where
+    gains : gainsOfFrames (r .frames) ≡ stepsOf m fs .gains
     outs : outputsOf (r .frames) ≡ delaysOf m fs .outputs
     env : r .moving .env ≡ stepsOf m fs .env
     delay : r .moving .delay ≡ delaysOf m fs .delay
@@ -234,11 +244,11 @@ module _ (rules : Rules) (weights : List Float) (coeff : Float) (look : ℕ) (ta
 
   apart : (m : Moving) (fs : List (List Float)) → Apart m fs (framesOf rules weights coeff look target m fs)
   unfolding framesOf frameOf linkedAll gainsOf delayedAll posAfter
-  apart m [] = record { outs = refl; env = refl; delay = refl; pos = refl; detector = refl }
+  apart m [] = record { gains = refl; outs = refl; env = refl; delay = refl; pos = refl; detector = refl }
   apart m (f ∷ fs) =
       let x = frameOf rules weights coeff look target m f in
       let i = apart (x .moving) fs in
-      record { outs = ap (λ (l : List (List Float)). x .outputs ∷ l) (i .outs); env = i .env; delay = i .delay; pos = i .pos; detector = i .detector }
+      record { gains = ap (λ (l : List Float). x .gain ∷ l) (i .gains); outs = ap (λ (l : List (List Float)). x .outputs ∷ l) (i .outs); env = i .env; delay = i .delay; pos = i .pos; detector = i .detector }
 
   -- ---- a run in passes
   linked-many : (c : ℕ) (ps detector : List Float) (fs : List (List Float)) → length fs ≡ length ps → length (linkedAll rules c ps detector fs .peaks) ≡ length ps
@@ -263,32 +273,54 @@ module _ (rules : Rules) (weights : List Float) (coeff : Float) (look : ℕ) (ta
     fs = framesIn channels n audio
 
     so-many : length fs ≡ n
-    so-many = frames-length n short channels audio enough
+    so-many = frames-length channels n 0 audio
 
-    pub run-passes : (P : Peaks) (rg : List Float) (G : Gains) (W : Written) (p : ℕ) → P ≡ peaksPass rules 0 channels n (replicate n Number.zero) (m .detector) audio → rg ≡ required (P .peaks)
-        → G ≡ gainsOf weights coeff (m .env) rg → W ≡ outputsPass rules look (m .pos) (G .gains) channels n (m .delay) audio → p ≡ posAfter look (m .pos) n
-        → runDone (G .env) (W .delay) p (P .detector) (W .audio) ≡ runOf rules weights coeff look target channels n m audio
-    unfolding runOf
-    run-passes P rg G W p pe re ge we pe' =
-        let i = apart m fs in
-        let zs = replicate n Number.zero in
-        let linked = linkedAll rules 0 zs (m .detector) fs in
-        let counted : peaksOf m fs ≡ linked = ap (λ (k : ℕ). linkedAll rules 0 (replicate k Number.zero) (m .detector) fs) so-many in
-        let zl : length zs ≡ n = length-replicate n Number.zero in
-        let P' : peaksOf m fs ≡ P = counted ∙ pass-linked rules channels 0 n zs (m .detector) audio short zl detectors enough ∙ sym pe in
-        let G' : stepsOf m fs ≡ G = ap (λ (q : Peaks). gainsOf weights coeff (m .env) (required (q .peaks))) P' ∙ sym (ge ∙ ap (gainsOf weights coeff (m .env)) re) in
-        let peaks-n : length (peaksOf m fs .peaks) ≡ n = ap (λ (q : Peaks). length (q .peaks)) counted ∙ linked-many 0 zs (m .detector) fs (so-many ∙ sym zl) ∙ zl in
-        let gains-n : length (stepsOf m fs .gains) ≡ n = gains-many (m .env) (required (peaksOf m fs .peaks)) ∙ length-map (peaksOf m fs .peaks) (λ (q : Float). requiredGain target q) ∙ peaks-n in
-        let gs = stepsOf m fs .gains in
-        let W' : written rules look (m .pos) gs channels n audio (m .delay) (delaysOf m fs) ≡ W =
-        pass-delayed rules look (m .pos) gs channels n (m .delay) audio short gains-n delays enough
-        ∙ ap (λ (q : Gains). outputsPass rules look (m .pos) (q .gains) channels n (m .delay) audio) G'
-        ∙ sym we
-        in
-        let r = framesOf rules weights coeff look target m fs in
-        same-run (G .env) (r .moving .env) (W .delay) (r .moving .delay) p (r .moving .pos) (P .detector) (r .moving .detector) (W .audio) (writtenIn channels n audio (outputsOf (r .frames)))
-        (sym (i .env ∙ ap (λ (q : Gains). q .env) G'))
-        (sym (i .delay ∙ ap (λ (q : Written). q .delay) W'))
-        (pe' ∙ sym (i .pos ∙ ap (posAfter look (m .pos)) so-many))
-        (sym (i .detector ∙ ap (λ (q : Peaks). q .detector) P'))
-        (sym (ap (writtenIn channels n audio) (i .outs) ∙ ap (λ (q : Written). q .audio) W'))
+    -- the passes as the code makes them: from peaks that start at 0.0 to the outputs
+    module _ (zs : List Float) (P : Peaks) (rg : List Float) (G : Gains) (ze : zs ≡ replicate n Number.zero) (pe : P ≡ peaksPass rules 0 channels n zs (m .detector) audio) (re : rg ≡ required (P .peaks)) (ge : G ≡ gainsOf weights coeff (m .env) rg) where
+      zeros : length zs ≡ n
+      zeros = ap (λ (l : List Float). length l) ze ∙ length-replicate n Number.zero
+
+      counted : peaksOf m fs ≡ linkedAll rules 0 zs (m .detector) fs
+      counted = ap (λ (l : List Float). linkedAll rules 0 l (m .detector) fs) (ap (λ (k : ℕ). replicate k Number.zero) so-many ∙ sym ze)
+
+      peaks-are : peaksOf m fs ≡ P
+      peaks-are = counted ∙ pass-linked rules channels 0 n zs (m .detector) audio short zeros detectors enough ∙ sym pe
+
+      steps-are : stepsOf m fs ≡ G
+      steps-are = ap (λ (q : Peaks). gainsOf weights coeff (m .env) (required (q .peaks))) peaks-are ∙ sym (ge ∙ ap (gainsOf weights coeff (m .env)) re)
+
+      gains-so-many : length (stepsOf m fs .gains) ≡ n
+      gains-so-many =
+          gains-many (m .env) (required (peaksOf m fs .peaks))
+          ∙ length-map (peaksOf m fs .peaks) (λ (q : Float). requiredGain target q)
+          ∙ ap (λ (q : Peaks). length (q .peaks)) counted
+          ∙ linked-many 0 zs (m .detector) fs (so-many ∙ sym zeros)
+          ∙ zeros
+
+      -- the gains are those of the frames in turn
+      run-gains : G .gains ≡ gainsOfFrames (framesOf rules weights coeff look target m fs .frames)
+      run-gains = sym (apart m fs .gains ∙ ap (λ (q : Gains). q .gains) steps-are)
+
+      run-passes : (W : Written) (p : ℕ) → W ≡ outputsPass rules look (m .pos) (G .gains) channels n (m .delay) audio → p ≡ posAfter look (m .pos) n
+          → runDone (G .env) (W .delay) p (P .detector) (W .audio) ≡ runOf rules weights coeff look target channels n m audio
+      unfolding runOf
+      run-passes W p we pos =
+          let i = apart m fs in
+          let gs = stepsOf m fs .gains in
+          let written-is : written rules look (m .pos) gs channels n audio (m .delay) (delaysOf m fs) ≡ W =
+          pass-delayed rules look (m .pos) gs channels n (m .delay) audio short gains-so-many delays enough
+          ∙ ap (λ (q : Gains). outputsPass rules look (m .pos) (q .gains) channels n (m .delay) audio) steps-are
+          ∙ sym we
+          in
+          let r = framesOf rules weights coeff look target m fs in
+          same-run (G .env) (r .moving .env) (W .delay) (r .moving .delay) p (r .moving .pos) (P .detector) (r .moving .detector) (W .audio) (writtenIn channels n audio (outputsOf (r .frames)))
+          (sym (i .env ∙ ap (λ (q : Gains). q .env) steps-are))
+          (sym (i .delay ∙ ap (λ (q : Written). q .delay) written-is))
+          (pos ∙ sym (i .pos ∙ ap (posAfter look (m .pos)) so-many))
+          (sym (i .detector ∙ ap (λ (q : Peaks). q .detector) peaks-are))
+          (sym (ap (writtenIn channels n audio) (i .outs) ∙ ap (λ (q : Written). q .audio) written-is))
+
+      -- what the passes add up to
+      pub run-done : (W : Written) (p : ℕ) → W ≡ outputsPass rules look (m .pos) (G .gains) channels n (m .delay) audio → p ≡ posAfter look (m .pos) n
+          → (runDone (G .env) (W .delay) p (P .detector) (W .audio) ≡ runOf rules weights coeff look target channels n m audio) × (G .gains ≡ gainsOfFrames (framesOf rules weights coeff look target m fs .frames))
+      run-done W p we pos = (run-passes W p we pos, run-gains)

@@ -1,9 +1,9 @@
 -- What frames and runs keep: an envelope that is ready, the stores' lengths, the position in its line, and a gain within 0 and 1.
-use mathlib.Core.Path.{_≡_, refl, sym, ap, _∙_, subst}
+use mathlib.Core.Path.{_≡_, refl, sym, ap, _∙_}
 use mathlib.Core.Bool.{true}
 use mathlib.Core.List.{List, [], _∷_, _++_, map}
 use Prim.Native.Nat.{ℕ, zero, suc, _+_, _-_, _*_, _≤_, _<_}
-use native.Mathlib.Nat.{suc-mul, suc-inj}
+use native.Mathlib.Nat.{suc-mul}
 use native.Mathlib.Omega.{arith}
 use lib.ListN.{length, getD, set, take, drop, length-append, length-set, length-drop, length-map, take-append-drop}
 use lib.Seq.{length-take-le}
@@ -15,14 +15,14 @@ use Rattle.detector.specs.Oversample.{remembered, peakAbsOf}
 use Rattle.detector.specs.Run.{runLength}
 use Rattle.detector.proofs.Store.{push-length}
 use Rattle.keeper.specs.InOrder.{mostFrames}
-use Rattle.keeper.specs.Keeper.{steppedOf}
-use Rattle.envelope.specs.Row.{nextPos}
-use Rattle.envelope.specs.Step.{gainStepOf, EnvReady}
-use Rattle.envelope.proofs.Gain.{env-after, gain-unit}
+use Rattle.keeper.specs.Keeper.{steppedOf, ordered}
+use Rattle.keeper.proofs.Step.{order-after}
+use Rattle.envelope.specs.Step.{Enveloped, gainStepOf, EnvReady}
+use Rattle.envelope.specs.Row.{pushed, rowInOrder}
+use Rattle.envelope.proofs.Gain.{gain-unit, pushed-in-order, step-floor-unit}
 use Rattle.frame.specs.Rules.{Rules}
 use Rattle.frame.specs.Frame.{heard, linkedFrom, requiredGain, delayedFrom, Moving, Framed, frameOf}
-use Rattle.frame.specs.Run.{framesOf, framesIn, othersOf, writtenIn, runOf, RunReady}
-use Rattle.frame.specs.Passes.{posAfter}
+use Rattle.frame.specs.Run.{followed, framesOf, framesIn, othersOf, writtenIn, runOf, RunReady}
 use Rattle.frame.proofs.Turns.{next-inside}
 use Rattle.frame.proofs.Exchange.{frames-length}
 
@@ -55,6 +55,36 @@ module _ (rules : Rules) (look pos : ℕ) (gain : Float) where
   outputs-length delay [] = refl
   outputs-length delay (x ∷ xs) = ap suc (outputs-length (drop look delay) xs)
 
+-- ---- the envelope in order, with no word of room for a frame more
+pub record EnvInOrder (weights : List Float) (e : Enveloped) : Type 0 where
+  pub marks-fit : length (e .keeping .marks) ≡ e .keeping .keeper .look + 1
+  pub minima-fit : length (e .keeping .minima) ≡ e .keeping .keeper .look + 1
+  pub in-order : ordered (e .keeping) ≡ true
+  pub row : rowInOrder (e .rowed .state) (e .rowed .row) ≡ true
+  pub weighed : length weights ≡ length (e .rowed .row)
+
+module _ (weights : List Float) (e : Enveloped) where
+  pub order-of-ready : EnvReady weights e → EnvInOrder weights e
+  order-of-ready r = record { marks-fit = r .keeper .marks-fit; minima-fit = r .keeper .minima-fit; in-order = r .keeper .in-order; row = r .row; weighed = r .weighed }
+
+  pub ready-of-order : EnvInOrder weights e → e .keeping .keeper .frame + 1 ≤ mostFrames → EnvReady weights e
+  ready-of-order o h = record {
+    keeper = record { marks-fit = o .marks-fit; minima-fit = o .minima-fit; in-order = o .in-order; room = h };
+    row = o .row;
+    weighed = o .weighed;
+  }
+
+  -- a step keeps it, whether or not there is room for another
+  pub step-in-order : (coeff x : Float) → EnvReady weights e → EnvInOrder weights (gainStepOf weights coeff e x .env)
+  unfolding gainStepOf pushed steppedOf
+  step-in-order coeff x r = record {
+    marks-fit = simp length-set (r .keeper .marks-fit);
+    minima-fit = simp length-set (r .keeper .minima-fit);
+    in-order = order-after (e .keeping) x (r .keeper);
+    row = pushed-in-order (e .rowed .state) (e .rowed .row) (steppedOf (e .keeping) x .floor) (r .row) (step-floor-unit (e .keeping) x (r .keeper));
+    weighed = simp length-set (r .weighed);
+  }
+
 -- ---- one frame
 module _ (rules : Rules) (weights : List Float) (coeff : Float) (look : ℕ) (target : Float) where
   abbrev frame : Moving → List Float → Framed
@@ -69,7 +99,7 @@ module _ (rules : Rules) (weights : List Float) (coeff : Float) (look : ℕ) (ta
   -- what frames keep, from before to after k of them
   pub record Kept (m after : Moving) (k : ℕ) : Type 0 where
     pub taken : after .env .keeping .keeper .frame ≡ m .env .keeping .keeper .frame + k
-    pub ready : EnvReady weights (m .env) → m .env .keeping .keeper .frame + (k + 1) ≤ mostFrames → EnvReady weights (after .env)
+    pub order : EnvInOrder weights (m .env) → m .env .keeping .keeper .frame + k ≤ mostFrames → EnvInOrder weights (after .env)
     pub delay : length (after .delay) ≡ length (m .delay)
     pub detector : length (after .detector) ≡ length (m .detector)
     pub place : m .pos < look → after .pos < look
@@ -81,7 +111,7 @@ module _ (rules : Rules) (weights : List Float) (coeff : Float) (look : ℕ) (ta
       let g = gainStepOf weights coeff (m .env) x in
       record {
         taken = refl;
-        ready = λ r h. env-after weights coeff (m .env) x r (omega arith);
+        order = λ o h. step-in-order weights (m .env) coeff x (ready-of-order weights (m .env) o (omega arith));
         delay = delay-length rules look (m .pos) (g .env .gain) (m .delay) xs;
         detector = detector-length rules 0 Number.zero (m .detector) xs;
         place = λ p. next-inside look (m .pos) p;
@@ -90,18 +120,25 @@ module _ (rules : Rules) (weights : List Float) (coeff : Float) (look : ℕ) (ta
   -- ---- frames in turn
   pub frames-kept : (fs : List (List Float)) (m : Moving) → Kept m (framesOf rules weights coeff look target m fs .moving) (length fs)
   unfolding framesOf
-  frames-kept [] m = record { taken = omega arith; ready = λ r h. r; delay = refl; detector = refl; place = λ p. p }
+  frames-kept [] m = record { taken = omega arith; order = λ o h. o; delay = refl; detector = refl; place = λ p. p }
   frames-kept (xs ∷ fs) m =
       let a = frame m xs .moving in
       let one-frame = frame-kept m xs in
       let later = frames-kept fs a in
       record {
         taken = omega (arith, later .taken, one-frame .taken);
-        ready = λ r h. later .ready (one-frame .ready r (omega arith)) (omega (arith, one-frame .taken));
+        order = λ o h. later .order (one-frame .order o (omega arith)) (omega (arith, one-frame .taken));
         delay = later .delay ∙ one-frame .delay;
         detector = later .detector ∙ one-frame .detector;
         place = λ p. later .place (one-frame .place p);
       }
+
+  -- frames in two lists, one after the other: how a block goes on from run to run
+  pub frames-append : (fs gs : List (List Float)) (m : Moving) → framesOf rules weights coeff look target m (fs ++ gs)
+      ≡ (let first = framesOf rules weights coeff look target m fs in let later = framesOf rules weights coeff look target (first .moving) gs in record { frames = first .frames ++ later .frames; moving = later .moving })
+  unfolding framesOf
+  frames-append [] gs m = refl
+  frames-append (xs ∷ fs) gs m = ap (followed (frame m xs)) (frames-append fs gs (frame m xs .moving))
 
   pub frames-many : (fs : List (List Float)) (m : Moving) → length (framesOf rules weights coeff look target m fs .frames) ≡ length fs
   unfolding framesOf
@@ -141,12 +178,13 @@ module _ (rules : Rules) (weights : List Float) (coeff : Float) (look : ℕ) (ta
   run-ready k r short room one-more =
       let fs = framesIn channels n audio in
       let enough : channels * runLength ≤ length audio = omega (arith, r .most, r .audio-fit) in
-      let many : length fs ≡ n = frames-length n (r .short) channels audio enough in
+      let many : length fs ≡ n = frames-length channels n 0 audio in
+      let after = framesOf rules weights coeff look target m fs .moving in
       let kept = frames-kept rules weights coeff look target fs m in
       let outs = map (λ (f : Framed). f .outputs) (framesOf rules weights coeff look target m fs .frames) in
       let outs-many : length outs ≡ n = length-map (framesOf rules weights coeff look target m fs .frames) (λ (f : Framed). f .outputs) ∙ frames-many rules weights coeff look target fs m ∙ many in
       record {
-        env = kept .ready (r .env) (rw many one-more);
+        env = ready-of-order weights (after .env) (kept .order (order-of-ready weights (m .env) (r .env)) (rw many (r .room))) (omega (arith, kept .taken, many));
         room = omega (arith, kept .taken, many);
         some = r .some;
         most = r .most;

@@ -3,3 +3,4 @@ pub mod Turns
 pub mod Channels
 pub mod Exchange
 pub mod Keeps
+pub mod Place

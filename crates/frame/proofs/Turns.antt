@@ -1,9 +1,10 @@
 -- The turns of the loops over a run's frames: what stands in the places passed, and what the rest comes to, stay the whole.
-use mathlib.Core.Path.{_≡_, refl, sym, ap, _∙_, subst}
+use mathlib.Core.Path.{_≡_, refl, sym, ap, _∙_}
 use mathlib.Core.Bool.{Bool, true, false, cond}
 use mathlib.Core.List.{List, [], _∷_, _++_, map, append-nil}
-use Prim.Native.Nat.{ℕ, zero, suc, _+_, _-_, _≤_, _<_}
+use Prim.Native.Nat.{ℕ, zero, suc, _+_, _-_, _%_, _≤_, _<_}
 use native.Mathlib.Numerals.{add-one}
+use native.Mathlib.Nat.{add-zero, zero-add, mod-eq-of-lt, add-mod-left}
 use native.Mathlib.Omega.{arith}
 use lib.Dec.{eqb}
 use lib.ListN.{length, getD, set, take, drop, replicate, drop-of-length-le}
@@ -15,7 +16,7 @@ use Rattle.arithmetic.specs.Sanitize.{finiteOrZero}
 use Rattle.keeper.specs.InOrder.{mostFrames}
 use Rattle.keeper.specs.Keeper.{steppedOf}
 use Rattle.envelope.specs.Row.{nextPos}
-use Rattle.envelope.specs.Step.{Enveloped, gainStepOf, EnvReady}
+use Rattle.envelope.specs.Step.{Enveloped, GainStepped, gainStepOf, EnvReady}
 use Rattle.envelope.proofs.Gain.{env-after}
 use Rattle.frame.specs.Rules.{Rules}
 use Rattle.frame.specs.Frame.{heard, givenOut}
@@ -68,7 +69,7 @@ gainsFrom weights coeff e i l =
     record { gains = take i l ++ later .gains; env = later .env }
 
 module _ (weights : List Float) (coeff : Float) (e : Enveloped) (i : ℕ) (l : List Float) where
-  pub gains-more : (next : Enveloped) → i < length l → next ≡ gainStepOf weights coeff e (getD l i nan) .env
+  gains-more : (next : Enveloped) → i < length l → next ≡ gainStepOf weights coeff e (getD l i nan) .env
       → gainsFrom weights coeff next (i + 1) (set l i (next .gain)) ≡ gainsFrom weights coeff e i l
   unfolding gainsOf
   gains-more next h n =
@@ -83,13 +84,16 @@ module _ (weights : List Float) (coeff : Float) (e : Enveloped) (i : ℕ) (l : L
   unfolding gainsOf
   gains-done h = rw (none-left l i h, all-stored l i h) refl
 
-  -- a step takes a frame, and leaves an envelope that is ready where there is room
-  pub frame-more : gainStepOf weights coeff e (getD l i nan) .env .keeping .keeper .frame ≡ e .keeping .keeper .frame + 1
+  -- a step takes a frame, leaves an envelope that is ready where there is room, and gives its gain
+  pub gains-turn : (n : ℕ) (s : GainStepped) → i < n → length l ≡ n → e .keeping .keeper .frame + (n - i) ≤ mostFrames → EnvReady weights e → s ≡ gainStepOf weights coeff e (getD l i nan)
+      → (s .env .keeping .keeper .frame + (n - (i + 1)) ≤ mostFrames) × (i + 1 < n → EnvReady weights (s .env)) × (gainsFrom weights coeff (s .env) (i + 1) (set l i (s .env .gain)) ≡ gainsFrom weights coeff e i l)
   unfolding gainStepOf steppedOf
-  frame-more = refl
-
-  pub ready-more : (n : ℕ) → EnvReady weights e → e .keeping .keeper .frame + (n - i) ≤ mostFrames → i + 1 < n → EnvReady weights (gainStepOf weights coeff e (getD l i nan) .env)
-  ready-more n r h k = env-after weights coeff e (getD l i nan) r (omega arith)
+  gains-turn n s h f room r came =
+      let frame : s .env .keeping .keeper .frame ≡ e .keeping .keeper .frame + 1 = ap (λ (g : GainStepped). g .env .keeping .keeper .frame) came in (
+        omega arith,
+        λ k. rw came (env-after weights coeff e (getD l i nan) r (omega arith)),
+        gains-more (s .env) (omega arith) (ap (λ (g : GainStepped). g .env) came),
+      )
 
 -- ---- outputs
 pub next-inside : (look pos : ℕ) → pos < look → nextPos look pos < look
@@ -139,3 +143,17 @@ pub first-of : (n k : ℕ) (x : Float) → n ≤ k → take n (replicate k x) �
 first-of zero k x h = refl
 first-of (suc n) zero x h = absurd (omega arith)
 first-of (suc n) (suc k) x h = ap (λ (l : List Float). x ∷ l) (first-of n k x (omega arith))
+
+-- ---- the position is the remainder, as the Rust has it
+pub pos-remainder : (look p n : ℕ) → p < look → posAfter look p n ≡ (p + n) % look
+unfolding posAfter
+pos-remainder look p zero h = sym (ap (λ (k : ℕ). k % look) (add-zero p) ∙ mod-eq-of-lt h)
+pos-remainder look p (suc n) h = pos-remainder look (nextPos look p) n (next-inside look p h) ∙ go (eqb (p + 1) look) refl
+  where
+    go : (b : Bool) → eqb (p + 1) look ≡ b → (nextPos look p + n) % look ≡ (p + suc n) % look
+    go true e =
+        let k : p + suc n ≡ look + n = omega (arith, eqb-true (p + 1) look e) in
+        rw (e, k, add-mod-left look n) (ap (λ (j : ℕ). j % look) (zero-add n))
+    go false e =
+        let k : p + 1 + n ≡ p + suc n = omega arith in
+        rw (e, k) refl

@@ -1,7 +1,7 @@
 -- How the code goes about a run: in passes over all its frames, each channel by itself. That the passes add up to the frames in turn is proved in proofs/.
 use Prim.Native.Nat.{ℕ, zero, suc, _+_}
 use mathlib.Core.Bool.{Bool}
-use mathlib.Core.List.{List, [], _∷_, _++_, map}
+use mathlib.Core.List.{List, [], _∷_, _++_}
 use lib.ListN.{getD, set, take, drop}
 use lib.Ieee.{Float, nan}
 use Rattle.arithmetic.specs.Sanitize.{finiteOrZero}

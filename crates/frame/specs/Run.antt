@@ -2,12 +2,12 @@
 use Prim.Native.Nat.{ℕ, zero, suc, _+_, _*_, _≤_, _<_}
 use mathlib.Core.Path.{_≡_}
 use mathlib.Core.List.{List, [], _∷_, _++_, map}
-use lib.ListN.{length, getD, take, drop, replicate}
+use lib.ListN.{length, getD, take, drop}
 use lib.Ieee.{Float, nan}
 use Rattle.detector.specs.Oversample.{remembered}
 use Rattle.detector.specs.Run.{runLength}
 use Rattle.keeper.specs.InOrder.{mostFrames}
-use Rattle.envelope.specs.Step.{Enveloped, EnvReady, envelopedAt}
+use Rattle.envelope.specs.Step.{EnvReady, envelopedAt}
 use Rattle.envelope.specs.declared.env.Envelope.{Envelope}
 use Rattle.frame.specs.Rules.{Rules}
 use Rattle.frame.specs.Frame.{Moving, Framed, frameOf}
@@ -28,17 +28,24 @@ framesOf rules weights coeff look target m (xs ∷ later) =
     let f = frameOf rules weights coeff look target m xs in
     followed f (framesOf rules weights coeff look target (f .moving) later)
 
+-- the gain applied in each frame
+abbrev pub gainsOfFrames : List Framed → List Float
+gainsOfFrames frames = map (λ (f : Framed). f .gain) frames
+
 -- ---- a run's audio
--- a channel's samples each before the frame of the other channels' samples
-unfoldable pub before : List Float → List (List Float) → List (List Float)
-before [] frames = []
-before (x ∷ xs) [] = []
-before (x ∷ xs) (f ∷ fs) = (x ∷ f) ∷ before xs fs
+-- frame i: the sample at place i of each channel
+unfoldable pub frameIn : ℕ → ℕ → List Float → List Float
+frameIn zero i audio = []
+frameIn (suc channels) i audio = getD audio i nan ∷ frameIn channels i (drop runLength audio)
+
+-- n frames, from frame i on
+unfoldable pub framesFrom : ℕ → ℕ → ℕ → List Float → List (List Float)
+framesFrom channels i zero audio = []
+framesFrom channels i (suc n) audio = frameIn channels i audio ∷ framesFrom channels (i + 1) n audio
 
 -- the first n frames of so many channels
-unfoldable pub framesIn : ℕ → ℕ → List Float → List (List Float)
-framesIn zero n audio = replicate n []
-framesIn (suc channels) n audio = before (take n audio) (framesIn channels n (drop runLength audio))
+abbrev pub framesIn : ℕ → ℕ → List Float → List (List Float)
+framesIn channels n audio = framesFrom channels 0 n audio
 
 -- the first channel's sample of a frame, and the other channels'
 abbrev pub firstOf : List Float → Float

@@ -3,7 +3,7 @@ ghost use mathlib.Core.Path.{_≡_};
 ghost use lib.ListN.{replicate};
 ghost use Rattle.arithmetic.specs.Number.{zero};
 ghost use Rattle.frame.specs.Rules.{presentRules};
-ghost use Rattle.frame.specs.Run.{runOf, movingAt, renderedAt, RunReady};
+ghost use Rattle.frame.specs.Run.{framesOf, gainsOfFrames, framesIn, runOf, movingAt, renderedAt, RunReady};
 use crate::gains::gain_steps;
 use crate::gains::required_gains;
 use crate::outputs::all_outputs;
@@ -17,7 +17,8 @@ pub struct Rendered {
     pub pos: usize,
 }
 
-// The passes. The gains, one for each frame, start at 0.0, where the linked peaks start.
+// The passes. `gains`, a place for each frame, starts at 0.0, where the linked peaks start, and holds the
+// gains applied at last.
 fn render_in(
     env: Envelope,
     coeff: f64,
@@ -38,6 +39,7 @@ fn render_in(
     requires { ⌜ RunReady (now weights) look channels n (movingAt env pos (now delay) (now marks) (now minima) (now row) (now detector)) (now audio) ⌝ }
     requires { ⌜ now gains ≡ replicate n zero ⌝ }
     ensures { λ r. ⌜ renderedAt r (now (audio .exit)) (now (delay .exit)) (now (marks .exit)) (now (minima .exit)) (now (row .exit)) (now (detector .exit)) ≡ runOf presentRules (now (weights .entry)) coeff look target channels n (movingAt env pos (now (delay .entry)) (now (marks .entry)) (now (minima .entry)) (now (row .entry)) (now (detector .entry))) (now (audio .entry)) ⌝ }
+    ensures { λ _. ⌜ now (gains .exit) ≡ gainsOfFrames (framesOf presentRules (now (weights .entry)) coeff look target (movingAt env pos (now (delay .entry)) (now (marks .entry)) (now (minima .entry)) (now (row .entry)) (now (detector .entry))) (framesIn channels n (now (audio .entry))) .frames) ⌝ }
 {
     all_peaks(channels, n, audio, detector, gains);
     required_gains(target, gains);

@@ -14,10 +14,10 @@ use Rattle.arithmetic.proofs.Order.{and-true}
 use Rattle.keeper.specs.Keeper.{keepingAt, ordered}
 use Rattle.envelope.specs.Row.{rowInOrder}
 use Rattle.settings.specs.Derived.{lookOf}
-use Rattle.settings.specs.Accepted.{lookTaken, channelsTaken}
+use Rattle.settings.specs.Accepted.{unless}
 use Rattle.frame.specs.Run.{RunReady}
 use Rattle.limiter.specs.Stores.{Stores, lengthsOf, lengthsFit}
-use Rattle.limiter.specs.Order.{prepared, inOrder}
+use Rattle.limiter.specs.Order.{prepared, inOrder, readyRefusal}
 use Rattle.limiter.specs.Run.{movingOf, KernelReady}
 use Rattle.limiter.specs.declared.state.Limiter.{Limiter}
 use Rattle.limiter.proofs.Judge.{Fit, fit}
@@ -55,6 +55,17 @@ order-is l marks minima row h =
       gain-is = f .0;
       target-is = f .1;
     }
+
+-- where neither 18, 16 nor 19 arises
+pub judged : (l : Limiter) (s : Stores) → readyRefusal l s ≡ 0
+    → (prepared l ≡ true) × (lengthsFit (l .channels) (l .env .keeper .look) (lengthsOf s) ≡ true) × (inOrder l (s .marks) (s .minima) (s .row) ≡ true)
+judged l s h = go (prepared l) (lengthsFit (l .channels) (l .env .keeper .look) (lengthsOf s)) (inOrder l (s .marks) (s .minima) (s .row)) h
+  where
+    go : (p f o : Bool) → unless p 18 (unless f 16 (unless o 19 0)) ≡ 0 → (p ≡ true) × (f ≡ true) × (o ≡ true)
+    go true true true e = (refl, refl, refl)
+    go true true false e = absurd (omega arith)
+    go true false o e = absurd (omega arith)
+    go false f o e = absurd (omega arith)
 
 -- ---- the bounds of what is set up
 pub record Bounds (l : Limiter) : Type 0 where

@@ -15,9 +15,11 @@ use Rattle.settings.specs.Accepted.{refusalOf}
 use Rattle.settings.specs.declared.LimiterSettings.{LimiterSettings}
 use Rattle.settings.specs.declared.memory.Cap.{Cap}
 use Rattle.settings.proofs.Taken.{taken}
-use Rattle.limiter.specs.Prepare.{numbered, storesRefusal, capReply, prepareRefusal, outcome, prepareOf}
+use Rattle.limiter.specs.Prepare.{numbered, prepareReply, answerOf, storesRefusal, capAnswer, prepareRefusal, outcome, prepareOf}
 use Rattle.limiter.specs.State.{notSetUp, started}
 use Rattle.limiter.specs.Stores.{Stores, Lengths, lengthsOf, lengthsFit, filled}
+use Rattle.limiter.specs.declared.prepare.PrepareAnswer.{PrepareAnswer}
+use Rattle.limiter.proofs.Answer.{first-told, stores-told, cap-told}
 
 -- what fitting lengths say
 pub record Fit (channels look : ℕ) (l : Lengths) : Type 0 where
@@ -55,14 +57,17 @@ pub row-most : (look : ℕ) → look ≤ 4096 → rowOf look ≤ 4096
 row-most look h = omega arith
 
 -- ---- the reply of setup, from what the code finds
-module _ (s : LimiterSettings) (rate channels block : ℕ) (cap : Cap) (l : Lengths) (weights : List Float) (r : Reply) (first : ℕ) (F : first ≡ refusalOf s rate channels block) where
-  pub at-first : (first ≡ 0 → ⊥) → r ≡ numbered first → r ≡ prepareRefusal s rate channels block cap l weights
-  at-first n e = rw (ne-eqb (refusalOf s rate channels block) 0 (λ z. n (F ∙ z))) (e ∙ ap numbered F)
+module _ (s : LimiterSettings) (rate channels block : ℕ) (cap : Cap) (l : Lengths) (weights : List Float) (r : PrepareAnswer) (first : ℕ) (F : first ≡ refusalOf s rate channels block) where
+  pub at-first : (first ≡ 0 → ⊥) → r ≡ answerOf first → prepareReply r ≡ prepareRefusal s rate channels block cap l weights
+  at-first n e =
+      rw (ne-eqb (refusalOf s rate channels block) 0 (λ z. n (F ∙ z)))
+      (ap prepareReply (e ∙ ap answerOf F) ∙ first-told s rate channels block)
 
-  pub at-later : (look later need : ℕ) → first ≡ 0 → look ≡ lookOf (s .«lookahead_ms») rate → later ≡ storesRefusal channels look l weights → need ≡ needed channels look → r ≡ capReply need cap later
-      → r ≡ prepareRefusal s rate channels block cap l weights
+  pub at-later : (look later need : ℕ) → first ≡ 0 → look ≡ lookOf (s .«lookahead_ms») rate → later ≡ storesRefusal channels look l weights → need ≡ needed channels look → r ≡ capAnswer need cap later
+      → prepareReply r ≡ prepareRefusal s rate channels block cap l weights
   at-later look later need z L S N e =
-      rw (eq-eqb (refusalOf s rate channels block) 0 (sym F ∙ z)) (e ∙ rw (N, S, L) refl)
+      rw (eq-eqb (refusalOf s rate channels block) 0 (sym F ∙ z), ← L, ← N, ← S)
+      (ap prepareReply e ∙ cap-told need cap later (rw S (stores-told channels look l weights)))
 
 -- the bounds that the inner tests ask
 pub bounds : (s : LimiterSettings) (rate channels block look : ℕ) → refusalOf s rate channels block ≡ 0 → look ≡ lookOf (s .«lookahead_ms») rate → (channels ≤ 8) × (look ≤ 4096)

@@ -1,5 +1,7 @@
 -- Laws of the limiter that belong to no one function.
+pub mod Answer
 pub mod Judge
 pub mod Ready
 pub mod Frames
 pub mod Keeping
+pub mod Rows

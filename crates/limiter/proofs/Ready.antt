@@ -16,7 +16,7 @@ use Rattle.keeper.specs.Keeper.{keepingAt, ordered}
 use Rattle.keeper.proofs.Floor.{empty-order}
 use Rattle.envelope.specs.Row.{allUnit, tallyOf, rowInOrder}
 use Rattle.settings.specs.Derived.{lookOf, rowOf, coefficientOf}
-use Rattle.settings.specs.Accepted.{refusalOf, lookTaken, rateTaken, releaseTaken}
+use Rattle.settings.specs.Accepted.{refusalOf}
 use Rattle.settings.specs.declared.LimiterSettings.{LimiterSettings}
 use Rattle.settings.proofs.Taken.{Taken, taken}
 use Rattle.settings.proofs.Unit.{target-unit}

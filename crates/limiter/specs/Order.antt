@@ -9,7 +9,8 @@ use Rattle.arithmetic.specs.Number.{one, within, sameValue}
 use Rattle.keeper.specs.Keeper.{keepingAt, ordered}
 use Rattle.envelope.specs.Row.{rowInOrder}
 use Rattle.settings.specs.Derived.{lookOf, coefficientOf}
-use Rattle.settings.specs.Accepted.{refusalOf}
+use Rattle.settings.specs.Accepted.{refusalOf, unless}
+use Rattle.limiter.specs.Stores.{Stores, lengthsOf, lengthsFit}
 use Rattle.limiter.specs.declared.state.Limiter.{Limiter}
 
 -- 18: the settings pass 8 to 14, and look and release coefficient are theirs
@@ -26,3 +27,9 @@ inOrder l marks minima row =
     ordered (keepingAt (l .env .keeper) marks minima)
     && (rowInOrder (l .env .attack) row
     && (ltb (l .«delay_pos») look && (leb (l .drained) look && (within Number.zero one (l .env .gain) && within Number.zero one (l .target)))))
+
+-- 18, then 16, then 19, as far as they concern the kernel; 0 where none arises
+abbrev pub readyRefusal : Limiter → Stores → ℕ
+readyRefusal l s =
+    unless (prepared l) 18
+    (unless (lengthsFit (l .channels) (l .env .keeper .look) (lengthsOf s)) 16 (unless (inOrder l (s .marks) (s .minima) (s .row)) 19 0))

@@ -2,11 +2,11 @@
 use Prim.Native.Nat.{ℕ}
 use mathlib.Core.Bool.{Bool, cond}
 use mathlib.Core.List.{List, [], _∷_}
-use lib.Dec.{eqb, leb}
+use lib.Dec.{eqb}
 use lib.Ieee.{Float}
 use Rattle.arithmetic.specs.Reply.{Reply, Value, finished, refused, count}
 use Rattle.settings.specs.Derived.{lookOf}
-use Rattle.settings.specs.Memory.{needed}
+use Rattle.settings.specs.Memory.{needed, fitsCap}
 use Rattle.settings.specs.Weights.{accepted}
 use Rattle.settings.specs.Accepted.{refusalOf, unless}
 use Rattle.settings.specs.declared.LimiterSettings.{LimiterSettings}
@@ -15,7 +15,7 @@ use Rattle.limiter.specs.State.{notSetUp, started}
 use Rattle.limiter.specs.Stores.{Stores, Lengths, lengthsOf, lengthsFit, filled}
 use Rattle.limiter.specs.declared.state.Limiter.{Limiter}
 use Rattle.limiter.specs.declared.prepare.PrepareAnswer.{PrepareAnswer}
-use Rattle.limiter.specs.declared.prepare.PrepareAnswer.the-variants.{Finished, Refused, OverCap}
+use Rattle.limiter.specs.declared.prepare.PrepareAnswer.the-variants.{Finished, Rate, Margin, Lookahead, Release, Look, Channels, Block, OverCap, StoreLength, Weights}
 use Rattle.limiter.specs.declared.prepare.Prepared.{Prepared}
 use Rattle.limiter.specs.declared.prepare.StoreLengths.{StoreLengths}
 
@@ -26,8 +26,30 @@ numbered n = refused n []
 -- document 01's number and values for each case: 15 carries needed and the cap left
 abbrev pub prepareReply : PrepareAnswer → Reply
 prepareReply Finished = finished []
-prepareReply (Refused n) = numbered n
+prepareReply Rate = numbered 8
+prepareReply Margin = numbered 9
+prepareReply Lookahead = numbered 10
+prepareReply Release = numbered 11
+prepareReply Look = numbered 12
+prepareReply Channels = numbered 13
+prepareReply Block = numbered 14
 prepareReply (OverCap need cap) = refused 15 (count need ∷ count cap ∷ [])
+prepareReply StoreLength = numbered 16
+prepareReply Weights = numbered 17
+
+-- the case of a number that carries no values; finished for every other
+abbrev pub answerOf : ℕ → PrepareAnswer
+answerOf n =
+    cond (eqb n 8) Rate
+    (cond (eqb n 9) Margin
+    (cond (eqb n 10) Lookahead
+    (cond (eqb n 11) Release
+    (cond (eqb n 12) Look
+    (cond (eqb n 13) Channels
+    (cond (eqb n 14) Block
+    (cond (eqb n 16) StoreLength
+    (cond (eqb n 17) Weights
+    Finished))))))))
 
 -- the lengths as the code hands them on
 abbrev pub lengthsAt : StoreLengths → Lengths
@@ -40,7 +62,12 @@ storesRefusal channels look l weights = unless (lengthsFit channels look l) 16 (
 -- 15 with its values, else what comes after it
 abbrev pub capReply : ℕ → Cap → ℕ → Reply
 capReply need Cap.Unlimited later = numbered later
-capReply need (Cap.Bytes cap) later = cond (leb need cap) (numbered later) (refused 15 (count need ∷ count cap ∷ []))
+capReply need (Cap.Bytes cap) later = cond (fitsCap need (Cap.Bytes cap)) (numbered later) (refused 15 (count need ∷ count cap ∷ []))
+
+-- the same as an answer
+abbrev pub capAnswer : ℕ → Cap → ℕ → PrepareAnswer
+capAnswer need Cap.Unlimited later = answerOf later
+capAnswer need (Cap.Bytes cap) later = cond (fitsCap need (Cap.Bytes cap)) (answerOf later) (OverCap need cap)
 
 -- what setup replies: 0 where nothing is refused
 abbrev pub prepareRefusal : LimiterSettings → ℕ → ℕ → ℕ → Cap → Lengths → List Float → Reply

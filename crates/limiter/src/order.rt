@@ -4,7 +4,10 @@ ghost use Prim.Native.Nat.{_+_};
 ghost use lib.ListN.{length};
 ghost use Rattle.arithmetic.specs.Number.{one, within};
 ghost use Rattle.arithmetic.specs.Number;
-ghost use Rattle.limiter.specs.Order.{prepared, inOrder};
+ghost use Rattle.limiter.specs.Stores.{storesAt};
+ghost use Rattle.limiter.specs.Order.{prepared, inOrder, readyRefusal};
+use crate::prepare::StoreLengths;
+use crate::prepare::lengths_fit;
 use crate::state::Limiter;
 use arithmetic::pattern::same_value;
 
@@ -42,5 +45,37 @@ impl Limiter {
         let gain = unit(e.gain);
         let target = unit(self.target);
         kept & (rowed & ((self.delay_pos < look) & ((self.drained <= look) & (gain & target))))
+    }
+    // 18, 16 or 19, the first that arises; 0 where none does.
+    pub fn refusal(
+        self,
+        delay: &[f64],
+        marks: &[u64],
+        minima: &[f64],
+        weights: &[f64],
+        row: &[f64],
+        detector: &[f64],
+    ) -> u32
+        ensures { λ r. ⌜ r ≡ readyRefusal self (storesAt (now (delay .entry)) (now (marks .entry)) (now (minima .entry)) (now (weights .entry)) (now (row .entry)) (now (detector .entry))) ⌝ }
+    {
+        if !self.is_prepared() {
+            return 18;
+        }
+        let l = StoreLengths {
+            delay: delay.len(),
+            marks: marks.len(),
+            minima: minima.len(),
+            weights: weights.len(),
+            row: row.len(),
+            detector: detector.len(),
+        };
+        if !lengths_fit(self.channels, self.env.keeper.look, l) {
+            return 16;
+        }
+        if self.in_order(marks, minima, row) {
+            0
+        } else {
+            19
+        }
     }
 }

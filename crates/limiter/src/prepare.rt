@@ -4,18 +4,26 @@ ghost use Prim.Native.Nat.{_≤_};
 ghost use lib.Dec.{eqb};
 ghost use lib.ListN.{length};
 ghost use Rattle.limiter.specs.Stores.{lengthsFit, storesAt};
-ghost use Rattle.limiter.specs.Prepare.{numbered, prepareReply, lengthsAt, storesRefusal, capReply, prepareRefusal, preparedAt, prepareOf};
+ghost use Rattle.limiter.specs.Prepare.{prepareReply, answerOf, lengthsAt, storesRefusal, capAnswer, prepareRefusal, preparedAt, prepareOf};
 use crate::state::Limiter;
 use crate::stores::fill;
 use settings::LimiterSettings;
 use settings::memory::Cap;
 
-// What setup answers: finished; one of the refusals 8 to 14, 16 and 17 by its number; or 15 with the
-// bytes needed and the cap that was left.
+// What setup answers: finished, or the refusals 8 to 17 in the table's order, 15 with the bytes
+// needed and the cap that was left.
 pub enum PrepareAnswer {
     Finished,
-    Refused(u32),
+    Rate,
+    Margin,
+    Lookahead,
+    Release,
+    Look,
+    Channels,
+    Block,
     OverCap { needed: u64, cap: u64 },
+    StoreLength,
+    Weights,
 }
 
 pub struct Prepared {
@@ -33,24 +41,32 @@ pub struct StoreLengths {
     pub detector: usize,
 }
 
+// The case of a number that carries no values; 0 is finished work.
 fn answer_of(number: u32) -> PrepareAnswer
-    ensures { λ r. ⌜ prepareReply r ≡ numbered number ⌝ }
+    ensures { λ r. ⌜ r ≡ answerOf number ⌝ }
 {
-    if number == 0 {
-        PrepareAnswer::Finished
-    } else {
-        PrepareAnswer::Refused(number)
+    match number {
+        8 => PrepareAnswer::Rate,
+        9 => PrepareAnswer::Margin,
+        10 => PrepareAnswer::Lookahead,
+        11 => PrepareAnswer::Release,
+        12 => PrepareAnswer::Look,
+        13 => PrepareAnswer::Channels,
+        14 => PrepareAnswer::Block,
+        16 => PrepareAnswer::StoreLength,
+        17 => PrepareAnswer::Weights,
+        _ => PrepareAnswer::Finished,
     }
 }
 
 // 15 where the bytes are over the cap, else the answer of a later number.
 fn capped(needed: u64, cap: Cap, later: u32) -> PrepareAnswer
-    ensures { λ r. ⌜ prepareReply r ≡ capReply needed cap later ⌝ }
+    ensures { λ r. ⌜ r ≡ capAnswer needed cap later ⌝ }
 {
     match cap {
         Cap::Unlimited => answer_of(later),
         Cap::Bytes(most) => {
-            if needed <= most {
+            if settings::memory::fits_cap(needed, cap) {
                 answer_of(later)
             } else {
                 PrepareAnswer::OverCap { needed, cap: most }
@@ -97,8 +113,7 @@ fn is_finished(answer: PrepareAnswer) -> bool
 {
     match answer {
         PrepareAnswer::Finished => true,
-        PrepareAnswer::Refused(n) => n == 0,
-        PrepareAnswer::OverCap { needed: _, cap: _ } => false,
+        _ => false,
     }
 }
 

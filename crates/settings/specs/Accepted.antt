@@ -6,7 +6,7 @@ use lib.Ieee.{Float, lt}
 use lib.Ieee.Scale.{finite}
 use Rattle.arithmetic.specs.Number
 use Rattle.arithmetic.specs.Number.{bits}
-use Rattle.settings.specs.Derived.{lookOf, coefficientOf}
+use Rattle.settings.specs.Derived.{lookOf}
 use Rattle.settings.specs.declared.LimiterSettings.{LimiterSettings}
 
 -- 8: rate outside 8,000 to 192,000

@@ -1,15 +1,14 @@
 -- `gain_steps`: the gains passed, and what the rest comes to.
-use mathlib.Core.Path.{_≡_, refl, sym, ap, _∙_, subst}
+use mathlib.Core.Path.{_≡_, refl, _∙_}
 use Prim.Native.Nat.{_+_, _-_, _≤_, _<_}
 use native.Mathlib.Omega.{arith}
 use borrow.Author.Needs.{needs}
-use lib.ListN.{length, getD, length-set}
-use lib.Ieee.{nan}
+use lib.ListN.{length, length-set}
 use denote.Ref.{now}
 use Rattle.keeper.specs.InOrder.{mostFrames}
-use Rattle.envelope.specs.Step.{Enveloped, GainStepped, envelopedAt, gainStepOf, EnvReady}
+use Rattle.envelope.specs.Step.{envelopedAt, gainStepAt, EnvReady}
 use Rattle.frame.specs.Passes.{gainsOf}
-use Rattle.frame.proofs.Turns.{gainsFrom, gains-more, gains-done, ready-more, frame-more}
+use Rattle.frame.proofs.Turns.{gainsFrom, gains-turn, gains-done}
 use Rattle.frame.proofs.gains.gain_steps.Statement.{statement}
 use Rattle.frame.proofs.gains.gain_steps.Tie as tie
 
@@ -50,17 +49,15 @@ loop-again : tie.Need-loop-again Inv-loop μ-loop
 loop-again c =
     let s = c .before .before .before .before .before .before .before in
     let l = s .before .before .before .before .before .before in
+    let test = s .before .before .before .before .before .loop-test .taken in
     let a = l .before .before .before .before .before .before .args in
-    let w = now (a .weights) in
-    let e = envelopedAt (l .loop .e) (l .loop .marks) (l .loop .minima) (l .loop .row) in
-    let next = envelopedAt (s .step-env .result .env) (s .step-env .last .1 .0) (s .step-env .last .1 .1 .0) (s .step-env .last .1 .1 .1 .1 .0) in
-    let came : next ≡ gainStepOf w (a .coeff) e (getD (l .loop .gains) (l .loop .i) nan) .env = ap (λ (g : GainStepped). g .env) (s .step-env .ensures) in
-    let frame = ap (λ (f : Enveloped). f .keeping .keeper .frame) came ∙ frame-more w (a .coeff) e (l .loop .i) (l .loop .gains) in (
+    let turn = gains-turn (now (a .weights)) (a .coeff) (envelopedAt (l .loop .e) (l .loop .marks) (l .loop .minima) (l .loop .row)) (l .loop .i) (l .loop .gains) (length (now (a .gains)))
+    (gainStepAt (s .step-env .result) (s .step-env .last .1 .0) (s .step-env .last .1 .1 .0) (s .step-env .last .1 .1 .1 .1 .0)) test (l .loop .inv .1) (l .loop .inv .2) (l .loop .inv .3 test) (s .step-env .ensures) in (
       omega arith,
       simp length-set (l .loop .inv .1),
-      omega (arith, frame, l .loop .inv .2, s .before .before .before .before .before .loop-test .taken),
-      λ k. subst (λ (f : Enveloped). EnvReady w f) (sym came) (ready-more w (a .coeff) e (l .loop .i) (l .loop .gains) (length (now (a .gains))) (l .loop .inv .3 (s .before .before .before .before .before .loop-test .taken)) (l .loop .inv .2) k),
-      gains-more w (a .coeff) e (l .loop .i) (l .loop .gains) next (omega arith) came ∙ l .loop .inv .4,
+      turn .0,
+      turn .1,
+      turn .2 ∙ l .loop .inv .4,
       s .step-env .kept .1 .0 ∙ l .loop .inv .5,
       s .step-env .kept .1 .1 .0 ∙ l .loop .inv .6,
       s .step-env .kept .1 .1 .1 .1 .0 ∙ l .loop .inv .7,

@@ -1,12 +1,11 @@
 -- `required_gains`: the gains passed, and those of the peaks that are left.
-use mathlib.Core.Path.{_≡_, refl, sym, ap, _∙_}
+use mathlib.Core.Path.{_≡_, refl, _∙_}
 use mathlib.Core.List.{_++_, map}
 use Prim.Native.Nat.{_-_, _≤_}
 use native.Mathlib.Omega.{arith}
 use borrow.Author.Needs.{needs}
 use lib.ListN.{length, take, drop, length-set}
 use lib.Ieee.{Float}
-use denote.Ref.{now}
 use Rattle.frame.specs.Frame.{requiredGain}
 use Rattle.frame.proofs.Turns.{map-more, map-done}
 use Rattle.frame.proofs.gains.required_gains.Statement.{statement}

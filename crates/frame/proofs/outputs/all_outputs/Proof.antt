@@ -1,13 +1,13 @@
 -- `all_outputs`: the channels passed, and what the rest comes to.
-use mathlib.Core.Path.{_≡_, refl, sym, ap, _∙_}
-use Prim.Native.Nat.{_+_, _-_, _*_, _≤_, _<_}
+use mathlib.Core.Path.{_≡_, _∙_}
+use Prim.Native.Nat.{_+_, _-_, _*_, _≤_}
 use native.Mathlib.Omega.{arith}
 use borrow.Author.Needs.{needs}
-use lib.ListN.{length, length-set}
+use lib.ListN.{length}
 use denote.Ref.{now}
 use Rattle.frame.specs.Rules.{presentRules}
 use Rattle.frame.specs.Passes.{posAfter, outputsPass}
-use Rattle.frame.proofs.Channels.{places-end, part-length, outputsSince, outputs-start, outputs-end, outputs-turn}
+use Rattle.frame.proofs.Channels.{places-end, outputsSince, outputs-start, outputs-end, outputs-turn, pos-turn}
 use Rattle.frame.proofs.outputs.all_outputs.Statement.{statement}
 use Rattle.frame.proofs.outputs.all_outputs.Tie as tie
 
@@ -24,26 +24,24 @@ loop-holds c =
     let a = c .before .before .before .args in
     (search needs, search needs, search needs, outputs-start presentRules (a .look) (a .pos) (now (a .gains)) (a .channels) (a .n) (now (a .delay)) (now (a .audio)), λ k. absurd (omega arith))
 
-mul-at : tie.Need-mul-at Inv-loop μ-loop
-mul-at c =
+-- the channel's line lies in the delay
+inside : (c : tie.In-loop Inv-loop μ-loop) → c .before .loop .c * c .before .before .before .before .before .args .look + c .before .before .before .before .before .args .look ≤ length (c .before .loop .delay)
+inside c =
     let l = c .before in
     let a = l .before .before .before .before .args in
-    omega (arith, places-end (l .loop .c) (a .channels) (a .look) (c .loop-test .taken), l .loop .inv .1)
+    rw (l .loop .inv .1) (places-end (l .loop .c) (a .channels) (a .look) (c .loop-test .taken))
+
+mul-at : tie.Need-mul-at Inv-loop μ-loop
+mul-at c = omega (arith, inside c)
 
 mul-first : tie.Need-mul-first Inv-loop μ-loop
 mul-first c = search needs
 
 add-channel-outputs : tie.Need-add-channel-outputs Inv-loop μ-loop
-add-channel-outputs c =
-    let l = c .before in
-    let a = l .before .before .before .before .args in
-    omega (arith, places-end (l .loop .c) (a .channels) (a .look) (c .loop-test .taken), l .loop .inv .1)
+add-channel-outputs c = omega (arith, inside c)
 
 mul-channel-outputs : tie.Need-mul-channel-outputs Inv-loop μ-loop
-mul-channel-outputs c =
-    let l = c .before in
-    let a = l .before .before .before .before .args in
-    omega (arith, places-end (l .loop .c) (a .channels) (a .look) (c .loop-test .taken), l .loop .inv .1)
+mul-channel-outputs c = omega (arith, inside c)
 
 sub-channel-outputs : tie.Need-sub-channel-outputs Inv-loop μ-loop
 sub-channel-outputs c = search needs
@@ -52,10 +50,7 @@ part-channel-outputs-start : tie.Need-part-channel-outputs-start Inv-loop μ-loo
 part-channel-outputs-start c = search needs
 
 part-channel-outputs-end : tie.Need-part-channel-outputs-end Inv-loop μ-loop
-part-channel-outputs-end c =
-    let l = c .before in
-    let a = l .before .before .before .before .args in
-    omega (arith, places-end (l .loop .c) (a .channels) (a .look) (c .loop-test .taken), l .loop .inv .1)
+part-channel-outputs-end c = omega (arith, inside c)
 
 add-channel-outputs-2 : tie.Need-add-channel-outputs-2 Inv-loop μ-loop
 add-channel-outputs-2 c = search needs
@@ -93,8 +88,8 @@ loop-again c =
           (o .channel-outputs .last .0) (o .channel-outputs .last .1 .1 .1 .0) (omega arith) (l .loop .inv .1) (omega arith) (omega arith) (omega arith) (omega arith)
           (o .channel-outputs .kept .0) (o .channel-outputs .kept .1 .1 .1 .0) (o .channel-outputs .ensures .0)
           ∙ l .loop .inv .3,
-      λ k. o .channel-outputs .ensures .1
-          ∙ rw (part-length (l .loop .delay) (l .loop .c * a .look) (a .look) (l .loop .c * a .look + a .look - l .loop .c * a .look) (rw (l .loop .inv .1) (places-end (l .loop .c) (a .channels) (a .look) (omega arith))) (omega arith), part-length (l .loop .audio) (l .loop .c * 32) (a .n) (l .loop .c * 32 + a .n - l .loop .c * 32) (omega arith) (omega arith)) refl,
+      λ k. pos-turn (a .look) (a .pos) (a .channels) (a .n) (l .loop .c) (l .loop .c * a .look + a .look - l .loop .c * a .look) (l .loop .c * 32 + a .n - l .loop .c * 32) (l .loop .delay) (l .loop .audio)
+          (o .channel-outputs .result) (omega arith) (l .loop .inv .1) (omega arith) (omega arith) (omega arith) (o .channel-outputs .ensures .1),
     )
 
 same-length : tie.Need-same-length Inv-loop μ-loop

@@ -1,9 +1,9 @@
 -- `all_peaks`: the channels passed, and what the rest comes to.
-use mathlib.Core.Path.{_≡_, refl, sym, ap, _∙_}
-use Prim.Native.Nat.{_+_, _-_, _*_, _≤_, _<_}
+use mathlib.Core.Path.{_≡_, _∙_}
+use Prim.Native.Nat.{_+_, _-_, _*_, _≤_}
 use native.Mathlib.Omega.{arith}
 use borrow.Author.Needs.{needs}
-use lib.ListN.{length, length-set}
+use lib.ListN.{length}
 use denote.Ref.{now}
 use Rattle.frame.specs.Rules.{presentRules}
 use Rattle.frame.specs.Passes.{peaksPass}
@@ -90,7 +90,7 @@ returns : tie.Need-returns Inv-loop μ-loop
 returns c =
     let l = c .before in
     let a = l .before .before .before .before .args in
-    peaks-done presentRules (a .channels) (a .n) (l .loop .c) (l .loop .peaks) (l .loop .detector) (now (a .audio)) (omega arith) (l .loop .inv .2) ∙ l .loop .inv .3
+    peaks-done presentRules (a .channels) (a .n) (l .loop .c) (l .loop .peaks) (l .loop .detector) (now (a .audio)) (omega arith) ∙ l .loop .inv .3
 
 pub all-peaks-spec : {M : Type 1} → statement M
 all-peaks-spec =

@@ -1,7 +1,7 @@
 -- `render_in`: the passes add up to the frames in turn.
-use mathlib.Core.Path.{_≡_, sym, ap, _∙_}
+use mathlib.Core.Path.{_≡_, ap, _∙_}
 use mathlib.Core.List.{List}
-use Prim.Native.Nat.{_+_, _*_, _≤_}
+use Prim.Native.Nat.{_*_, _≤_}
 use native.Mathlib.Omega.{arith}
 use borrow.Author.Needs.{needs}
 use lib.ListN.{length, length-replicate}
@@ -11,8 +11,8 @@ use Rattle.arithmetic.specs.Number.{zero}
 use Rattle.detector.specs.Run.{runLength}
 use Rattle.frame.specs.Rules.{presentRules}
 use Rattle.frame.specs.Run.{movingAt}
-use Rattle.frame.specs.Passes.{peaksAt, peaksPass, gainsAt, writtenAt}
-use Rattle.frame.proofs.Exchange.{run-passes}
+use Rattle.frame.specs.Passes.{peaksAt, gainsAt, writtenAt}
+use Rattle.frame.proofs.Exchange.{run-done}
 use Rattle.frame.proofs.render.render_in.Statement.{statement}
 use Rattle.frame.proofs.render.render_in.Tie as tie
 
@@ -71,17 +71,12 @@ returns c =
     let audio = now (a .audio) in
     let m = movingAt (a .env) (a .pos) (now (a .delay)) (now (a .marks)) (now (a .minima)) (now (a .row)) (now (a .detector)) in
     let enough : a .channels * runLength ≤ length audio = omega (arith, r .most, r .audio-fit) in
-    run-passes presentRules (now (a .weights)) (a .coeff) (a .look) (a .target) (a .channels) (a .n) m audio (r .short) (r .delay-fit) (r .detector-fit) enough
-    (peaksAt (p .all-peaks .last .1 .1 .1 .1 .0) (p .all-peaks .last .1 .1 .1 .0))
-    (q .required-gains .last .1 .0)
-    (gainsAt (g .gain-steps .result) (g .gain-steps .last .1 .0) (g .gain-steps .last .1 .1 .0) (g .gain-steps .last .1 .1 .1 .1 .0) (g .gain-steps .last .1 .1 .1 .1 .1 .1 .0))
-    (writtenAt (o .all-outputs .last .1 .1 .1 .1 .1 .1 .0) (o .all-outputs .last .1 .1 .1 .1 .1 .0))
-    (o .all-outputs .result)
-    (p .all-peaks .ensures ∙ ap (λ (l : List Float). peaksPass presentRules 0 (a .channels) (a .n) l (now (a .detector)) audio) (s .pre .1))
-    (q .required-gains .ensures)
-    (g .gain-steps .ensures)
-    (o .all-outputs .ensures .0)
-    (o .all-outputs .ensures .1)
+    let peaks = peaksAt (p .all-peaks .last .1 .1 .1 .1 .0) (p .all-peaks .last .1 .1 .1 .0) in
+    let gains = gainsAt (g .gain-steps .result) (g .gain-steps .last .1 .0) (g .gain-steps .last .1 .1 .0) (g .gain-steps .last .1 .1 .1 .1 .0) (g .gain-steps .last .1 .1 .1 .1 .1 .1 .0) in
+    let written = writtenAt (o .all-outputs .last .1 .1 .1 .1 .1 .1 .0) (o .all-outputs .last .1 .1 .1 .1 .1 .0) in
+    run-done presentRules (now (a .weights)) (a .coeff) (a .look) (a .target) (a .channels) (a .n) m audio (r .short) (r .delay-fit) (r .detector-fit) enough
+    (now (a .gains)) peaks (q .required-gains .last .1 .0) gains (s .pre .1) (p .all-peaks .ensures) (q .required-gains .ensures) (g .gain-steps .ensures)
+    written (o .all-outputs .result) (o .all-outputs .ensures .0) (o .all-outputs .ensures .1)
 
 pub render-in-spec : {M : Type 1} → statement M
 render-in-spec =

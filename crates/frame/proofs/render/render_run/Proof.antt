@@ -1,9 +1,8 @@
 -- `render_run`: the gains are a local array's first n.
-use mathlib.Core.Path.{_≡_, ap, _∙_}
+use mathlib.Core.Path.{_≡_}
 use Prim.Native.Nat.{_-_}
 use native.Mathlib.Omega.{arith}
 use borrow.Author.Needs.{needs}
-use lib.ListN.{take, replicate}
 use lib.Ieee.{ofBits}
 use Rattle.arithmetic.specs.Number.{zero}
 use Rattle.frame.proofs.Turns.{first-of}

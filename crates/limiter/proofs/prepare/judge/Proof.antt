@@ -3,7 +3,7 @@ use mathlib.Core.Path.{_≡_, sym, _∙_}
 use native.Mathlib.Omega.{arith}
 use borrow.Author.Needs.{needs}
 use denote.Ref.{now}
-use Rattle.limiter.specs.Prepare.{prepareReply, lengthsAt}
+use Rattle.limiter.specs.Prepare.{lengthsAt}
 use Rattle.limiter.proofs.Judge.{at-first, at-later, bounds}
 use Rattle.limiter.proofs.prepare.judge.Statement.{statement}
 use Rattle.limiter.proofs.prepare.judge.Tie as tie
@@ -18,7 +18,7 @@ returns : tie.Need-returns
 returns c =
     let r = c .before .before in
     let a = r .before .before .args in
-    at-first (a .s) (a .rate) (a .channels) (a .«max-block») (a .cap) (lengthsAt (a .l)) (now (a .weights)) (prepareReply (c .answer-of .result)) (r .refusal .result) (r .refusal .ensures) (c .before .if1 .taken) (c .answer-of .ensures)
+    at-first (a .s) (a .rate) (a .channels) (a .«max-block») (a .cap) (lengthsAt (a .l)) (now (a .weights)) (c .answer-of .result) (r .refusal .result) (r .refusal .ensures) (c .before .if1 .taken) (c .answer-of .ensures)
 
 -- past the first test nothing of 8 to 14 arose
 zero : (c : tie.After-look) → c .before .before .refusal .result ≡ 0
@@ -45,7 +45,7 @@ returns-2 c =
     let k = c .before .before .before in
     let r = k .before .before in
     let a = r .before .before .args in
-    at-later (a .s) (a .rate) (a .channels) (a .«max-block») (a .cap) (lengthsAt (a .l)) (now (a .weights)) (prepareReply (c .capped .result)) (r .refusal .result) (r .refusal .ensures)
+    at-later (a .s) (a .rate) (a .channels) (a .«max-block») (a .cap) (lengthsAt (a .l)) (now (a .weights)) (c .capped .result) (r .refusal .result) (r .refusal .ensures)
     (k .look .result) (c .before .before .stores-refusal .result) (c .before .bytes-needed .result) (zero k) (k .look .ensures) (c .before .before .stores-refusal .ensures) (c .before .bytes-needed .ensures) (c .capped .ensures)
 
 pub judge-spec : {M : Type 1} → statement M
