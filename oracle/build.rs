@@ -14,9 +14,6 @@ const CONTRACT: [&str; 7] = [
 /// Files that the Rust mounts below `crate::dsp`.
 const DSP: [&str; 5] = ["driver", "math", "memory", "oversample", "sanitize"];
 
-/// C functions of the proved code that come with later layers.
-const LATER: [&str; 1] = ["probe_peak_abs"];
-
 /// What the Rust's own text may warn of is not ours to mend.
 const QUIET: &str = "#[allow(dead_code, unused_imports, clippy::all, clippy::pedantic)]";
 
@@ -53,7 +50,7 @@ fn tree() -> Result<(), String> {
     text.push_str("pub(crate) mod dsp {\n");
     for name in DSP {
         let mut file = found(&src, &format!("dsp/{name}.rs"))?;
-        if name == "oversample" {
+        if ["driver", "oversample"].contains(&name) {
             file = opened(&file, name, &out)?;
         }
         mount(&mut text, name, &file);
@@ -117,21 +114,38 @@ fn link() -> Result<(), String> {
     }
     println!("cargo::rustc-link-search=native={}", dir.display());
     println!("cargo::rustc-link-lib=static=probe");
-    offered(&fs::read(&lib).map_err(|e| format!("cannot read {}: {e}", lib.display()))?);
-    Ok(())
+    let archive = fs::read(&lib).map_err(|e| format!("cannot read {}: {e}", lib.display()))?;
+    match declared()?.iter().find(|name| !defines(&archive, name)) {
+        Some(name) => Err(format!(
+            "{} has no {name}: run `rt staticlib probe` again",
+            lib.display()
+        )),
+        None => Ok(()),
+    }
 }
 
-/// Say which of the later functions the library has, so that a library of the
-/// first layers links too. A layer that lacks its function fails when run.
-fn offered(archive: &[u8]) {
-    for name in LATER {
-        println!("cargo::rustc-check-cfg=cfg(has_{name})");
-        let symbol = format!("{name}\0");
-        if archive
-            .windows(symbol.len())
-            .any(|w| w == symbol.as_bytes())
-        {
-            println!("cargo::rustc-cfg=has_{name}");
-        }
+/// The C functions that `src/probe` declares. A library that lacks one is an
+/// old one, which is said here in one line; the linker would fill a screen.
+fn declared() -> Result<Vec<String>, String> {
+    let folder = from_here("src/probe".into());
+    println!("cargo::rerun-if-changed={}", folder.display());
+    let cannot = |e| format!("cannot read {}: {e}", folder.display());
+    let mut names = Vec::new();
+    for file in fs::read_dir(&folder).map_err(cannot)? {
+        let text = fs::read_to_string(file.map_err(cannot)?.path()).map_err(cannot)?;
+        let starts = text.split("    fn probe_").skip(1);
+        names.extend(starts.filter_map(|rest| {
+            let (name, _) = rest.split_once('(')?;
+            Some(format!("probe_{name}"))
+        }));
     }
+    Ok(names)
+}
+
+/// Whether the archive's table of names has this one.
+fn defines(archive: &[u8], name: &str) -> bool {
+    let symbol = format!("{name}\0");
+    archive
+        .windows(symbol.len())
+        .any(|w| w == symbol.as_bytes())
 }

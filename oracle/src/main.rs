@@ -7,18 +7,29 @@
 
 mod args;
 mod arguments;
+mod bank;
 #[cfg(feature = "probe")]
 mod compare;
+mod gains;
 mod leaf;
+#[cfg(any(test, feature = "probe"))]
+mod model;
 mod numbers;
+mod params;
 #[cfg(feature = "probe")]
 mod probe;
 mod record;
+#[cfg(any(test, feature = "probe"))]
+mod rings;
 mod rng;
+#[cfg(any(test, feature = "probe"))]
+mod setups;
 mod show;
 #[cfg(any(test, feature = "probe"))]
 mod shrink;
 mod signals;
+#[cfg(any(test, feature = "probe"))]
+mod tables;
 
 // The module tree of the Rust: its files as `build.rs` found them, and the
 // two modules of names that its crate root has and docs/src lacks.

@@ -5,9 +5,13 @@ use std::fs;
 use std::path::Path;
 
 use crate::arguments::{draw, exp_argument, EXP_HALVES, EXP_KINDS};
+use crate::bank::{self, Answer, Call};
 use crate::dsp::oversample::PolyphaseUpsampler;
+use crate::gains::{course, Course, COURSES};
 use crate::leaf::{Case, Op, LEAVES};
+use crate::mastering::limiter::inside as limiter;
 use crate::numbers::{edge, edges, near, stepped};
+use crate::params;
 use crate::rng::Rng;
 use crate::signals::{signal, SIGNALS};
 
@@ -17,24 +21,43 @@ const SEED: u64 = 1;
 /// Cases of each leaf function but `exp`.
 const EACH: usize = 150;
 
-/// Both words of the record at which a sequence starts, from a zeroed
-/// detector. No answer is a NaN, so it can be told from a sample.
+/// The word at which a sequence starts, from a detector or a limiter as setup
+/// leaves it. It is a NaN that no sequence has, so it can be told from a sample
+/// or a gain.
 const START: u64 = 0x7ff8_0000_0000_0001;
+
+/// The recorded gain steps: look, release in ms, kinds of gains, how many. The
+/// longest look has more steps than its window and its row have places.
+const GAINS: [(usize, f64, &[Course], usize); 9] = [
+    (11, 50.0, &COURSES, 400),
+    (12, 0.01, &COURSES, 300),
+    (13, 5.0, &COURSES, 300),
+    (72, 50.0, &[Course::Dips], 300),
+    (72, 200.0, &[Course::Saw], 300),
+    (72, 0.0, &[Course::Damaged], 200),
+    (288, 50.0, &[Course::Saw], 500),
+    (288, 10_000.0, &[Course::Dips], 600),
+    (1000, 50.0, &[Course::Rising], 1_100),
+];
+
+/// Recorded banks, and the calls of each.
+const BANKS: usize = 230;
+const CALLS: usize = 40;
 
 /// Write every file into `folder`; answers one line a file.
 pub fn record(folder: &Path) -> Result<String, String> {
     fs::create_dir_all(folder).map_err(|e| format!("{}: {e}", folder.display()))?;
     let mut text = String::new();
-    for (name, words, width) in [("leaves", leaves(), 6), ("peaks", peaks(), 2)] {
+    for (name, words) in [
+        ("leaves", leaves()),
+        ("peaks", peaks()),
+        ("gains", gains()?),
+        ("bank", bank()),
+    ] {
         let bytes: Vec<u8> = words.iter().flat_map(|w| w.to_le_bytes()).collect();
         let path = folder.join(name);
         fs::write(&path, &bytes).map_err(|e| format!("{}: {e}", path.display()))?;
-        let records = words.len() / width;
-        text += &format!(
-            "{}: {records} records, {} bytes\n",
-            path.display(),
-            bytes.len()
-        );
+        text += &format!("{}: {} bytes\n", path.display(), bytes.len());
     }
     Ok(text)
 }
@@ -115,6 +138,78 @@ fn peaks() -> Vec<u64> {
     words
 }
 
+/// The file `gains`: each sequence starts with its look, release, release
+/// coefficient and weights; then for each step the required gain, floor,
+/// counts, mean and gain.
+fn gains() -> Result<Vec<u64>, String> {
+    let mut rng = Rng::new(SEED);
+    let mut words = Vec::new();
+    for (look, release_ms, kinds, length) in GAINS {
+        let mut limiter = limiter::prepared(look, release_ms)?;
+        let coefficient = limiter::release_coeff(&limiter);
+        let weights = limiter::weights(&limiter);
+        words.extend([START, look as u64, release_ms.to_bits()]);
+        words.extend([coefficient.to_bits(), weights.len() as u64]);
+        words.extend(weights.iter().map(|w| w.to_bits()));
+        for required in mixed(kinds, look, length, &mut rng) {
+            let s = limiter::step(&mut limiter, required);
+            let counts = s.dropped | s.kept << 16 | s.tally << 32;
+            words.extend([required.to_bits(), s.floor.to_bits(), counts as u64]);
+            words.extend([s.mean.to_bits(), s.gain.to_bits()]);
+        }
+    }
+    Ok(words)
+}
+
+/// Gains of these kinds, one stretch after the other.
+fn mixed(kinds: &[Course], look: usize, length: usize, rng: &mut Rng) -> Vec<f64> {
+    let stretch = length / kinds.len();
+    let kinds = kinds.iter();
+    kinds
+        .flat_map(|&kind| course(kind, look, stretch, rng))
+        .collect()
+}
+
+/// The file `bank`: declarations, setups and calls, each with its answer; a
+/// step and a reset with every parameter's value afterwards.
+fn bank() -> Vec<u64> {
+    let mut rng = Rng::new(SEED);
+    let mut words = Vec::new();
+    for _ in 0..BANKS {
+        let (declared, rate) = (params::declarations(4, &mut rng), params::rate(&mut rng));
+        for d in &declared {
+            let floats = [d.low, d.high, d.default, d.ms].map(f64::to_bits);
+            words.extend([1, u64::from(d.id)]);
+            words.extend(floats);
+            words.push(d.shape as u64);
+        }
+        let built = bank::set_up(&declared, rate);
+        let refusal = built.as_ref().err().copied().unwrap_or_default();
+        words.extend([2, u64::from(rate), u64::from(refusal.number)]);
+        words.push(refusal.index as u64);
+        let Ok(mut built) = built else { continue };
+        for _ in 0..CALLS {
+            let call = params::call(&declared, &mut rng);
+            let Answer { number, word } = bank::called(&mut built, &call);
+            let number = u64::from(number);
+            match call {
+                Call::Target { id, value } => {
+                    words.extend([3, u64::from(id), value.to_bits(), number]);
+                }
+                Call::Immediate { id, value } => {
+                    words.extend([4, u64::from(id), value.to_bits(), number]);
+                }
+                Call::Step | Call::Reset => {
+                    words.push(if call == Call::Step { 5 } else { 6 });
+                    words.extend(bank::values(&built, declared.len()));
+                }
+                Call::Value { id } => words.extend([7, u64::from(id), number, word]),
+            }
+        }
+    }
+    words
+}
+
 #[cfg(test)]
 mod tests {
     use super::*;
@@ -148,5 +243,81 @@ mod tests {
         assert_eq!(marks, 2 * SIGNALS.len());
         assert!(words.chunks(2).all(|r| (r[0] == START) == (r[1] == START)));
         assert_eq!(words, peaks());
+    }
+    /// The steps of `gains`, with the look of each.
+    fn gain_steps(words: &[u64]) -> Vec<(u64, &[u64])> {
+        let (mut steps, mut at, mut look) = (Vec::new(), 0, 0);
+        while at < words.len() {
+            let start = words[at] == START;
+            let width = if start { 5 + words[at + 4] as usize } else { 5 };
+            if start {
+                look = words[at + 1];
+            } else {
+                steps.push((look, &words[at..at + width]));
+            }
+            at += width;
+        }
+        steps
+    }
+
+    #[test]
+    fn gains_have_drops_at_both_ends_and_full_rings() {
+        let words = gains().expect("good looks");
+        let steps = gain_steps(&words);
+        assert_eq!(steps.len(), 4_000);
+        assert_eq!(words.iter().filter(|&&w| w == START).count(), GAINS.len());
+        for look in GAINS.map(|(look, ..)| look as u64) {
+            let of_look = || steps.iter().filter(|s| s.0 == look).map(|s| s.1);
+            let floors: std::collections::BTreeSet<u64> = of_look().map(|s| s[1]).collect();
+            assert!(floors.len() > 5, "{look}");
+            assert!(of_look().any(|s| s[2] >> 32 > 0));
+            assert!(of_look().any(|s| f64::from_bits(s[4]) < f64::from_bits(s[3])));
+        }
+        let full = |s: &&(u64, &[u64])| s.1[2] >> 16 & 0xffff == s.0 + 1;
+        assert!(steps.iter().filter(full).count() > 50);
+        assert_eq!(words, gains().expect("good looks"));
+    }
+    /// The records of `bank`, each without the values behind a step or a reset.
+    fn bank_records(words: &[u64]) -> Vec<&[u64]> {
+        let (mut records, mut at, mut count) = (Vec::new(), 0, 0);
+        while at < words.len() {
+            let width = match words[at] {
+                1 => 7,
+                5 | 6 => 1,
+                _ => 4,
+            };
+            let record = &words[at..at + width];
+            count = match record[0] {
+                // A parameter more, in the place of the bank before.
+                1 if records.last().is_none_or(|r: &&[u64]| r[0] != 1) => 1,
+                1 => count + 1,
+                2 if at == 0 || records.last().is_some_and(|r| r[0] != 1) => 0,
+                _ => count,
+            };
+            records.push(record);
+            at += width + if width == 1 { count } else { 0 };
+        }
+        records
+    }
+
+    #[test]
+    fn bank_has_every_call_shape_and_refusal() {
+        let words = bank();
+        assert!(8 * words.len() < 300_000);
+        let records = bank_records(&words);
+        let count = |keep: &dyn Fn(&[u64]) -> bool| records.iter().filter(|r| keep(r)).count();
+        assert_eq!(count(&|r| r[0] == 2), BANKS);
+        for shape in 0..3 {
+            assert!(count(&|r| r[0] == 1 && r[6] == shape) > 50);
+        }
+        for op in 3..8 {
+            assert!(count(&|r| r[0] == op) > 100, "{op}");
+        }
+        for number in 1..7 {
+            assert!(count(&|r| r[0] == 2 && r[2] == number) > 1, "{number}");
+        }
+        assert!(count(&|r| (r[0] == 3 || r[0] == 4) && r[3] == 23) > 20);
+        assert!(count(&|r| (r[0] == 3 || r[0] == 4) && r[3] == 24) > 20);
+        assert_eq!(words, bank());
     }
 }

@@ -62,9 +62,8 @@ fn pass(mut case: Vec<u64>, fails: &dyn Fn(&[u64]) -> bool) -> Vec<u64> {
     case
 }
 
-/// Leave out as many words after the first `fixed` as can be spared, then
-/// make those that are left plain.
-pub fn list(mut case: Vec<u64>, fixed: usize, fails: &dyn Fn(&[u64]) -> bool) -> Vec<u64> {
+/// Leave out as many items after the first `fixed` as can be spared.
+pub fn shorter<T: Clone>(mut case: Vec<T>, fixed: usize, fails: &dyn Fn(&[T]) -> bool) -> Vec<T> {
     let mut size = (case.len() - fixed).div_ceil(2);
     while size > 0 {
         let mut at = fixed;
@@ -79,7 +78,13 @@ pub fn list(mut case: Vec<u64>, fixed: usize, fails: &dyn Fn(&[u64]) -> bool) ->
         }
         size = if size == 1 { 0 } else { size.div_ceil(2) };
     }
-    words(case, fails)
+    case
+}
+
+/// Leave out as many words after the first `fixed` as can be spared, then
+/// make those that are left plain.
+pub fn list(case: Vec<u64>, fixed: usize, fails: &dyn Fn(&[u64]) -> bool) -> Vec<u64> {
+    words(shorter(case, fixed, fails), fails)
 }
 
 #[cfg(test)]

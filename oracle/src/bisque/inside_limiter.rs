@@ -3,6 +3,8 @@
 
 use super::{Kernel, Limiter, LimiterSettings, ProcessSpec};
 use crate::dsp::sanitize::finite_or_zero;
+#[cfg(any(test, feature = "probe"))]
+use crate::model::keeper::Keeping;
 
 /// What one gain step leaves, in document 01's words.
 #[derive(Clone, Copy, Debug, PartialEq)]
@@ -21,6 +23,57 @@ pub(crate) struct Stepped {
     pub mean: f64,
     /// The applied gain.
     pub gain: f64,
+}
+
+/// What `prepare` derives from the settings, the look apart.
+pub(crate) struct Derived {
+    /// The release coefficient.
+    pub release_coeff: f64,
+    /// The default threshold's target.
+    pub target: f64,
+}
+
+/// Release coefficient and target that `prepare` derives, or nothing where it
+/// refuses. No channel and hardly more than 11 frames keep it quick.
+pub(crate) fn derived(
+    threshold_db: f64,
+    margin_db: f64,
+    release_ms: f64,
+    rate: u32,
+) -> Option<Derived> {
+    let settings = LimiterSettings::new()
+        .threshold_db(threshold_db)
+        .true_peak_margin_db(margin_db)
+        .lookahead_ms(11_250.0 / f64::from(rate))
+        .release_ms(release_ms);
+    let mut limiter = Limiter::with_settings(settings);
+    let spec = ProcessSpec {
+        sample_rate: rate,
+        channels: 0,
+        max_block: 1,
+        max_memory: None,
+    };
+    <Limiter as Kernel<f64>>::prepare(&mut limiter, spec).ok()?;
+    Some(Derived {
+        release_coeff: limiter.release_coeff,
+        target: limiter.flush_thresh,
+    })
+}
+
+/// The look that `prepare` derives, or nothing where it refuses before: a look
+/// that is refused stays in its field, and a cap of no bytes refuses the rest.
+pub(crate) fn look(lookahead_ms: f64, rate: u32) -> Option<usize> {
+    let settings = LimiterSettings::new().lookahead_ms(lookahead_ms);
+    let mut limiter = Limiter::with_settings(settings);
+    let spec = ProcessSpec {
+        sample_rate: rate,
+        channels: 1,
+        max_block: 1,
+        max_memory: Some(0),
+    };
+    let refused = <Limiter as Kernel<f64>>::prepare(&mut limiter, spec);
+    assert!(refused.is_err(), "no limiter fits no bytes");
+    (limiter.look > 0).then_some(limiter.look)
 }
 
 /// A mono limiter of exactly this look, or the Rust's refusal.
@@ -45,6 +98,11 @@ pub(crate) fn weights(limiter: &Limiter) -> &[f64] {
     &limiter.hann
 }
 
+/// The release coefficient that the Rust derived.
+pub(crate) fn release_coeff(limiter: &Limiter) -> f64 {
+    limiter.release_coeff
+}
+
 /// One call of the Rust's own `step_env`.
 pub(crate) fn step(limiter: &mut Limiter, required: f64) -> Stepped {
     let (frame, before, old_gain) = (limiter.frame, limiter.wedge_len, limiter.env);
@@ -63,6 +121,24 @@ pub(crate) fn step(limiter: &mut Limiter, required: f64) -> Stepped {
         tally: limiter.wm_nonunity,
         mean,
         gain,
+    }
+}
+
+/// The floor keeper's part of the state: look, head, entries kept and frames.
+#[cfg(any(test, feature = "probe"))]
+pub(crate) fn ring_state(limiter: &Limiter) -> [u64; 4] {
+    let counts = [limiter.look, limiter.wedge_head, limiter.wedge_len];
+    let [look, head, len] = counts.map(|n| n as u64);
+    [look, head, len, limiter.frame]
+}
+
+/// The floor keeper with its stores.
+#[cfg(any(test, feature = "probe"))]
+pub(crate) fn ring(limiter: &Limiter) -> Keeping {
+    Keeping {
+        state: ring_state(limiter),
+        marks: limiter.wedge_idx.clone(),
+        minima: limiter.wedge_val.clone(),
     }
 }
 
@@ -152,8 +228,48 @@ mod tests {
         }
     }
 
+    /// The plain model of the keeper and the ring in the Rust's own fields.
+    #[test]
+    fn the_models_keeper_is_the_rusts() {
+        let mut rng = crate::rng::Rng::new(5);
+        for look in [11, 12, 40] {
+            let mut limiter = prepared(look, 0.0).expect("a good look");
+            let mut model = ring(&limiter);
+            for _ in 0..1000 {
+                let gain = crate::numbers::uniform(&mut rng, -0.2, 1.2);
+                let (seen, told) = (step(&mut limiter, gain), model.step(gain));
+                assert_eq!(told.floor, seen.floor.to_bits());
+                assert_eq!(told.dropped, seen.dropped as u64);
+                assert_eq!(told.kept, seen.kept as u64);
+                assert!(model.same(&ring(&limiter)));
+            }
+        }
+    }
+
     #[test]
     fn a_look_under_eleven_is_refused() {
         assert!(prepared(10, 50.0).is_err());
+    }
+
+    #[test]
+    fn a_look_is_told_even_where_it_is_refused() {
+        let looks = [0.21, 0.22, 1.5, 85.36].map(|ms| look(ms, 48_000));
+        assert_eq!(looks, [10, 11, 72, 4097].map(Some));
+        assert_eq!(look(1e300, 48_000), Some(usize::MAX));
+        for ms in [0.0, -1.0, f64::NAN, f64::INFINITY] {
+            assert_eq!(look(ms, 48_000), None);
+        }
+        assert_eq!(look(1.5, 0), None);
+    }
+
+    #[test]
+    fn derived_values_are_those_of_the_settings() {
+        let of = |release, rate| derived(-1.0, 0.1, release, rate).map(|d| d.release_coeff);
+        assert_eq!(of(0.0, 48_000), Some(1.0));
+        assert!(of(50.0, 8_000) > of(50.0, 192_000));
+        assert_eq!(of(-1.0, 48_000), None);
+        let target = |db| derived(db, 0.0, 50.0, 48_000).map(|d| d.target);
+        assert_eq!(target(0.0), Some(1.0));
+        assert_eq!(target(-40.0), target(-30.0));
     }
 }

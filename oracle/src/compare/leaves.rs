@@ -1,6 +1,6 @@
 //! The leaf functions, `exp` apart from the others.
 
-use super::{shown, Failure, Settings};
+use super::{shown, Difference, Settings};
 use crate::arguments::{draw, exp_argument};
 use crate::leaf::{Answer, Case, Op, LEAVES};
 use crate::numbers::edges;
@@ -8,7 +8,7 @@ use crate::rng::Rng;
 use crate::{probe, shrink};
 
 /// `exp` on arguments of every kind, the edges first.
-pub fn exp(settings: &Settings) -> Result<u64, Failure> {
+pub fn exp(settings: &Settings) -> Result<u64, Difference> {
     let mut rng = Rng::new(settings.seed);
     let mut compared = 0;
     for x in edges() {
@@ -22,7 +22,7 @@ pub fn exp(settings: &Settings) -> Result<u64, Failure> {
 }
 
 /// The other leaf functions: all pairs of edges, then random cases in turn.
-pub fn others(settings: &Settings) -> Result<u64, Failure> {
+pub fn others(settings: &Settings) -> Result<u64, Difference> {
     let mut rng = Rng::new(settings.seed);
     let mut compared = 0;
     for op in LEAVES {
@@ -67,12 +67,12 @@ fn same(case: &Case, one: Answer, other: Answer) -> bool {
 }
 
 /// Compare one case and count it.
-fn check(case: &Case, compared: &mut u64) -> Result<(), Failure> {
+fn check(case: &Case, compared: &mut u64) -> Result<(), Difference> {
     *compared += 1;
     if agree(case) {
         return Ok(());
     }
-    Err(Failure::Difference {
+    Err(Difference {
         compared: *compared,
         report: report(case),
     })

@@ -1,7 +1,12 @@
 //! Runs the proved code beside the Rust, layer by layer.
 
+mod bank;
+mod floors;
 mod leaves;
 mod peak;
+mod runs;
+mod setup;
+mod weights;
 
 /// What a run depends on.
 #[derive(Clone, Copy, Debug)]
@@ -10,27 +15,29 @@ pub struct Settings {
     pub count: u64,
 }
 
-/// Why a layer did not pass.
+/// The first difference, after how many cases, in its smallest form.
 #[derive(Debug)]
-pub enum Failure {
-    /// The first difference, after how many cases, in its smallest form.
-    Difference { compared: u64, report: String },
-    /// The linked library has no such function.
-    Missing(&'static str),
+pub struct Difference {
+    pub compared: u64,
+    pub report: String,
 }
 
 /// A layer's comparison: how many cases agreed.
-type Layer = fn(&Settings) -> Result<u64, Failure>;
+type Layer = fn(&Settings) -> Result<u64, Difference>;
 
 /// Every layer, leaves first.
-const LAYERS: [(&str, Layer); 3] = [
+const LAYERS: [(&str, Layer); 8] = [
     ("exp", leaves::exp),
     ("leaves", leaves::others),
     ("peak_abs", peak::run),
+    ("peaks_abs", runs::run),
+    ("weights", weights::run),
+    ("settings", setup::run),
+    ("floors", floors::run),
+    ("bank", bank::run),
 ];
 
-/// Run the named layer, or all; true where every answer was the same. A layer
-/// that could not run does not count as passed.
+/// Run the named layer, or all; true where every answer was the same.
 pub fn compare(only: Option<&str>, settings: &Settings) -> Result<bool, String> {
     let chosen: Vec<_> = LAYERS
         .iter()
@@ -50,14 +57,11 @@ pub fn compare(only: Option<&str>, settings: &Settings) -> Result<bool, String> 
 }
 
 /// A layer's line, and the report of a difference below it.
-fn line(name: &str, seed: u64, outcome: &Result<u64, Failure>) -> String {
+fn line(name: &str, seed: u64, outcome: &Result<u64, Difference>) -> String {
     match outcome {
         Ok(n) => format!("layer {name}: {n} compared, 0 differences, seed {seed}"),
-        Err(Failure::Difference { compared, report }) => {
+        Err(Difference { compared, report }) => {
             format!("layer {name}: {compared} compared, 1 difference, seed {seed}\n{report}")
-        }
-        Err(Failure::Missing(function)) => {
-            format!("layer {name}: not compared, libprobe.a has no {function}")
         }
     }
 }

@@ -2,7 +2,7 @@
 
 use std::fmt::Write as _;
 
-use super::{shown, Failure, Settings};
+use super::{shown, Difference, Settings};
 use crate::dsp::oversample::{inside, PolyphaseUpsampler};
 use crate::numbers::{any, canonical};
 use crate::rng::Rng;
@@ -10,7 +10,7 @@ use crate::signals::{signal, SIGNALS};
 use crate::{probe, shrink};
 
 /// Remembered samples.
-const TAPS: usize = 12;
+pub const TAPS: usize = 12;
 
 /// The first push after which the two sides differ.
 struct Split {
@@ -22,10 +22,7 @@ struct Split {
 }
 
 /// Sequences of every kind, from an empty store and from any store.
-pub fn run(settings: &Settings) -> Result<u64, Failure> {
-    if probe::peak_abs(&mut [0.0; TAPS], 0.0).is_none() {
-        return Err(Failure::Missing("probe_peak_abs"));
-    }
+pub fn run(settings: &Settings) -> Result<u64, Difference> {
     let mut rng = Rng::new(settings.seed);
     let mut compared = 0;
     for kind in SIGNALS.into_iter().cycle() {
@@ -39,7 +36,7 @@ pub fn run(settings: &Settings) -> Result<u64, Failure> {
         if let Some(split) = first_split(&words) {
             compared += split.at as u64 + 1;
             let report = report(words);
-            return Err(Failure::Difference { compared, report });
+            return Err(Difference { compared, report });
         }
         compared += length as u64;
     }
@@ -48,7 +45,7 @@ pub fn run(settings: &Settings) -> Result<u64, Failure> {
 
 /// The store before the first push: mostly empty, as setup leaves it; at
 /// times full of anything, as a host can leave it, so that a sum is a NaN.
-fn start(rng: &mut Rng) -> Vec<f64> {
+pub fn start(rng: &mut Rng) -> Vec<f64> {
     let full = rng.below(4) == 0;
     let sample = |_| if full { any(rng) } else { 0.0 };
     (0..TAPS).map(sample).collect()
@@ -62,7 +59,7 @@ fn first_split(words: &[u64]) -> Option<Split> {
     let mut store = [0.0; TAPS];
     store.copy_from_slice(&case[..TAPS]);
     for (at, &x) in case[TAPS..].iter().enumerate() {
-        let (one, other) = (rust.peak_abs(x), probe::peak_abs(&mut store, x)?);
+        let (one, other) = (rust.peak_abs(x), probe::peak_abs(&mut store, x));
         let remembered = inside::store(&rust);
         let same_store = remembered.iter().zip(&store).all(|(p, q)| same(*p, *q));
         if !same(one, other) || !same_store {
@@ -79,7 +76,7 @@ fn first_split(words: &[u64]) -> Option<Split> {
 }
 
 /// The same bits, or both NaN.
-fn same(p: f64, q: f64) -> bool {
+pub fn same(p: f64, q: f64) -> bool {
     canonical(p) == canonical(q)
 }
 
@@ -114,7 +111,7 @@ fn report(words: Vec<u64>) -> String {
 }
 
 /// Samples, one to a line.
-fn rows(text: &mut String, words: &[u64]) {
+pub fn rows(text: &mut String, words: &[u64]) {
     for &word in words {
         let _ = writeln!(text, "    {}", shown(word));
     }

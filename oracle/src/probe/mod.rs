@@ -1,0 +1,13 @@
+//! The proved code, called through the C functions of the library `probe`.
+
+mod bank;
+mod detector;
+mod keeper;
+mod leaves;
+mod setup;
+
+pub use bank::{Bank, COUNT, RATE, READY, ROW, TRIPLE};
+pub use detector::{peak_abs, peaks_abs};
+pub use keeper::{floors_setup, floors_step};
+pub use leaves::leaf;
+pub use setup::{coeff, look, refusal, target, weights};
