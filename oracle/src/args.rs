@@ -7,6 +7,7 @@ pub const USAGE: &str = "usage:
   oracle record [--out DIR]       write the recorded answers
   oracle compare [--layer NAME] [--seed N] [--count N]
                                   run the proved code beside the Rust
+  oracle sessions FILE            write recorded sessions of the limiter
   oracle taps                     print the detector's taps, one phase to a line
   oracle weights LOOK             print the attack weights for a look
   oracle steps LOOK [--release MS] GAIN...
@@ -23,6 +24,9 @@ pub enum Command {
         layer: Option<String>,
         seed: u64,
         count: u64,
+    },
+    Sessions {
+        out: PathBuf,
     },
     Taps,
     Weights {
@@ -102,6 +106,10 @@ pub fn parse(words: &[String]) -> Result<Command, String> {
     match name.as_str() {
         "record" => record(&Words::read(rest, &["--out"])?),
         "compare" => compare(&Words::read(rest, &["--layer", "--seed", "--count"])?),
+        "sessions" => match Words::read(rest, &[])?.plain.as_slice() {
+            [file] => Ok(Command::Sessions { out: file.into() }),
+            _ => Err("sessions wants one file".into()),
+        },
         "taps" => {
             Words::read(rest, &[])?.no_plain()?;
             Ok(Command::Taps)
@@ -155,6 +163,8 @@ mod tests {
     #[test]
     fn commands_read_as_they_are_written() {
         assert_eq!(read("taps"), Ok(Command::Taps));
+        let sessions = Command::Sessions { out: "x/y".into() };
+        assert_eq!(read("sessions x/y"), Ok(sessions));
         assert_eq!(read("weights 72"), Ok(Command::Weights { look: 72 }));
         assert_eq!(
             read("compare --layer exp --seed 7 --count 20"),
@@ -180,6 +190,8 @@ mod tests {
             "",
             "tap",
             "taps x",
+            "sessions",
+            "sessions x y",
             "record --in x",
             "compare --seed",
             "compare --seed x",

@@ -22,6 +22,7 @@ mod record;
 #[cfg(any(test, feature = "probe"))]
 mod rings;
 mod rng;
+mod sessions;
 #[cfg(any(test, feature = "probe"))]
 mod setups;
 mod show;
@@ -65,6 +66,7 @@ fn main() -> ExitCode {
 fn run(command: Command) -> Result<ExitCode, String> {
     let text = match command {
         Command::Record { out } => record::record(&out)?,
+        Command::Sessions { out } => sessions::write(&out)?,
         Command::Taps => show::taps(),
         Command::Weights { look } => show::weights(look)?,
         Command::Steps {

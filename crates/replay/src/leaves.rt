@@ -1,9 +1,10 @@
 // The file `leaves`: records of six words, op, a, b, c, status and answer. An f64 is its bits, and
 // every NaN answer is the canonical one.
-use crate::tally::Step;
 use arithmetic::math::ExpAnswer;
 use arithmetic::pattern::from_bits;
 use arithmetic::pattern::to_bits;
+use records::tally::Step;
+use records::words;
 
 // One record.
 struct Leaf {
@@ -73,11 +74,11 @@ fn same(leaf: Leaf) -> bool {
 
 // The five words after the op, which a whole file has.
 fn rest(fd: i32, op: u64) -> Leaf {
-    let a = crate::words::next(fd).word;
-    let b = crate::words::next(fd).word;
-    let c = crate::words::next(fd).word;
-    let status = crate::words::next(fd).word;
-    let answer = crate::words::next(fd).word;
+    let a = words::next(fd).word;
+    let b = words::next(fd).word;
+    let c = words::next(fd).word;
+    let status = words::next(fd).word;
+    let answer = words::next(fd).word;
     Leaf {
         op,
         a,

@@ -6,13 +6,16 @@ use Rattle.replay.proofs.each.Statement.{statement}
 use Rattle.replay.proofs.each.Tie as tie
 
 abbrev Inv-loop : tie.InvT-loop
-Inv-loop layer fd tally₀ store₀ turn₀ tally store turn = turn ≤ 1000000
+Inv-loop layer fd tally₀ store₀ held₀ turn₀ tally store held turn = turn ≤ 1000000
 
 abbrev μ-loop : tie.MeasureT-loop
-μ-loop layer fd tally₀ store₀ turn₀ tally store turn = 1000000 - turn
+μ-loop layer fd tally₀ store₀ held₀ turn₀ tally store held turn = 1000000 - turn
 
 new-requires : tie.Need-new-requires Inv-loop μ-loop
 new-requires c κs = search needs
+
+new-requires-2 : tie.Need-new-requires-2 Inv-loop μ-loop
+new-requires-2 c κs = search needs
 
 loop-holds : tie.Need-loop-holds Inv-loop μ-loop
 loop-holds c = omega arith
@@ -48,6 +51,7 @@ each-spec =
     Inv-loop
     μ-loop
     new-requires
+    new-requires-2
     loop-holds
     next-requires
     returns

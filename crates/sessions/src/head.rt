@@ -1,0 +1,69 @@
+// The head of a recorded session: what the limiter was set up with.
+ghost use Prim.Native.Nat.{_≤_};
+use arithmetic::pattern::from_bits;
+use records::words::next;
+use settings::LimiterSettings;
+
+pub struct Head {
+    pub settings: LimiterSettings,
+    pub rate: u32,
+    pub channels: usize,
+    pub look: usize,
+    pub rows: usize,
+    pub seed: u64,
+    pub kind: u64,
+}
+
+fn float(fd: i32) -> f64 {
+    from_bits(next(fd).word)
+}
+
+// A count of at most `most`; a larger one is damage, which the digests tell.
+fn count(fd: i32, most: u64) -> u64
+    ensures { λ r. ⌜ r ≤ most ⌝ }
+{
+    let n = next(fd).word;
+    if n <= most { n } else { most }
+}
+
+fn settings(fd: i32) -> LimiterSettings {
+    let threshold_db = float(fd);
+    let true_peak_margin_db = float(fd);
+    let lookahead_ms = float(fd);
+    LimiterSettings {
+        threshold_db,
+        true_peak_margin_db,
+        lookahead_ms,
+        release_ms: float(fd),
+    }
+}
+
+pub fn read(fd: i32) -> Head
+    ensures { λ r. ⌜ (r .channels ≤ 8) × (r .look ≤ 4096) × (r .rows ≤ 4096) ⌝ }
+{
+    let rate = count(fd, 192000) as u32;
+    let channels = count(fd, 8) as usize;
+    let s = settings(fd);
+    let look = count(fd, 4096) as usize;
+    let rows = count(fd, 4096) as usize;
+    let seed = next(fd).word;
+    let kind = next(fd).word;
+    Head {
+        settings: s,
+        rate,
+        channels,
+        look,
+        rows,
+        seed,
+        kind,
+    }
+}
+
+// The weights, as the Rust computed them.
+pub fn weights(fd: i32, into: &mut [f64]) {
+    let mut i: usize = 0;
+    while i < into.len() {
+        into[i] = float(fd);
+        i += 1;
+    }
+}

@@ -1,0 +1,69 @@
+// The samples of a recorded session, which both sides make from a seed, and the digest of its outputs.
+use arithmetic::pattern::from_bits;
+use arithmetic::pattern::to_bits;
+
+// xorshift: the next state is also the word that is drawn.
+pub fn drawn(x: u64) -> u64 {
+    let a = x ^ (x << 13);
+    let b = a ^ (a >> 7);
+    b ^ (b << 17)
+}
+
+// A sign and a fraction, with an exponent that lies up to `spread` below 2^0 (spread is 2^n − 1, so the
+// exclusive or takes it off 1023).
+fn lowered(r: u64, spread: u64) -> u64 {
+    (r & 0x800f_ffff_ffff_ffff) | ((1023 ^ ((r >> 52) & spread)) << 52)
+}
+
+// The bits of a sample of a kind: any pattern; loud; loud to quiet; full scale; damage in silence; tiny.
+fn shaped(kind: u64, r: u64) -> u64 {
+    if kind == 0 {
+        return r;
+    }
+    if kind == 1 {
+        return lowered(r, 7);
+    }
+    if kind == 2 {
+        return lowered(r, 31);
+    }
+    if kind == 3 {
+        return (r & 0x8000_0000_0000_0000) | 0x3ff0_0000_0000_0000;
+    }
+    if kind == 4 {
+        return if (r >> 52) & 63 == 0 { r } else { 0 };
+    }
+    r & 0x801f_ffff_ffff_ffff
+}
+
+// One channel's samples; the state afterwards.
+pub fn fill(samples: &mut [f64], x: u64, kind: u64) -> u64 {
+    let mut state = x;
+    let mut i: usize = 0;
+    while i < samples.len() {
+        state = drawn(state);
+        samples[i] = from_bits(shaped(kind, state));
+        i += 1;
+    }
+    state
+}
+
+// d times 2^40 + 435, as FNV has it, modulo 2^64.
+fn spread(d: u64) -> u64 {
+    let low = std::num::wrapping_add_u64(
+        std::num::wrapping_add_u64(d, d << 1),
+        std::num::wrapping_add_u64(d << 4, d << 5),
+    );
+    let high = std::num::wrapping_add_u64(std::num::wrapping_add_u64(d << 7, d << 8), d << 40);
+    std::num::wrapping_add_u64(low, high)
+}
+
+// A digest with these outputs added.
+pub fn digest(d: u64, outputs: &[f64]) -> u64 {
+    let mut sum = d;
+    let mut i: usize = 0;
+    while i < outputs.len() {
+        sum = spread(sum ^ to_bits(outputs[i]));
+        i += 1;
+    }
+    sum
+}
