@@ -2,6 +2,7 @@
 pub mod Answer
 pub mod Judge
 pub mod Ready
+pub mod Setup
 pub mod Frames
 pub mod Keeping
 pub mod Rows
