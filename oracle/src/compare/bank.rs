@@ -257,3 +257,39 @@ fn described(call: &Call) -> String {
         other => format!("{other:?}"),
     }
 }
+
+#[cfg(test)]
+mod tests {
+    use super::*;
+    use crate::bank::Shape;
+
+    /// The difference that docs/DIFFERENCES.md tells, in its smallest form: a
+    /// forged target that is a NaN with its sign set. With its sign clear the two
+    /// agree.
+    #[test]
+    fn a_forged_nan_target_splits_the_two_by_its_sign() {
+        let after_a_step = |target: u64| {
+            let declared = Declared {
+                id: 0,
+                low: -30.0,
+                high: 0.0,
+                default: -1.0,
+                ms: 5.0,
+                shape: Shape::Linear,
+            };
+            let (told, mut proved) = Bank::set_up(&[declared], 48_000);
+            assert_eq!(told.number, 0);
+            let mut rust = set_up(&[declared], 48_000).expect("good");
+            let mut slot = inside::slots(&rust)[0];
+            (slot.cur, slot.delta, slot.left) = (-1.0, 1.0, 2);
+            slot.target = f64::from_bits(target);
+            inside::forge(&mut rust, 0, &slot);
+            proved.forge(0, &slot);
+            called(&mut rust, &Call::Step);
+            proved.call(&Call::Step);
+            (inside::slots(&rust)[0].cur, proved.slots(1)[0].cur)
+        };
+        assert_eq!(after_a_step(0xfff8_0000_0000_0000), (-2.0, 0.0));
+        assert_eq!(after_a_step(0x7ff8_0000_0000_0000), (0.0, 0.0));
+    }
+}
