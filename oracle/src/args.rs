@@ -9,6 +9,7 @@ pub const USAGE: &str = "usage:
                                   run the proved code beside the Rust
   oracle sessions FILE            write recorded sessions of the limiter
   oracle taps                     print the detector's taps, one phase to a line
+  oracle time                     time the proved detector beside the Rust's
   oracle weights LOOK             print the attack weights for a look
   oracle steps LOOK [--release MS] GAIN...
                                   drive step_env with gains, each 16 hex digits
@@ -29,6 +30,7 @@ pub enum Command {
         out: PathBuf,
     },
     Taps,
+    Time,
     Weights {
         look: usize,
     },
@@ -113,6 +115,10 @@ pub fn parse(words: &[String]) -> Result<Command, String> {
         "taps" => {
             Words::read(rest, &[])?.no_plain()?;
             Ok(Command::Taps)
+        }
+        "time" => {
+            Words::read(rest, &[])?.no_plain()?;
+            Ok(Command::Time)
         }
         "weights" => match Words::read(rest, &[])?.plain.as_slice() {
             [look] => Ok(Command::Weights {

@@ -31,6 +31,8 @@ mod shrink;
 mod signals;
 #[cfg(any(test, feature = "probe"))]
 mod tables;
+#[cfg(feature = "probe")]
+mod time;
 
 // The module tree of the Rust: its files as `build.rs` found them, and the
 // two modules of names that its crate root has and docs/src lacks.
@@ -68,6 +70,7 @@ fn run(command: Command) -> Result<ExitCode, String> {
         Command::Record { out } => record::record(&out)?,
         Command::Sessions { out } => sessions::write(&out)?,
         Command::Taps => show::taps(),
+        Command::Time => timed()?,
         Command::Weights { look } => show::weights(look)?,
         Command::Steps {
             look,
@@ -87,6 +90,16 @@ fn run(command: Command) -> Result<ExitCode, String> {
 #[cfg(feature = "probe")]
 fn compared(layer: Option<&str>, seed: u64, count: u64) -> Result<bool, String> {
     compare::compare(layer, &compare::Settings { seed, count })
+}
+
+#[cfg(feature = "probe")]
+fn timed() -> Result<String, String> {
+    Ok(time::detector())
+}
+
+#[cfg(not(feature = "probe"))]
+fn timed() -> Result<String, String> {
+    Err("built without the proved code; build with --features probe".into())
 }
 
 #[cfg(not(feature = "probe"))]
