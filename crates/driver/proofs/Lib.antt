@@ -1,0 +1,1 @@
+-- Laws of the driver that belong to no one function.
