@@ -1,0 +1,1 @@
+-- The claim's proof, and the controls.

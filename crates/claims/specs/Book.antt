@@ -1,0 +1,78 @@
+-- The book: samples, threshold, kept target and drained count of its own, and what follows from them. It has no ring, no marks or minima, no tally, no position of a row or a delay line.
+use Prim.Native.Nat.{ℕ, zero, suc, _+_}
+use mathlib.Core.List.{List, [], _∷_, _++_, map}
+use lib.ListN.{take, getD, replicate}
+use lib.Ieee.{Float, binary64, mul}
+use Rattle.arithmetic.specs.Number
+use Rattle.arithmetic.specs.Number.{one}
+use Rattle.arithmetic.specs.Sanitize.{finiteOrZero, unitGain}
+use Rattle.detector.specs.Oversample.{sumsOf, largestOf}
+use Rattle.detector.specs.History.{silent, latest}
+use Rattle.keeper.specs.Floor.{floorOf}
+use Rattle.settings.specs.Derived.{lookOf, rowOf}
+use Rattle.settings.specs.declared.LimiterSettings.{LimiterSettings}
+use Rattle.frame.specs.Rules.{Rules}
+use Rattle.frame.specs.Frame.{heard, requiredGain}
+use Rattle.bank.specs.declared.smoother.Smoother.{Smoother}
+
+-- a frame that joined: its samples as they were given, one a channel, and its target
+pub record Joined : Type 0 where
+  pub samples : List Float
+  pub target : Float
+
+pub record Book : Type 0 where
+  -- what was set up
+  pub settings : LimiterSettings
+  pub rate : ℕ
+  pub channels : ℕ
+  pub largest : ℕ
+  pub weights : List Float
+  -- the bank: the threshold's smoother
+  pub threshold : Smoother
+  -- the kept target
+  pub target : Float
+  pub drained : ℕ
+  -- the frames since the latest finished reset, or since setup: NEWEST FIRST
+  pub frames : List Joined
+
+abbrev pub lookIn : Book → ℕ
+lookIn b = lookOf (b .settings .«lookahead_ms») (b .rate)
+
+-- ---- peaks: lists of frames are newest first, and speak of their newest
+-- a channel's samples
+abbrev pub channelOf : ℕ → List Joined → List Float
+channelOf c fs = map (λ (f : Joined). getD (f .samples) c Number.zero) fs
+
+-- the detector's answer: the newest twelve samples, 0 before the start
+unfoldable pub between : Rules → ℕ → List Joined → Float
+between rules c fs = largestOf (sumsOf (rules .taps) (latest silent (channelOf c fs)))
+
+-- the highest peak over k channels from channel c on, on the samples and between them
+unfoldable pub peakFrom : Rules → ℕ → ℕ → Float → List Joined → Float
+peakFrom rules c zero peak fs = peak
+peakFrom rules c (suc k) peak fs = peakFrom rules (c + 1) k (heard (rules .counts c) peak (getD (channelOf c fs) 0 Number.zero) (between rules c fs)) fs
+
+-- ---- required gains, floors, attack row
+-- "the target divided by a frame's highest peak over all channels, kept within 0 and 1; in silence it is 1": of each frame
+unfoldable pub requiredOf : Rules → ℕ → List Joined → List Float
+requiredOf rules channels [] = []
+requiredOf rules channels (f ∷ fs) = unitGain (requiredGain (f .target) (peakFrom rules 0 channels Number.zero (f ∷ fs))) ∷ requiredOf rules channels fs
+
+-- "the least required gain among the latest look + 1 frames, or among all so far while there are fewer": of each frame, by plain scan
+unfoldable pub floorsOf : ℕ → List Float → List Float
+floorsOf look [] = []
+floorsOf look (g ∷ gs) = floorOf look g gs ∷ floorsOf look gs
+
+-- "the latest look − 11 floors, but at least one, with 1 standing for any before the start"
+unfoldable pub attackRow : ℕ → List Float → List Float
+attackRow look gains = take (rowOf look) (floorsOf look gains ++ replicate (rowOf look) one)
+
+-- ---- what leaves
+-- a channel's sample of look frames earlier, sanitized, or 0 before the start
+abbrev pub earlier : ℕ → ℕ → List Joined → Float
+earlier look c fs = finiteOrZero (getD (channelOf c fs) look Number.zero)
+
+-- "times that gain by document 01's output rule": for k channels from channel c on
+unfoldable pub leavingFrom : Rules → ℕ → Float → ℕ → ℕ → List Joined → List Float
+leavingFrom rules look gain c zero fs = []
+leavingFrom rules look gain c (suc k) fs = rules .leaves (mul binary64 (earlier look c fs) gain) ∷ leavingFrom rules look gain (c + 1) k fs

@@ -1,0 +1,98 @@
+-- THE CLAIM: demand 3 of document 01, of a machine. For every machine that a finished setup or a finished reset leaves, and every list of calls after it.
+--
+-- "Demand 3's true floor, attack row, required gains and earlier samples are the book's; the floor used, tally, mean, applied gain and output are the limiter's."
+use Prim.Native.Nat.{ℕ, _+_, _-_, _*_, _≤_, _<_}
+use mathlib.Core.Path.{_≡_}
+use mathlib.Core.Bool.{true}
+use mathlib.Core.List.{List, [], _∷_}
+use lib.ListN.{length, getD}
+use lib.Ieee.{Float, nan, le}
+use Rattle.arithmetic.specs.Number
+use Rattle.arithmetic.specs.Number.{one, within}
+use Rattle.envelope.specs.Row.{tallyOf}
+use Rattle.envelope.specs.Mean.{meanOf}
+use Rattle.settings.specs.Derived.{rowOf}
+use Rattle.settings.specs.declared.LimiterSettings.{LimiterSettings}
+use Rattle.settings.specs.declared.memory.Cap.{Cap}
+use Rattle.limiter.specs.Stores.{Stores}
+use Rattle.frame.specs.Rules.{Rules}
+use Rattle.frame.specs.Frame.{Framed}
+use Rattle.bank.specs.Bank.{valueOf}
+use Rattle.driver.specs.Machine.{Machine, thresholdOf, readyRefusal}
+use Rattle.driver.specs.Block.{Outcome, outputsOf}
+use Rattle.driver.specs.Calls.{setupOf}
+use Rattle.claims.specs.Session.{Call, block, drain, parameter, reset, audioIn, Limiting, called}
+use Rattle.claims.specs.Book.{Joined, Book, lookIn, requiredOf, floorsOf, attackRow, leavingFrom}
+use Rattle.claims.specs.BookCalls.{Entry, opened, openedNew, enter, valueIn}
+
+-- ---- one frame
+-- f is what the limiter showed in a frame; fs are the book's frames, that one first
+pub record FrameHolds (rules : Rules) (look channels : ℕ) (weights : List Float) (fs : List Joined) (f : Framed) : Type 0 where
+  -- "the gain step uses the true floor, where only frames since the latest finished reset, or since setup, count"
+  pub floor : f .floor ≡ getD (floorsOf look (requiredOf rules channels fs)) 0 nan
+  -- "its tally equals the number of floors in the attack row other than 1"
+  pub tally : f .moving .env .rowed .state .tally ≡ tallyOf (attackRow look (requiredOf rules channels fs))
+  -- "the applied gain lies within 0 and 1"
+  pub gain : within Number.zero one (f .gain) ≡ true
+  -- the mean is the weighted fold over the book's row, newest first
+  pub mean : f .mean ≡ meanOf weights (attackRow look (requiredOf rules channels fs))
+  -- "a row of nothing but 1 has a mean of exactly 1"
+  pub quiet : tallyOf (attackRow look (requiredOf rules channels fs)) ≡ 0 → f .mean ≡ one
+  -- "each channel gives out its sample of look frames earlier, sanitized, or 0 before the start, times that gain by document 01's output rule"
+  pub outputs : f .outputs ≡ leavingFrom rules look (f .gain) 0 channels fs
+  -- "Where a sample leaves so, no floor in the attack row is above the required gain of its own frame or of any of the eleven frames after it": it leaves where its frame is one of fs, look frames back
+  pub leaving : look < length fs → (i k : ℕ) → i < rowOf look → k ≤ 11
+      → le (getD (attackRow look (requiredOf rules channels fs)) i nan) (getD (requiredOf rules channels fs) (look - k) nan) ≡ true
+
+-- ---- the frames that a call takes: those that join the book, oldest first, and those that the limiter showed
+abbrev pub FramesHold : Rules → ℕ → ℕ → List Float → List Joined → List Joined → List Framed → Type 0
+FramesHold rules look channels weights history [] [] = Unit {0}
+FramesHold rules look channels weights history [] (f ∷ fs) = ⊥
+FramesHold rules look channels weights history (j ∷ js) [] = ⊥
+FramesHold rules look channels weights history (j ∷ js) (f ∷ fs) = FrameHolds rules look channels weights (j ∷ history) f × FramesHold rules look channels weights (j ∷ history) js fs
+
+-- the audio that the call gives out: of each channel the first n places are the frames' outputs, the rest are as they were
+pub record Given (channels width n : ℕ) (outputs : List (List Float)) (before after : List Float) : Type 0 where
+  pub as-long : length after ≡ length before
+  pub placed : (c i : ℕ) → c < channels → i < n → getD after (c * width + i) nan ≡ getD (getD outputs i []) c nan
+  pub others : (c i : ℕ) → c < channels → n ≤ i → i < width → getD after (c * width + i) nan ≡ getD before (c * width + i) nan
+
+-- how many frames a channel of the call's audio has
+abbrev pub widthOf : Call → ℕ
+widthOf (block position frames events audio) = frames
+widthOf (drain frames audio) = frames
+widthOf (parameter id v) = 0
+widthOf reset = 0
+
+-- ---- one call: o is what the machine makes of it, e what the book does
+pub record CallHolds (rules : Rules) (b : Book) (m : Machine) (call : Call) (o : Outcome) (e : Entry) : Type 0 where
+  -- the answers are the book's
+  pub reply : o .reply ≡ e .reply
+  -- 18, 16 and 19 never arise
+  pub never : (o .reply .number ≡ 18 → ⊥) × ((o .reply .number ≡ 16 → ⊥) × (o .reply .number ≡ 19 → ⊥))
+  -- a refused call changes nothing
+  pub refusal : (o .reply .number ≡ 0 → ⊥) → (o .machine ≡ m) × (o .audio ≡ audioIn call)
+  -- what is left is set up, fits and is in order
+  pub ready : readyRefusal (o .machine) ≡ 0
+  -- demand 3 in each frame taken
+  pub frames : FramesHold rules (lookIn b) (b .channels) (b .weights) (b .frames) (e .joined) (o .frames)
+  pub audio : o .reply .number ≡ 0 → Given (b .channels) (widthOf call) (length (e .joined)) (outputsOf (o .frames)) (audioIn call) (o .audio)
+  -- the parameter values equal the book's
+  pub values : (id : ℕ) → valueOf (o .machine .bank) id ≡ valueIn (e .book) id
+
+-- ---- a list of calls, each on what the last one left
+abbrev pub Holds : Rules → Limiting → Book → Machine → List Call → Type 0
+Holds rules l b m [] = Unit {0}
+Holds rules l b m (call ∷ calls) =
+    CallHolds rules b m call (called l m call) (enter b call) × Holds rules l (enter b call .book) (called l m call .machine) calls
+
+-- ---- the claim
+pub record Claim (rules : Rules) (l : Limiting) : Type 0 where
+  -- after a finished setup
+  pub after-setup : (s : LimiterSettings) (rate channels largest : ℕ) (cap : Cap) (stores : Stores)
+      → (let start = setupOf s rate channels largest cap stores in start .reply .number ≡ 0 → (calls : List Call) → Holds rules l (openedNew s rate channels largest (stores .weights)) (start .machine) calls)
+  -- after a finished reset of any machine at all: the book opens with the bank which that reset left
+  pub after-reset : (m : Machine)
+      → (let start = l .resets m in
+      start .reply .number ≡ 0 → (calls : List Call)
+      → Holds rules l (opened (m .limiter .settings) (m .limiter .rate) (m .limiter .channels) (m .limiter .«max_block») (m .stores .weights) (thresholdOf (start .machine .bank))) (start .machine) calls)
