@@ -14,7 +14,7 @@ use lib.Ieee.Scale.{finite}
 use borrow.Author.Tests.{leb-true, ltb-true, le-leb}
 use Rattle.arithmetic.specs.Number
 use Rattle.arithmetic.specs.Number.{signOf, within}
-use Rattle.arithmetic.specs.Exp.{invLn2, half, minus700, inDomain, highOf, cutOf}
+use Rattle.arithmetic.specs.Exp.{half, minus700, inDomain, highOf, cutting}
 use Rattle.arithmetic.proofs.Order.{left, right, le-is, clash, and-true, lt-then-le, le-then-lt}
 use Rattle.arithmetic.proofs.Within.{within→finite}
 
@@ -145,9 +145,6 @@ bounded z h k =
 pub magnitude : (m : ℕ) (e : ℤ) → le minus700 (fin true m e) ≡ true → m * up e ≤ 700 * down e
 unfolding ofBits
 magnitude m e h = omega (arith, leb-true (left (fin true 175 (pos 2)) (fin true m e)) (right (fin true 175 (pos 2)) (fin true m e)) (sym (le-is (fin true 175 (pos 2)) (fin true m e) tt tt) ∙ h))
-
-abbrev pub cutting : Float → Float
-cutting x = neg (sub binary64 (mul binary64 invLn2 x) half)
 
 below-zero : (m : ℕ) (e : ℤ) → le minus700 (fin true m e) ≡ true → Bounded (cutting (fin true m e))
 unfolding mul ofBits

@@ -15,11 +15,11 @@ use lib.Ieee.Positive.{num, den, den-pos}
 use lib.Ieee.Scale.{finite, round-same}
 use Rattle.arithmetic.specs.Number
 use Rattle.arithmetic.specs.Number.{one, signOf, within}
-use Rattle.arithmetic.specs.Exp.{ln2Hi, ln2Lo, invLn2, half, kOf, hiOf, loOf, reduced}
+use Rattle.arithmetic.specs.Exp.{ln2Hi, ln2Lo, invLn2, half, cutting, kOf, hiOf, loOf, reduced}
 use Rattle.arithmetic.proofs.Order.{clash}
 use Rattle.arithmetic.proofs.Values.{add-values}
 use Rattle.arithmetic.proofs.Whole.{next}
-use Rattle.arithmetic.proofs.Cut.{neg-round, sign-round, cutting, turned}
+use Rattle.arithmetic.proofs.Cut.{neg-round, sign-round, turned}
 use Rattle.arithmetic.proofs.UnitBound.{Bound, exact, round-bound, round-above, sum-apart, mul-bound}
 use Rattle.arithmetic.proofs.UnitScaled.{Small, widen, sub-small, scaled-unit}
 

@@ -49,9 +49,13 @@ inDomain x = le minus700 x && le x zero
 abbrev pub highOf : Float → ℕ
 highOf x = toBits binary64 x / 2 ^ 32 % 2 ^ 31
 
+-- −(INVLN2 × x − 0.5)
+abbrev pub cutting : Float → Float
+cutting x = neg (sub binary64 (mul binary64 invLn2 x) half)
+
 -- n stands for −k throughout, since k is never above 0 here: INVLN2 × x − 0.5 cut toward zero
 abbrev pub cutOf : Float → ℕ
-cutOf x = toUnsigned 64 (neg (sub binary64 (mul binary64 invLn2 x) half))
+cutOf x = toUnsigned 64 (cutting x)
 
 -- −k, where h is past 3fd62e42
 abbrev pub stepsOf : ℕ → Float → ℕ

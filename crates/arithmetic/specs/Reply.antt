@@ -1,6 +1,7 @@
 -- What a call answers, in document 01's own terms: the number of its table, 0 where the work is finished, and the values that go with it.
 -- Each answer enum has one definition that gives the reply of each of its cases, and the promises speak of replies.
 use Prim.Native.Nat.{ℕ}
+use mathlib.Core.Bool.{Bool, cond}
 use mathlib.Core.List.{List, []}
 use lib.Ieee.{Float}
 
@@ -20,3 +21,7 @@ finished vs = record { number = 0; values = vs }
 -- a refusal of the table
 abbrev pub refused : ℕ → List Value → Reply
 refused n vs = record { number = n; values = vs }
+
+-- a refusal's number where its test is not passed, else what the next tests say
+abbrev pub unless : Bool → ℕ → ℕ → ℕ
+unless passed number next = cond passed next number

@@ -3,7 +3,7 @@
 ghost use mathlib.Core.Path.{_≡_};
 ghost use mathlib.Core.Bool.{true};
 ghost use Prim.Native.Nat.{_≤_, _<_};
-ghost use Rattle.arithmetic.specs.Exp.{inDomain, highOf, cutOf, powerOf, correction, scaled, reduced, expAt, expReply};
+ghost use Rattle.arithmetic.specs.Exp.{inDomain, highOf, cutting, cutOf, powerOf, correction, scaled, reduced, expAt, expReply};
 ghost use Rattle.arithmetic.specs.Answers.{replyOf};
 
 const LN2HI: f64 = 6.93147180369123816490e-01;
@@ -59,6 +59,13 @@ fn exp_at(h: u64, x: f64) -> f64
     reduced(x, cut(x))
 }
 
+// What is cut: −(INVLN2 × x − 0.5).
+fn cutting(x: f64) -> f64
+    ensures { λ r. ⌜ r ≡ cutting x ⌝ }
+{
+    -(INVLN2 * x - 0.5)
+}
+
 // −k: how often ln 2 goes into −x, rounded.
 fn cut(x: f64) -> u64
     requires { ⌜ inDomain x ≡ true ⌝ }
@@ -66,7 +73,7 @@ fn cut(x: f64) -> u64
     ensures { λ r. ⌜ r ≡ cutOf x ⌝ }
     ensures { λ r. ⌜ r ≤ 1022 ⌝ }
 {
-    std::num::truncating_f64_to_u64(-(INVLN2 * x - 0.5))
+    std::num::truncating_f64_to_u64(cutting(x))
 }
 
 // The argument is reduced by n times ln 2, in two parts.

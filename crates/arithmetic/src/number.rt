@@ -2,7 +2,8 @@
 // required.
 ghost use mathlib.Core.Path.{_≡_};
 ghost use lib.Ieee.Scale.{finite};
-ghost use Rattle.arithmetic.specs.Number.{absOf, minOf, maxOf, clampOf, copysignOf, roundedOf, ceilOf};
+ghost use Rattle.arithmetic.specs.Number;
+ghost use Rattle.arithmetic.specs.Number.{one, absOf, minOf, maxOf, clampOf, within, copysignOf, roundedOf, ceilOf};
 ghost use Rattle.arithmetic.specs.Part.{Parted};
 
 // Whether x is neither a NaN nor an infinity: only a finite number less itself is 0.
@@ -10,6 +11,13 @@ pub fn is_finite(x: f64) -> bool
     ensures { λ r. ⌜ r ≡ finite x ⌝ }
 {
     x - x == 0.0
+}
+
+// Whether x lies within 0 and 1.
+pub fn unit(x: f64) -> bool
+    ensures { λ r. ⌜ r ≡ within Number.zero one x ⌝ }
+{
+    (0.0 <= x) & (x <= 1.0)
 }
 
 // The magnitude: a NaN stays one, and a zero loses its sign.

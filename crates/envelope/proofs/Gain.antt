@@ -52,7 +52,7 @@ unit-set (x ∷ xs) (suc i) f h u =
 apart : (a b : ℕ) → a ≤ b → (a ≡ b → ⊥) → a < b
 apart a b h n = lt-of-le-ne h n
 
-next-inside : (l pos : ℕ) → pos < l → nextPos l pos < l
+pub next-inside : (l pos : ℕ) → pos < l → nextPos l pos < l
 next-inside l pos h = go (eqb (pos + 1) l) refl
   where
     go : (b : Bool) → eqb (pos + 1) l ≡ b → cond b 0 (pos + 1) < l

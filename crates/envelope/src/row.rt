@@ -5,6 +5,7 @@ ghost use Prim.Native.Nat.{_+_, _≤_, _<_};
 ghost use lib.ListN.{length, drop};
 ghost use Rattle.envelope.specs.Row.{down, newestFirst, otherThanOne, tallyOf, nextPos, rowedAt, pushed, allUnit, rowInOrder};
 ghost use Rattle.envelope.specs.Mean.{weightedFrom, meanOf};
+use arithmetic::number::unit;
 
 // The Rust's wm_pos and wm_nonunity.
 pub struct AttackRow {
@@ -21,10 +22,11 @@ fn other_than_one(floor: f64) -> usize
     if floor != 1.0 { 1 } else { 0 }
 }
 
-// The position after this one, round at the row's end.
-fn next_pos(l: usize, pos: usize) -> usize
+// The position after this one, round at the end of l places: the attack row's, and a delay line's.
+pub fn next_pos(l: usize, pos: usize) -> usize
     requires { ⌜ pos < l ⌝ }
     ensures { λ r. ⌜ r ≡ nextPos l pos ⌝ }
+    ensures { λ r. ⌜ r < l ⌝ }
 {
     let next = pos + 1;
     if next == l { 0 } else { next }
@@ -53,8 +55,7 @@ fn all_unit(row: &[f64]) -> bool
 {
     let mut i: usize = 0;
     while i < row.len() {
-        let floor = row[i];
-        if !((0.0 <= floor) & (floor <= 1.0)) {
+        if !unit(row[i]) {
             return false;
         }
         i += 1;

@@ -19,11 +19,10 @@ use Rattle.keeper.specs.Keeper.{steppedOf, ordered}
 use Rattle.keeper.proofs.Step.{order-after}
 use Rattle.envelope.specs.Step.{Enveloped, gainStepOf, EnvReady}
 use Rattle.envelope.specs.Row.{pushed, rowInOrder}
-use Rattle.envelope.proofs.Gain.{gain-unit, pushed-in-order, step-floor-unit}
+use Rattle.envelope.proofs.Gain.{gain-unit, next-inside, pushed-in-order, step-floor-unit}
 use Rattle.frame.specs.Rules.{Rules}
 use Rattle.frame.specs.Frame.{heard, linkedFrom, requiredGain, delayedFrom, Moving, Framed, frameOf}
 use Rattle.frame.specs.Run.{followed, framesOf, framesIn, othersOf, writtenIn, runOf, RunReady}
-use Rattle.frame.proofs.Turns.{next-inside}
 use Rattle.frame.proofs.Exchange.{frames-length}
 
 -- ---- lengths of the stores

@@ -1,6 +1,6 @@
 -- The turns of the loops over a run's frames: what stands in the places passed, and what the rest comes to, stay the whole.
 use mathlib.Core.Path.{_≡_, refl, sym, ap, _∙_}
-use mathlib.Core.Bool.{Bool, true, false, cond}
+use mathlib.Core.Bool.{Bool, true, false}
 use mathlib.Core.List.{List, [], _∷_, _++_, map, append-nil}
 use Prim.Native.Nat.{ℕ, zero, suc, _+_, _-_, _%_, _≤_, _<_}
 use native.Mathlib.Numerals.{add-one}
@@ -9,15 +9,14 @@ use native.Mathlib.Omega.{arith}
 use lib.Dec.{eqb}
 use lib.ListN.{length, getD, set, take, drop, replicate, drop-of-length-le}
 use lib.Seq.{take-suc-set, append-snoc, drop-cons, drop-set-lt, take-all}
-use lib.Arith.{lt-of-le-ne}
 use lib.Ieee.{Float, nan}
-use borrow.Author.Tests.{eqb-true, eqb-false}
+use borrow.Author.Tests.{eqb-true}
 use Rattle.arithmetic.specs.Sanitize.{finiteOrZero}
 use Rattle.keeper.specs.InOrder.{mostFrames}
 use Rattle.keeper.specs.Keeper.{steppedOf}
 use Rattle.envelope.specs.Row.{nextPos}
 use Rattle.envelope.specs.Step.{Enveloped, GainStepped, gainStepOf, EnvReady}
-use Rattle.envelope.proofs.Gain.{env-after}
+use Rattle.envelope.proofs.Gain.{env-after, next-inside}
 use Rattle.frame.specs.Rules.{Rules}
 use Rattle.frame.specs.Frame.{heard, givenOut}
 use Rattle.frame.specs.Passes.{heardAll, Gains, gainsOf, posAfter, Outputs, outputsAt, channelOutputs}
@@ -96,13 +95,6 @@ module _ (weights : List Float) (coeff : Float) (e : Enveloped) (i : ℕ) (l : L
       )
 
 -- ---- outputs
-pub next-inside : (look pos : ℕ) → pos < look → nextPos look pos < look
-next-inside look pos h = go (eqb (pos + 1) look) refl
-  where
-    go : (b : Bool) → eqb (pos + 1) look ≡ b → cond b 0 (pos + 1) < look
-    go true e = omega (arith, eqb-true (pos + 1) look e)
-    go false e = lt-of-le-ne (omega arith) (eqb-false (pos + 1) look e)
-
 -- the outputs passed, and what the rest comes to
 abbrev pub outputsFrom : Rules → ℕ → ℕ → List Float → List Float → ℕ → List Float → Outputs
 outputsFrom rules look pos gains line i l =

@@ -3,22 +3,12 @@ ghost use mathlib.Core.Path.{_≡_};
 ghost use Prim.Native.Nat.{_+_, _*_, _≤_, _<_};
 ghost use lib.ListN.{length};
 ghost use Rattle.detector.specs.Run.{runLength};
-ghost use Rattle.envelope.specs.Row.{nextPos};
 ghost use Rattle.frame.specs.Rules.{presentRules};
 ghost use Rattle.frame.specs.Frame.{givenOut};
 ghost use Rattle.frame.specs.Passes.{posAfter, outputsAt, channelOutputs, writtenAt, outputsPass};
 use arithmetic::sanitize::finite_or_zero;
 use arithmetic::sanitize::flush_denormal;
-
-// The position after this one, round at the line's end.
-fn next_pos(look: usize, pos: usize) -> usize
-    requires { ⌜ pos < look ⌝ }
-    ensures { λ r. ⌜ r ≡ nextPos look pos ⌝ }
-    ensures { λ r. ⌜ r < look ⌝ }
-{
-    let next = pos + 1;
-    if next == look { 0 } else { next }
-}
+use envelope::row::next_pos;
 
 // What a frame gives out for what lay in the line.
 fn given_out(d: f64, gain: f64) -> f64

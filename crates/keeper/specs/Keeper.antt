@@ -8,7 +8,7 @@ use lib.ListN.{length, set, replicate}
 use lib.Ieee.{Float}
 use Rattle.arithmetic.specs.Number
 use Rattle.arithmetic.specs.Sanitize.{unitGain}
-use Rattle.arithmetic.specs.Reply.{Reply, finished, refused, count, float}
+use Rattle.arithmetic.specs.Reply.{Reply, finished, refused, count, float, unless}
 use Rattle.keeper.specs.Ring.{Entry, wrap, ringOf, dropBack, dropFront, frontOf}
 use Rattle.keeper.specs.InOrder.{mostFrames, inOrder}
 use Rattle.keeper.specs.declared.FloorKeeper.{FloorKeeper}
@@ -55,10 +55,6 @@ lookTaken look = leb 11 look && leb look 4096
 -- 16: a store's length
 abbrev pub storesFit : ℕ → List ℕ → List Float → Bool
 storesFit look marks minima = eqb (length marks) (look + 1) && eqb (length minima) (look + 1)
-
--- a refusal's number where its test is not passed, else what the next tests say
-abbrev pub unless : Bool → ℕ → ℕ → ℕ
-unless passed n next = cond passed next n
 
 -- what a call leaves: its reply, and keeper and stores
 pub record Outcome : Type 0 where

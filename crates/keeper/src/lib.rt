@@ -11,7 +11,7 @@ mod ring;
 
 use crate::order::MOST_FRAMES;
 use crate::order::counts_in_order;
-use crate::order::look_taken;
+pub use crate::order::look_taken;
 use crate::order::ring_in_order;
 use crate::order::stores_fit;
 pub use crate::ring::clear_marks;

@@ -6,13 +6,12 @@ ghost use Prim.Native.Nat.{ℕ, _+_, _-_, _≤_, _<_, _^_};
 ghost use lib.Dec.{eqb};
 ghost use lib.Ieee.{Float};
 ghost use lib.ListN.{length};
-ghost use Rattle.arithmetic.specs.Number.{within, one};
-ghost use Rattle.arithmetic.specs.Number;
 ghost use Rattle.keeper.specs.Ring.{ringOf, entryAt};
 ghost use Rattle.keeper.specs.InOrder.{countsInOrder, ringInOrder, rising, lessMark, lessMinimum, lastMark, firstMark, unitMinima};
 ghost use Rattle.keeper.specs.Keeper.{lookTaken, storesFit};
 use crate::ring::since;
 use crate::ring::wrap;
+use arithmetic::number::unit;
 
 // The most frames since a reset: 2^40.
 pub const MOST_FRAMES: u64 = 1099511627776;
@@ -61,13 +60,6 @@ pub fn counts_in_order(look: usize, head: usize, len: usize, frame: u64) -> bool
         return false;
     }
     head <= look
-}
-
-// Whether x lies within 0 and 1.
-pub fn unit(x: f64) -> bool
-    ensures { λ r. ⌜ r ≡ within Number.zero one x ⌝ }
-{
-    if x >= 0.0 { x <= 1.0 } else { false }
 }
 
 // Whether the entry at a place is above the one before it, in mark and in minimum.

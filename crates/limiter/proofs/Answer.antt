@@ -9,10 +9,12 @@ use lib.Dec.{eqb}
 use lib.Ieee.{Float}
 use types.Run.{OneOf}
 use denote.Enum.Declared.{tagOf}
+use Rattle.arithmetic.specs.Reply.{unless}
+use Rattle.keeper.specs.Keeper.{lookTaken}
 use Rattle.settings.specs.Memory.{fitsCap}
 use Rattle.settings.specs.Derived.{lookOf}
 use Rattle.settings.specs.Weights.{accepted}
-use Rattle.settings.specs.Accepted.{refusalOf, unless, rateTaken, marginTaken, lookaheadTaken, releaseTaken, lookTaken, channelsTaken, blockTaken}
+use Rattle.settings.specs.Accepted.{refusalOf, rateTaken, marginTaken, lookaheadTaken, releaseTaken, channelsTaken, blockTaken}
 use Rattle.settings.specs.declared.LimiterSettings.{LimiterSettings}
 use Rattle.settings.specs.declared.memory.Cap.{Cap}
 use Rattle.limiter.specs.Prepare.{numbered, prepareReply, answerOf, storesRefusal, capReply, capAnswer}

@@ -87,7 +87,7 @@ unfolding ne
 ones-tally zero = refl
 ones-tally (suc n) = rw (ones-tally n) refl
 
-ones-in-order : (n : ℕ) → 0 < n → rowInOrder (record { pos = 0; tally = 0 }) (replicate n one) ≡ true
+pub ones-in-order : (n : ℕ) → 0 < n → rowInOrder (record { pos = 0; tally = 0 }) (replicate n one) ≡ true
 unfolding rowInOrder
 ones-in-order n h = rw (ones-unit n, ones-tally n, length-replicate n one, lt-ltb 0 n h) refl
 

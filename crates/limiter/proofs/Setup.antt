@@ -10,10 +10,10 @@ use lib.Ieee.{Float}
 use borrow.Author.Tests.{eq-eqb, eqb-true, eqb-false}
 use Rattle.arithmetic.specs.Number
 use Rattle.arithmetic.specs.Number.{one}
-use Rattle.arithmetic.specs.Reply.{Reply}
+use Rattle.arithmetic.specs.Reply.{Reply, unless}
 use Rattle.settings.specs.Derived.{lookOf, rowOf}
 use Rattle.settings.specs.Memory.{needed, fitsCap}
-use Rattle.settings.specs.Accepted.{refusalOf, unless}
+use Rattle.settings.specs.Accepted.{refusalOf}
 use Rattle.settings.specs.declared.LimiterSettings.{LimiterSettings}
 use Rattle.settings.specs.declared.memory.Cap.{Cap}
 use Rattle.limiter.specs.State.{notSetUp, started}

@@ -6,10 +6,11 @@ use lib.Dec.{eqb, ltb, leb}
 use lib.Ieee.{Float}
 use Rattle.arithmetic.specs.Number
 use Rattle.arithmetic.specs.Number.{one, within, sameValue}
+use Rattle.arithmetic.specs.Reply.{unless}
 use Rattle.keeper.specs.Keeper.{keepingAt, ordered}
 use Rattle.envelope.specs.Row.{rowInOrder}
 use Rattle.settings.specs.Derived.{lookOf, coefficientOf}
-use Rattle.settings.specs.Accepted.{refusalOf, unless}
+use Rattle.settings.specs.Accepted.{refusalOf}
 use Rattle.limiter.specs.Stores.{Stores, lengthsOf, lengthsFit}
 use Rattle.limiter.specs.declared.state.Limiter.{Limiter}
 

@@ -4,11 +4,11 @@ use mathlib.Core.Bool.{Bool, cond}
 use mathlib.Core.List.{List, [], _∷_}
 use lib.Dec.{eqb}
 use lib.Ieee.{Float}
-use Rattle.arithmetic.specs.Reply.{Reply, Value, finished, refused, count}
+use Rattle.arithmetic.specs.Reply.{Reply, Value, finished, refused, count, unless}
 use Rattle.settings.specs.Derived.{lookOf}
 use Rattle.settings.specs.Memory.{needed, fitsCap}
 use Rattle.settings.specs.Weights.{accepted}
-use Rattle.settings.specs.Accepted.{refusalOf, unless}
+use Rattle.settings.specs.Accepted.{refusalOf}
 use Rattle.settings.specs.declared.LimiterSettings.{LimiterSettings}
 use Rattle.settings.specs.declared.memory.Cap.{Cap}
 use Rattle.limiter.specs.State.{notSetUp, started}

@@ -2,21 +2,13 @@
 ghost use mathlib.Core.Path.{_≡_};
 ghost use Prim.Native.Nat.{_+_};
 ghost use lib.ListN.{length};
-ghost use Rattle.arithmetic.specs.Number.{one, within};
-ghost use Rattle.arithmetic.specs.Number;
 ghost use Rattle.limiter.specs.Stores.{storesAt};
 ghost use Rattle.limiter.specs.Order.{prepared, inOrder, readyRefusal};
 use crate::prepare::StoreLengths;
 use crate::prepare::lengths_fit;
 use crate::state::Limiter;
+use arithmetic::number::unit;
 use arithmetic::pattern::same_value;
-
-// Whether x lies within 0 and 1.
-fn unit(x: f64) -> bool
-    ensures { λ r. ⌜ r ≡ within Number.zero one x ⌝ }
-{
-    (0.0 <= x) & (x <= 1.0)
-}
 
 impl Limiter {
     // 18: accepted settings, with look and release coefficient that are theirs.

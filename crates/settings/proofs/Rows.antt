@@ -1,13 +1,9 @@
--- Starred rows of document 01 that concern the settings, each computed.
+-- Starred rows of document 01 that concern the settings, each computed. What setup replies to looks and caps: the limiter's rows.
 use mathlib.Core.Path.{_≡_, refl}
-use mathlib.Core.Bool.{true, false}
-use Prim.Native.Nat.{ℕ}
 use lib.Ieee.{mul, ofInt, ofBits}
 use Rattle.arithmetic.specs.Number.{bits}
 use Rattle.settings.specs.Derived.{lookOf, rowOf}
-use Rattle.settings.specs.Memory.{needed, fitsCap, leftOf}
-use Rattle.settings.specs.Accepted.{lookTaken}
-use Rattle.settings.specs.declared.memory.Cap.{Cap}
+use Rattle.settings.specs.Memory.{needed}
 
 -- 48,000, 1.5 ms, stereo: look 72, L 61, 4,256 bytes
 pub default-look : lookOf (bits 0x3ff8_0000_0000_0000) 48000 ≡ 72
@@ -20,16 +16,6 @@ default-row = refl
 pub default-bytes : needed 2 72 ≡ 4256
 default-bytes = refl
 
--- cap 4,336 less the bank's 80 passes, and 4,335 less 80 does not
-pub cap-passes : fitsCap 4256 (leftOf 80 (Cap.Bytes 4336)) ≡ true
-cap-passes = refl
-
-pub cap-refused : fitsCap 4256 (leftOf 80 (Cap.Bytes 4335)) ≡ false
-cap-refused = refl
-
-pub cap-left : leftOf 80 (Cap.Bytes 4335) ≡ Cap.Bytes 4255
-cap-left = refl
-
 -- at 48,000: 0.22 ms gives look 11, 85.34 gives 4,096
 pub shortest : lookOf (bits 0x3fcc_28f5_c28f_5c29) 48000 ≡ 11
 unfolding mul ofInt ofBits
@@ -39,7 +25,7 @@ pub longest : lookOf (bits 0x4055_55c2_8f5c_28f6) 48000 ≡ 4096
 unfolding mul ofInt ofBits
 longest = refl
 
--- 0.21 (10) and 85.36 (4,097) are refused
+-- 0.21 gives 10, 85.36 gives 4,097
 pub too-short : lookOf (bits 0x3fca_e147_ae14_7ae1) 48000 ≡ 10
 unfolding mul ofInt ofBits
 too-short = refl
@@ -47,6 +33,3 @@ too-short = refl
 pub too-long : lookOf (bits 0x4055_570a_3d70_a3d7) 48000 ≡ 4097
 unfolding mul ofInt ofBits
 too-long = refl
-
-pub taken : (lookTaken 11 ≡ true) × (lookTaken 4096 ≡ true) × (lookTaken 10 ≡ false) × (lookTaken 4097 ≡ false)
-taken = (refl, refl, refl, refl)

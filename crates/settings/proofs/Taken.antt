@@ -3,8 +3,10 @@ use mathlib.Core.Path.{_≡_, refl, sym}
 use mathlib.Core.Bool.{Bool, true, false}
 use Prim.Native.Nat.{ℕ, zero, suc}
 use native.Mathlib.Omega.{arith}
+use Rattle.arithmetic.specs.Reply.{unless}
+use Rattle.keeper.specs.Keeper.{lookTaken}
 use Rattle.settings.specs.Derived.{lookOf}
-use Rattle.settings.specs.Accepted.{rateTaken, marginTaken, lookaheadTaken, releaseTaken, lookTaken, channelsTaken, blockTaken, unless, refusalOf}
+use Rattle.settings.specs.Accepted.{rateTaken, marginTaken, lookaheadTaken, releaseTaken, channelsTaken, blockTaken, refusalOf}
 use Rattle.settings.specs.declared.LimiterSettings.{LimiterSettings}
 
 pub record Taken (s : LimiterSettings) (rate channels block : ℕ) : Type 0 where

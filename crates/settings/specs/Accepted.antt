@@ -1,11 +1,13 @@
 -- The refusals 8 to 14 of the table, and which one arises first.
 use Prim.Native.Nat.{ℕ}
-use mathlib.Core.Bool.{Bool, true, false, cond, not, _&&_, _||_}
+use mathlib.Core.Bool.{Bool, not, _&&_}
 use lib.Dec.{leb}
 use lib.Ieee.{Float, lt}
 use lib.Ieee.Scale.{finite}
 use Rattle.arithmetic.specs.Number
 use Rattle.arithmetic.specs.Number.{bits}
+use Rattle.arithmetic.specs.Reply.{unless}
+use Rattle.keeper.specs.Keeper.{lookTaken}
 use Rattle.settings.specs.Derived.{lookOf}
 use Rattle.settings.specs.declared.LimiterSettings.{LimiterSettings}
 
@@ -26,10 +28,6 @@ abbrev pub releaseTaken : Float → Bool
 releaseTaken ms =
     finite ms && not (lt ms Number.zero) && not (lt (bits 0x40c3_8800_0000_0000) ms) && not (lt Number.zero ms && lt ms (bits 0x3f84_7ae1_47ae_147b))
 
--- 12: look under 11 or over 4,096
-abbrev pub lookTaken : ℕ → Bool
-lookTaken look = leb 11 look && leb look 4096
-
 -- 13: channels not 1 to 8
 abbrev pub channelsTaken : ℕ → Bool
 channelsTaken n = leb 1 n && leb n 8
@@ -38,11 +36,7 @@ channelsTaken n = leb 1 n && leb n 8
 abbrev pub blockTaken : ℕ → Bool
 blockTaken n = leb n 65536
 
--- the number where a rule is broken, else what comes after it
-abbrev pub unless : Bool → ℕ → ℕ → ℕ
-unless kept number rest = cond kept rest number
-
--- the first of 8 to 14 that arises; 0 where none does
+-- the first of 8 to 14 that arises, 12 as the keeper judges it; 0 where none does
 abbrev pub refusalOf : LimiterSettings → ℕ → ℕ → ℕ → ℕ
 refusalOf s rate channels block =
     unless (rateTaken rate) 8

@@ -1,8 +1,10 @@
 // Which settings are accepted: the refusals 8 to 14.
 ghost use mathlib.Core.Path.{_≡_};
-ghost use Rattle.settings.specs.Accepted.{rateTaken, marginTaken, lookaheadTaken, releaseTaken, lookTaken, channelsTaken, blockTaken, unless, refusalOf};
+ghost use Rattle.arithmetic.specs.Reply.{unless};
+ghost use Rattle.settings.specs.Accepted.{rateTaken, marginTaken, lookaheadTaken, releaseTaken, channelsTaken, refusalOf};
 use crate::LimiterSettings;
 use arithmetic::number::is_finite;
+use keeper::look_taken;
 
 fn rate_taken(rate: u32) -> bool
     ensures { λ r. ⌜ r ≡ rateTaken rate ⌝ }
@@ -28,12 +30,6 @@ fn release_taken(ms: f64) -> bool
     is_finite(ms) & !(ms < 0.0) & !(10000.0 < ms) & !((0.0 < ms) & (ms < 0.01))
 }
 
-pub fn look_taken(look: u64) -> bool
-    ensures { λ r. ⌜ r ≡ lookTaken look ⌝ }
-{
-    (11 <= look) & (look <= 4096)
-}
-
 fn channels_taken(channels: usize) -> bool
     ensures { λ r. ⌜ r ≡ channelsTaken channels ⌝ }
 {
@@ -53,7 +49,7 @@ pub fn refusal(s: LimiterSettings, rate: u32, channels: usize, max_block: usize)
     let look = crate::derived::look(s.lookahead_ms, rate);
     let blocks = unless(max_block <= 65536, 14, 0);
     let channelled = unless(channels_taken(channels), 13, blocks);
-    let looked = unless(look_taken(look), 12, channelled);
+    let looked = unless(look_taken(look as usize), 12, channelled);
     let released = unless(release_taken(s.release_ms), 11, looked);
     let ahead = unless(lookahead_taken(s.lookahead_ms), 10, released);
     let margined = unless(margin_taken(s.true_peak_margin_db), 9, ahead);

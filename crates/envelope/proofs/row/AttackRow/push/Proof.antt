@@ -49,7 +49,7 @@ returns : tie.Need-returns
 returns c =
     let o = c .before .before .before in
     let s = o .before .before .before in
-    pushed-is (s .args .self) (now (s .args .row)) (s .args .floor) (o .other-than-one .result) (c .other-than-one2 .result) (c .before .before .next-pos .result) (known s) (o .other-than-one .ensures) (c .other-than-one2 .ensures) (c .before .before .next-pos .ensures)
+    pushed-is (s .args .self) (now (s .args .row)) (s .args .floor) (o .other-than-one .result) (c .other-than-one2 .result) (c .before .before .next-pos .result) (known s) (o .other-than-one .ensures) (c .other-than-one2 .ensures) (c .before .before .next-pos .ensures .0)
 
 pub push-spec : {M : Type 1} → statement M
 push-spec =

@@ -1,8 +1,8 @@
 -- `unit`: both bounds.
 use mathlib.Core.Path.{refl}
 use lib.Ieee.{ofBits}
-use Rattle.limiter.proofs.order.unit.Statement.{statement}
-use Rattle.limiter.proofs.order.unit.Tie as tie
+use Rattle.arithmetic.proofs.number.unit.Statement.{statement}
+use Rattle.arithmetic.proofs.number.unit.Tie as tie
 
 returns : tie.Need-returns
 unfolding ofBits
