@@ -1,6 +1,6 @@
 -- A block: its runs, what it refuses, and what it leaves.
 use Prim.Native.Nat.{ℕ, zero, suc, _+_, _-_, _*_, _%_, _^_, min}
-use mathlib.Core.Bool.{Bool, cond, not, _&&_}
+use mathlib.Core.Bool.{Bool, cond, _&&_}
 use mathlib.Core.List.{List, [], _∷_, _++_, map}
 use lib.Dec.{eqb, leb}
 use lib.ListN.{length, take, drop}
@@ -96,13 +96,16 @@ andThen r next = cond (eqb (r .number) 0) next r
 abbrev pub must : Bool → ℕ → Reply
 must passed n = cond passed (finished []) (numbered n)
 
--- 18, 16, 19; 20; 21; 22
-unfoldable pub blockReply : Machine → ℕ → ℕ → List Event → ℕ → Reply
-blockReply m position frames events size =
-    andThen (numbered (readyRefusal m))
-    (andThen (must (sized m (m .limiter .«max_block») frames size) 20)
+-- 20; 21; 22
+abbrev pub callReply : Machine → ℕ → ℕ → List Event → ℕ → Reply
+callReply m position frames events size =
+    andThen (must (sized m (m .limiter .«max_block») frames size) 20)
     (andThen (eventsReply frames 0 0 events)
-    (must (reaches position frames && hasRoom m frames) 22)))
+    (must (reaches position frames && hasRoom m frames) 22))
+
+-- 18, 16, 19; then those
+unfoldable pub blockReply : Machine → ℕ → ℕ → List Event → ℕ → Reply
+blockReply m position frames events size = andThen (numbered (readyRefusal m)) (callReply m position frames events size)
 
 -- ---- what a call leaves
 pub record Outcome : Type 0 where

@@ -1,31 +1,27 @@
 -- The other calls: setup, parameter call, reset, the lone gain step, reading a value.
 use Prim.Native.Nat.{ℕ, _+_}
 use mathlib.Core.Bool.{Bool, cond, not, _&&_}
-use mathlib.Core.List.{List, [], _∷_}
+use mathlib.Core.List.{[], _∷_}
 use lib.Dec.{eqb, leb}
 use lib.ListN.{length, replicate}
 use lib.Ieee.{Float}
 use lib.Ieee.Scale.{finite}
-use Rattle.arithmetic.specs.Reply.{Reply, finished, refused, count, float}
-use Rattle.keeper.specs.InOrder.{mostFrames}
+use Rattle.arithmetic.specs.Reply.{Reply, finished, refused, count, float, unless}
 use Rattle.envelope.specs.Step.{GainStepped, gainStepOf, envelopedAt}
-use Rattle.settings.specs.Accepted.{unless}
 use Rattle.settings.specs.Derived.{rowOf}
 use Rattle.settings.specs.Memory.{fitsCap, leftOf}
 use Rattle.settings.specs.declared.LimiterSettings.{LimiterSettings}
 use Rattle.settings.specs.declared.memory.Cap.{Cap}
 use Rattle.limiter.specs.State.{notSetUp}
 use Rattle.limiter.specs.Stores.{Stores, storesAt}
-use Rattle.limiter.specs.Prepare
 use Rattle.limiter.specs.Prepare.{numbered, prepareOf}
 use Rattle.limiter.specs.Reset
 use Rattle.limiter.specs.Run.{movedOn, envelopeOf}
 use Rattle.limiter.specs.declared.state.Limiter.{Limiter}
 use Rattle.bank.specs.Smoother.{immediateSet, resetOne}
-use Rattle.bank.specs.Bank
 use Rattle.bank.specs.Bank.{unset, setUpOf, oneChanged, allChanged, valueOf}
 use Rattle.bank.specs.declared.smoother_bank.SmootherBank.{SmootherBank}
-use Rattle.driver.specs.Machine.{Machine, machineOf, thresholdParam, prepared, inOrder, readyRefusal, resetRefusal}
+use Rattle.driver.specs.Machine.{Machine, machineOf, thresholdParam, prepared, inOrder, resetRefusal}
 use Rattle.driver.specs.Block.{andThen, must, hasRoom}
 
 -- what a call without audio leaves

@@ -1,6 +1,6 @@
 -- A drain: frames of silence at the kept target, until as many are drained as the look.
 use Prim.Native.Nat.{ℕ, _+_, _-_, min}
-use mathlib.Core.Bool.{Bool, cond}
+use mathlib.Core.Bool.{cond}
 use mathlib.Core.List.{List, [], _∷_}
 use lib.Dec.{eqb, leb}
 use lib.ListN.{length, replicate}
@@ -19,9 +19,13 @@ use Rattle.driver.specs.Block.{Renderer, rendered, sized, hasRoom, andTh
 abbrev pub longestDrain : ℕ
 longestDrain = 65536
 
--- 18, 16, 19; 20; 22, which counts the frames asked for
+-- 20; 22, which counts the frames asked for
+abbrev pub tailReply : Machine → ℕ → ℕ → Reply
+tailReply m frames size = andThen (must (sized m longestDrain frames size) 20) (must (hasRoom m frames) 22)
+
+-- 18, 16, 19; then those
 unfoldable pub drainReply : Machine → ℕ → ℕ → Reply
-drainReply m frames size = andThen (numbered (readyRefusal m)) (andThen (must (sized m longestDrain frames size) 20) (must (hasRoom m frames) 22))
+drainReply m frames size = andThen (numbered (readyRefusal m)) (tailReply m frames size)
 
 -- "A drain of f frames writes the first min(f, look − drained) of each channel"
 abbrev pub drainable : Limiter → ℕ → ℕ

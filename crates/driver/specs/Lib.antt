@@ -6,3 +6,4 @@ pub mod Block
 pub mod Drain
 pub mod Calls
 pub mod Answers
+pub mod Inner

@@ -1,12 +1,11 @@
 -- The machine: limiter, bank and lent stores; and what 18, 16 and 19 judge of it.
-use Prim.Native.Nat.{ℕ, _+_}
+use Prim.Native.Nat.{ℕ}
 use mathlib.Core.Bool.{Bool, true, false, _&&_}
-use mathlib.Core.List.{List}
 use lib.Dec.{eqb}
 use lib.Ieee.{Float}
 use Rattle.arithmetic.specs.Number
 use Rattle.arithmetic.specs.Number.{bits, within, sameValue}
-use Rattle.settings.specs.Accepted.{unless}
+use Rattle.arithmetic.specs.Reply.{unless}
 use Rattle.settings.specs.Target.{targetOf}
 use Rattle.settings.specs.declared.LimiterSettings.{LimiterSettings}
 use Rattle.limiter.specs.Stores.{Stores, lengthsOf, lengthsFit}

@@ -1,6 +1,7 @@
 // What each call answers: a case for each refusal of document 01's table that can arise there.
 use crate::state::KernelProcessor;
 use bank::param::BankRefusal;
+use bank::smoother_bank::ParamSet;
 use limiter::prepare::PrepareAnswer;
 
 // Setup: the bank's refusal (1 to 6), the bank over the cap (7), or what the limiter answers (0, 8 to 17).
@@ -46,21 +47,30 @@ pub struct Flushed {
     pub processor: KernelProcessor,
 }
 
-// A gain step: 18, 16, 19, 22.
+// A gain step: 18, 16, 19, 22; a finished one tells the floor, the entries dropped and kept, the tally, the mean and the gain.
 pub enum GainAnswer {
-    Finished,
+    Finished {
+        floor: f64,
+        dropped: usize,
+        kept: usize,
+        tally: usize,
+        mean: f64,
+        gain: f64,
+    },
     NotSetUp,
     StoreLength,
     OutOfOrder,
     TooFar,
 }
 
-// The floor, the entries dropped and kept, the tally, the mean and the gain of a finished step; zeros where it is refused.
 pub struct GainStepped {
     pub answer: GainAnswer,
-    pub floor: f64,
-    pub dropped: usize,
-    pub mean: f64,
+    pub processor: KernelProcessor,
+}
+
+// A parameter call: 18, 23 with the parameter's id and the offending value, 24.
+pub struct ParamCalled {
+    pub answer: ParamSet,
     pub processor: KernelProcessor,
 }
 

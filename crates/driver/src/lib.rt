@@ -4,3 +4,25 @@
 pub mod state;
 // What each call answers.
 pub mod answers;
+// What 18, 16 and 19 judge.
+pub mod ready;
+// The parameter call, and the reading of a value.
+pub mod params;
+// Reset.
+pub mod reset;
+// Setup.
+pub mod setup;
+// The lone gain step.
+pub mod gain;
+// Samples between a call's audio and a run's.
+mod planar;
+// Events: 21, and how they latch.
+pub mod events;
+// One run of a block.
+pub mod run;
+// The runs of a block.
+mod drive;
+// A block.
+pub mod process;
+// A drain.
+pub mod flush;

@@ -1,0 +1,79 @@
+-- Parameter call and reset: what their callees' promises add up to.
+use mathlib.Core.Path.{_≡_, refl, sym, ap, _∙_}
+use mathlib.Core.Bool.{Bool, true, false, cond, not}
+use mathlib.Core.List.{[], _∷_}
+use Prim.Native.Nat.{ℕ}
+use lib.Dec.{eqb, leb}
+use lib.Ieee.{Float}
+use lib.Ieee.Scale.{finite}
+use borrow.Author.Tests.{ne-eqb}
+use Rattle.arithmetic.specs.Reply.{Reply, finished, refused, count, float, unless}
+use Rattle.limiter.specs.Stores.{Stores}
+use Rattle.limiter.specs.Prepare.{numbered}
+use Rattle.limiter.specs.Reset
+use Rattle.limiter.specs.declared.state.Limiter.{Limiter}
+use Rattle.bank.specs.Smoother.{immediateSet, resetOne}
+use Rattle.bank.specs.Bank
+use Rattle.bank.specs.Bank.{oneChanged, allChanged, callReply, callOf, setImmediateOf}
+use Rattle.bank.specs.declared.smoother_bank.SmootherBank.{SmootherBank}
+use Rattle.driver.specs.Machine.{Machine, machineOf, prepared, fits, resetRefusal}
+use Rattle.driver.specs.Block.{andThen, must}
+use Rattle.driver.specs.Calls.{left, settled, parameterReply, parameterOf, resetOf}
+use Rattle.driver.specs.Answers.{resetReply, resetAnswerOf}
+use Rattle.driver.specs.declared.answers.ResetAnswer.{ResetAnswer}
+use Rattle.driver.proofs.Judged.{prepared-is, kept-first}
+
+-- ---- parameter call
+-- a bank that changes by a reply is a machine that does
+bank-settled : (r : Reply) (l : Limiter) (new old : SmootherBank) (s : Stores) → left r (machineOf l (cond (eqb (r .number) 0) new old) s) ≡ settled r (machineOf l new s) (machineOf l old s)
+bank-settled r l new old s = go (eqb (r .number) 0)
+  where
+    go : (b : Bool) → left r (machineOf l (cond b new old) s) ≡ left r (cond b (machineOf l new s) (machineOf l old s))
+    go true = refl
+    go false = refl
+
+module _ (m : Machine) (id : ℕ) (v : Float) where
+  pub param-not-set-up : prepared (m .limiter) (m .bank) ≡ false → left (numbered 18) m ≡ parameterOf m id v
+  unfolding parameterOf parameterReply
+  param-not-set-up h = rw h refl
+
+  module _ (h : prepared (m .limiter) (m .bank) ≡ true) where
+    reply-is : callReply (m .bank) id v ≡ parameterReply m id v
+    unfolding callReply parameterReply
+    reply-is = rw (h, prepared-is (m .limiter) (m .bank) h .bank) (go (finite v) (leb (m .bank .count) id))
+      where
+        go : (f k : Bool) → cond (not f) (refused 23 (count id ∷ float v ∷ [])) (cond k (refused 24 []) (finished [])) ≡ andThen (cond f (finished []) (refused 23 (count id ∷ float v ∷ []))) (must (not k) 24)
+        go true true = refl
+        go true false = refl
+        go false k = refl
+
+    pub param-called : (o : Bank.Outcome) → o ≡ setImmediateOf (m .bank) id v → left (o .reply) (machineOf (m .limiter) (o .bank) (m .stores)) ≡ parameterOf m id v
+    unfolding parameterOf callOf
+    param-called o e =
+        ap (λ (o : Bank.Outcome). left (o .reply) (machineOf (m .limiter) (o .bank) (m .stores))) e
+        ∙ ap (λ (r : Reply). left r (machineOf (m .limiter) (cond (eqb (r .number) 0) (oneChanged (immediateSet v) id (m .bank)) (m .bank)) (m .stores))) reply-is
+        ∙ bank-settled (parameterReply m id v) (m .limiter) (oneChanged (immediateSet v) id (m .bank)) (m .bank) (m .stores)
+
+-- ---- reset
+module _ (m : Machine) (n : ℕ) (e : n ≡ resetRefusal m) where
+  -- each number's case replies with it
+  told : resetReply (resetAnswerOf (resetRefusal m)) ≡ numbered (resetRefusal m)
+  unfolding resetRefusal
+  told = go (prepared (m .limiter) (m .bank)) (fits m)
+    where
+      go : (p f : Bool) → resetReply (resetAnswerOf (unless p 18 (unless f 16 0))) ≡ numbered (unless p 18 (unless f 16 0))
+      go true true = refl
+      go true false = refl
+      go false f = refl
+
+  pub reset-refused : (n ≡ 0 → ⊥) → (a : ResetAnswer) → a ≡ resetAnswerOf n → left (resetReply a) m ≡ resetOf m
+  unfolding resetOf
+  reset-refused z a k = rw (k, e, ne-eqb (resetRefusal m) 0 (λ y. z (e ∙ y)), told) refl
+
+  pub reset-prepared : n ≡ 0 → prepared (m .limiter) (m .bank) ≡ true
+  unfolding resetRefusal
+  reset-prepared z = kept-first (prepared (m .limiter) (m .bank)) 17 _ (sym e ∙ z) .0
+
+  pub reset-done : n ≡ 0 → (r : Reset.Reset) → r ≡ Reset.resetOf (m .limiter) (m .stores) → (b : SmootherBank) → b ≡ allChanged resetOne (m .bank) → left (finished []) (machineOf (r .limiter) b (r .stores)) ≡ resetOf m
+  unfolding resetOf
+  reset-done z r k b j = rw (k, j, sym e ∙ z) refl

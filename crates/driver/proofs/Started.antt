@@ -1,0 +1,78 @@
+-- Setup: what the callees' promises add up to, by the first refusal that arises.
+use mathlib.Core.Path.{_≡_, refl, sym, ap}
+use mathlib.Core.Bool.{Bool, true, false, cond}
+use mathlib.Core.List.{[]}
+use Prim.Native.Nat.{ℕ}
+use lib.Dec.{eqb}
+use lib.ListN.{replicate}
+use borrow.Author.Tests.{ne-eqb}
+use Rattle.arithmetic.specs.Reply.{Reply, finished}
+use Rattle.arithmetic.proofs.Order.{clash}
+use Rattle.settings.specs.Memory.{fitsCap, leftOf}
+use Rattle.settings.specs.declared.LimiterSettings.{LimiterSettings}
+use Rattle.settings.specs.declared.memory.Cap.{Cap}
+use Rattle.limiter.specs.State.{notSetUp, started}
+use Rattle.limiter.specs.Stores.{Stores, lengthsOf, filled}
+use Rattle.limiter.specs.Prepare
+use Rattle.limiter.specs.Prepare.{prepareRefusal, outcome, prepareOf}
+use Rattle.limiter.specs.declared.state.Limiter.{Limiter}
+use Rattle.bank.specs.Answers.{refusalReply}
+use Rattle.bank.specs.Bank
+use Rattle.bank.specs.Bank.{unset, setUpOf}
+use Rattle.bank.specs.declared.param.BankRefusal.{BankRefusal}
+use Rattle.bank.specs.declared.param.BankAnswer.{BankAnswer}
+use Rattle.bank.specs.declared.smoother_bank.BankSetUp.{BankSetUp}
+use Rattle.bank.specs.declared.smoother_bank.SmootherBank.{SmootherBank}
+use Rattle.bank.proofs.Slots.{above-zero}
+use Rattle.driver.specs.Machine.{Machine, machineOf, thresholdParam}
+use Rattle.driver.specs.Block.{andThen}
+use Rattle.driver.specs.Calls.{Left, left, settled, bankBytes, budgetReply, setupOf}
+
+-- 7, by the test
+over : (cap : Cap) → fitsCap bankBytes cap ≡ false → eqb (budgetReply cap .number) 0 ≡ false
+over Cap.Unlimited h = clash true refl h
+over (Cap.Bytes n) h = rw h refl
+
+within : (cap : Cap) → fitsCap bankBytes cap ≡ true → budgetReply cap ≡ finished []
+within Cap.Unlimited h = refl
+within (Cap.Bytes n) h = rw h refl
+
+stopped : (r : Reply) (new old : Machine) → eqb (r .number) 0 ≡ false → left r old ≡ settled r new old
+stopped r new old h = rw h refl
+
+-- the limiter's outcome, with the bank where it is finished: a machine that changes by the reply
+carried : (r : Reply) (l : Limiter) (filled stores : Stores) (b : SmootherBank) → (let o = cond (eqb (r .number) 0) (outcome r l filled) (outcome r notSetUp stores) in
+    left (o .reply) (machineOf (o .limiter) (cond (eqb (o .reply .number) 0) b unset) (o .stores)) ≡ settled (o .reply) (machineOf (o .limiter) b (o .stores)) (machineOf notSetUp unset stores))
+carried r l filled stores b = go (eqb (r .number) 0) refl
+  where
+    go : (t : Bool) → eqb (r .number) 0 ≡ t → (let o = cond t (outcome r l filled) (outcome r notSetUp stores) in
+        left (o .reply) (machineOf (o .limiter) (cond (eqb (o .reply .number) 0) b unset) (o .stores)) ≡ settled (o .reply) (machineOf (o .limiter) b (o .stores)) (machineOf notSetUp unset stores))
+    go true e = rw e refl
+    go false e = rw e refl
+
+module _ (s : LimiterSettings) (rate channels block : ℕ) (cap : Cap) (stores : Stores) (set : BankSetUp) (E : Bank.setUpAt set ≡ setUpOf (replicate 8 (thresholdParam s)) 1 rate) where
+  abbrev joined : Bank.Outcome → Prepare.Outcome → Left
+  joined b l = settled (andThen (b .reply) (andThen (budgetReply cap) (l .reply))) (machineOf (l .limiter) (b .bank) (l .stores)) (machineOf notSetUp unset stores)
+
+  abbrev share : Prepare.Outcome
+  share = prepareOf s rate channels block (leftOf bankBytes cap) stores
+
+  whole : setupOf s rate channels block cap stores ≡ joined (Bank.setUpAt set) share
+  unfolding setupOf
+  whole = ap (λ (b : Bank.Outcome). joined b share) (sym E)
+
+  pub bank-refused : (why : BankRefusal) → set .answer ≡ BankAnswer.Refused why → (r : Left) → r ≡ left (refusalReply why) (machineOf notSetUp unset stores) → r ≡ setupOf s rate channels block cap stores
+  bank-refused why k r e =
+      let n = ne-eqb (refusalReply why .number) 0 (above-zero why) in
+      rw (e, whole, k, n) (stopped (refusalReply why) (machineOf (share .limiter) (set .bank) (share .stores)) (machineOf notSetUp unset stores) n)
+
+  module _ (k : set .answer ≡ BankAnswer.Finished) where
+    pub over-budget : fitsCap bankBytes cap ≡ false → (b : Reply) → b ≡ budgetReply cap → (r : Left) → r ≡ left b (machineOf notSetUp unset stores) → r ≡ setupOf s rate channels block cap stores
+    over-budget h b B r e = rw (e, B, whole, k, over cap h) (stopped (budgetReply cap) (machineOf (share .limiter) (set .bank) (share .stores)) (machineOf notSetUp unset stores) (over cap h))
+
+    pub limiter-told : fitsCap bankBytes cap ≡ true → (rest : Cap) → rest ≡ leftOf bankBytes cap → (o : Prepare.Outcome) → o ≡ prepareOf s rate channels block rest stores → (b : SmootherBank) → b ≡ cond (eqb (o .reply .number) 0) (set .bank) unset
+        → left (o .reply) (machineOf (o .limiter) b (o .stores)) ≡ setupOf s rate channels block cap stores
+    unfolding prepareOf
+    limiter-told h rest c o e b j =
+        rw (j, e, c, whole, k, within cap h)
+        (carried (prepareRefusal s rate channels block (leftOf bankBytes cap) (lengthsOf stores) (stores .weights)) (started s rate channels block) (filled stores) stores (set .bank))

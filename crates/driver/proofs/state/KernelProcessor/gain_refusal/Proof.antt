@@ -1,0 +1,89 @@
+-- `gain_refusal`: 18, 16, 19 and 22 in turn.
+use mathlib.Core.Bool.{true, false}
+use mathlib.Core.List.{List, []}
+use Prim.Native.Nat.{_+_}
+use native.Mathlib.Omega.{arith}
+use lib.Ieee.{Float}
+use borrow.Author.Needs.{needs}
+use borrow.Author.Tests.{not-true, not-false, le-leb, lt-leb}
+use denote.Ref.{now}
+use Rattle.keeper.specs.InOrder.{mostFrames}
+use Rattle.limiter.specs.Stores.{storesAt}
+use Rattle.limiter.proofs.Frames.{bounds-of}
+use Rattle.bank.proofs.Tests.{held, failed}
+use Rattle.driver.specs.Machine.{Machine, machineAt}
+use Rattle.driver.specs.Calls.{gainFits}
+use Rattle.driver.proofs.Judged.{prepared-is}
+use Rattle.driver.proofs.Stepped.{gain-fit, gain-not-set-up, gain-lengths, gain-disorder, gain-room}
+use Rattle.driver.proofs.state.KernelProcessor.gain_refusal.Statement.{statement}
+use Rattle.driver.proofs.state.KernelProcessor.gain_refusal.Tie as tie
+
+abbrev machine : tie.Start → List Float → List Float → Machine
+machine s delay detector =
+    let a = s .args in
+    machineAt (a .self) (storesAt delay (now (a .marks)) (now (a .minima)) (now (a .weights)) (now (a .row)) detector)
+
+is-prepared-requires : tie.Need-is-prepared-requires
+is-prepared-requires c κs = search needs
+
+returns : tie.Need-returns
+returns c delay detector = gain-not-set-up (machine (c .before .before .before .before .before .before) delay detector) (failed (c .before .is-prepared .ensures) (c .if1 .taken))
+
+stores-fit-requires : tie.Need-stores-fit-requires
+stores-fit-requires c κs =
+    let p = c .before .before .before .before .before .before .before .before .args .self in
+    bounds-of (p .limiter) (prepared-is (p .limiter) (p .bank) (held (c .before .before .before .is-prepared .ensures) (c .before .before .if1 .left)) .kernel) .look-most
+
+returns-2 : tie.Need-returns-2
+returns-2 c delay detector =
+    gain-lengths (machine (c .before .before .before .before .before .before .before .before .before .before) delay detector) (held (c .before .before .before .before .before .is-prepared .ensures) (c .before .before .before .before .if1 .left)) (c .before .stores-fit .result) (c .before .stores-fit .ensures delay detector) (c .if2 .taken)
+
+in-order-requires : tie.Need-in-order-requires
+in-order-requires c κs =
+    let m = machine (c .before .before .before .before .before .before .before .before .before .before) [] [] in
+    let f = gain-fit (m .limiter) (m .stores) (held {t = gainFits (m .limiter) (m .stores)} (c .before .stores-fit .ensures [] []) (c .if2 .left)) in
+    (f .marks-is, f .minima-is)
+
+target-in-range-requires : tie.Need-target-in-range-requires
+target-in-range-requires c κs = search needs
+
+returns-3 : tie.Need-returns-3
+returns-3 c delay detector =
+    let o = c .before .before .in-order in
+    let t = c .before .target-in-range in
+    let f = c .before .before .before .before in
+    let p = f .before .before .before .before in
+    gain-disorder (machine (p .before .before .before .before .before) delay detector) (held (p .is-prepared .ensures) (f .before .before .before .if1 .left)) (f .stores-fit .result) (f .stores-fit .ensures delay detector) (c .before .before .before .if2 .left)
+    (o .result) (t .result) (o .ensures) (t .ensures) (not-true _ (c .if3 .taken))
+
+returns-4 : tie.Need-returns-4
+returns-4 c delay detector =
+    let o = c .before .before .before .before .in-order in
+    let t = c .before .before .before .target-in-range in
+    let f = c .before .before .before .before .before .before in
+    let p = f .before .before .before .before in
+    gain-room (machine (p .before .before .before .before .before) delay detector) (held (p .is-prepared .ensures) (f .before .before .before .if1 .left)) (f .stores-fit .result) (f .stores-fit .ensures delay detector) (c .before .before .before .before .before .if2 .left)
+    (o .result) (t .result) (o .ensures) (t .ensures) (not-false _ (c .before .before .if3 .left)) true (le-leb (p .before .before .before .before .before .args .self .limiter .env .keeper .frame + 1) mostFrames (omega (arith, c .if4 .taken)))
+
+returns-5 : tie.Need-returns-5
+returns-5 c delay detector =
+    let o = c .before .before .before .before .in-order in
+    let t = c .before .before .before .target-in-range in
+    let f = c .before .before .before .before .before .before in
+    let p = f .before .before .before .before in
+    gain-room (machine (p .before .before .before .before .before) delay detector) (held (p .is-prepared .ensures) (f .before .before .before .if1 .left)) (f .stores-fit .result) (f .stores-fit .ensures delay detector) (c .before .before .before .before .before .if2 .left)
+    (o .result) (t .result) (o .ensures) (t .ensures) (not-false _ (c .before .before .if3 .left)) false (lt-leb (p .before .before .before .before .before .args .self .limiter .env .keeper .frame + 1) mostFrames (omega (arith, c .if4 .left)))
+
+pub gain-refusal-spec : {M : Type 1} → statement M
+gain-refusal-spec =
+    tie.close
+    (tie.spec
+    is-prepared-requires
+    returns
+    stores-fit-requires
+    returns-2
+    in-order-requires
+    target-in-range-requires
+    returns-3
+    returns-4
+    returns-5)

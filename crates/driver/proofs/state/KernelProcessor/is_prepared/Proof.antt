@@ -1,0 +1,32 @@
+-- `is_prepared`: clause by clause.
+use mathlib.Core.Path.{refl}
+use Rattle.driver.specs.Machine.{prepared}
+use borrow.Author.Needs.{needs}
+use Rattle.driver.proofs.state.KernelProcessor.is_prepared.Statement.{statement}
+use Rattle.driver.proofs.state.KernelProcessor.is_prepared.Tie as tie
+
+is-prepared-requires : tie.Need-is-prepared-requires
+is-prepared-requires c κs = search needs
+
+is-prepared-requires-2 : tie.Need-is-prepared-requires-2
+is-prepared-requires-2 c κs = search needs
+
+threshold-requires : tie.Need-threshold-requires
+threshold-requires c κs = search needs
+
+declares-requires : tie.Need-declares-requires
+declares-requires c κs = search needs
+
+returns : tie.Need-returns
+unfolding prepared
+returns c = rw (c .before .before .before .declares .ensures, c .before .before .before .before .threshold .ensures, c .before .before .before .before .before .is-prepared2 .ensures, c .before .before .before .before .before .before .is-prepared .ensures) refl
+
+pub is-prepared-spec : {M : Type 1} → statement M
+is-prepared-spec =
+    tie.close
+    (tie.spec
+    is-prepared-requires
+    is-prepared-requires-2
+    threshold-requires
+    declares-requires
+    returns)

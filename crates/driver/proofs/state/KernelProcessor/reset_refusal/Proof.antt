@@ -1,0 +1,39 @@
+-- `reset_refusal`: 18, then 16.
+use mathlib.Core.Path.{sym, _∙_}
+use mathlib.Core.Bool.{true, false}
+use borrow.Author.Needs.{needs}
+use denote.Ref.{now}
+use Rattle.limiter.specs.Stores.{storesAt}
+use Rattle.limiter.proofs.Frames.{bounds-of}
+use Rattle.bank.proofs.Tests.{held, failed}
+use Rattle.driver.specs.Machine.{Machine, machineAt}
+use Rattle.driver.proofs.Judged.{prepared-is, reset-not-set-up, reset-lengths}
+use Rattle.driver.proofs.state.KernelProcessor.reset_refusal.Statement.{statement}
+use Rattle.driver.proofs.state.KernelProcessor.reset_refusal.Tie as tie
+
+abbrev machine : tie.Start → Machine
+machine s =
+    let a = s .args in
+    machineAt (a .self) (storesAt (now (a .delay)) (now (a .marks)) (now (a .minima)) (now (a .weights)) (now (a .row)) (now (a .detector)))
+
+is-prepared-requires : tie.Need-is-prepared-requires
+is-prepared-requires c κs = search needs
+
+returns : tie.Need-returns
+returns c = reset-not-set-up (machine (c .before .before .before .before .before .before .before .before)) (failed (c .before .is-prepared .ensures) (c .if1 .taken))
+
+lengths-fit-requires : tie.Need-lengths-fit-requires
+lengths-fit-requires c κs =
+    let p = c .before .before .before .before .before .before .before .before .before .args .self in
+    let b = bounds-of (p .limiter) (prepared-is (p .limiter) (p .bank) (held (c .before .before .is-prepared .ensures) (c .before .if1 .left)) .kernel) in
+    (b .most, b .look-most)
+
+returns-2 : tie.Need-returns-2
+returns-2 c = reset-lengths (machine (c .before .before .before .before .before .before .before .before .before .before .before)) (held (c .before .before .before .before .is-prepared .ensures) (c .before .before .before .if1 .left)) true (sym (c .before .lengths-fit .ensures) ∙ c .if2 .taken)
+
+returns-3 : tie.Need-returns-3
+returns-3 c = reset-lengths (machine (c .before .before .before .before .before .before .before .before .before .before .before)) (held (c .before .before .before .before .is-prepared .ensures) (c .before .before .before .if1 .left)) false (sym (c .before .lengths-fit .ensures) ∙ c .if2 .left)
+
+pub reset-refusal-spec : {M : Type 1} → statement M
+reset-refusal-spec =
+    tie.close (tie.spec is-prepared-requires returns lengths-fit-requires returns-2 returns-3)

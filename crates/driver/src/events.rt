@@ -1,0 +1,92 @@
+// The events of a block: three words each, offset, id and the value's bits (driver.rs: latch_events).
+ghost use mathlib.Core.Path.{_≡_};
+ghost use Prim.Native.Nat.{_+_, _*_, _-_, _/_, _<_, _≤_};
+ghost use lib.ListN.{length};
+ghost use Rattle.driver.specs.Answers.{processReply};
+ghost use Rattle.driver.specs.Events.{eventAt, eventsFrom, eventsOf, misplaced, eventsReply, latchedOne, latched, latchedAll};
+ghost use Rattle.driver.specs.Inner.{latchedAt};
+use crate::answers::ProcessAnswer;
+use arithmetic::number::is_finite;
+use arithmetic::pattern::from_bits;
+use bank::smoother::Change;
+use bank::smoother_bank::SmootherBank;
+
+// The bank with the events up to the cursor latched.
+pub struct LatchedTo {
+    pub bank: SmootherBank,
+    pub cursor: usize,
+}
+
+// Whether event i is at or past the end, earlier than the one before, or not finite.
+fn is_misplaced(events: &[u64], i: usize, frames: u64, before: u64) -> bool
+    requires { ⌜ 3 * i + 2 < length (now events) ⌝ }
+    ensures { λ r. ⌜ r ≡ misplaced frames before (eventAt (now (events .entry)) i) ⌝ }
+{
+    let offset = events[3 * i];
+    let value = from_bits(events[3 * i + 2]);
+    (frames <= offset) | ((offset < before) | !is_finite(value))
+}
+
+// 21 with the first such event's index.
+pub fn check_events(events: &[u64], frames: u64) -> ProcessAnswer
+    ensures { λ r. ⌜ processReply r ≡ eventsReply frames 0 0 (eventsOf (now (events .entry))) ⌝ }
+{
+    let n = events.len() / 3;
+    let mut before: u64 = 0;
+    let mut i: usize = 0;
+    while i < n {
+        if is_misplaced(events, i, frames, before) {
+            return ProcessAnswer::Event { index: i };
+        }
+        before = events[3 * i];
+        i += 1;
+    }
+    ProcessAnswer::Finished
+}
+
+// Event i latched; an unknown id is ignored.
+fn latch_one(bank: SmootherBank, events: &[u64], i: usize) -> SmootherBank
+    requires { ⌜ 3 * i + 2 < length (now events) ⌝ }
+    ensures { λ r. ⌜ r ≡ latchedOne (eventAt (now (events .entry)) i) bank ⌝ }
+{
+    let id = events[3 * i + 1];
+    let value = from_bits(events[3 * i + 2]);
+    if id < bank.count as u64 {
+        return bank.apply_at(id as usize, Change::Target(value));
+    }
+    bank
+}
+
+// Latches the events from a cursor on that are stamped at or before a frame.
+pub fn latch(bank: SmootherBank, events: &[u64], cursor: usize, first: u64) -> LatchedTo
+    requires { ⌜ cursor ≤ length (now events) / 3 ⌝ }
+    ensures { λ r. ⌜ r .cursor ≤ length (now (events .entry)) / 3 ⌝ }
+    ensures { λ r. ⌜ latchedAt r (now (events .entry)) ≡ latched first (eventsFrom (now (events .entry)) cursor (length (now (events .entry)) / 3 - cursor)) bank ⌝ }
+{
+    let n = events.len() / 3;
+    let mut b = bank;
+    let mut i = cursor;
+    while i < n {
+        if first < events[3 * i] {
+            return LatchedTo { bank: b, cursor: i };
+        }
+        b = latch_one(b, events, i);
+        i += 1;
+    }
+    LatchedTo { bank: b, cursor: i }
+}
+
+// Latches every event from a cursor on.
+pub fn latch_rest(bank: SmootherBank, events: &[u64], cursor: usize) -> SmootherBank
+    requires { ⌜ cursor ≤ length (now events) / 3 ⌝ }
+    ensures { λ r. ⌜ r ≡ latchedAll (eventsFrom (now (events .entry)) cursor (length (now (events .entry)) / 3 - cursor)) bank ⌝ }
+{
+    let n = events.len() / 3;
+    let mut b = bank;
+    let mut i = cursor;
+    while i < n {
+        b = latch_one(b, events, i);
+        i += 1;
+    }
+    b
+}

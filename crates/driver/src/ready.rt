@@ -1,0 +1,122 @@
+// 18, 16 and 19 of the whole machine, in the table's order.
+ghost use mathlib.Core.Path.{_≡_};
+ghost use Rattle.limiter.specs.Stores.{storesAt};
+ghost use Rattle.bank.specs.Bank.{slotAt};
+ghost use Rattle.driver.specs.Machine.{machineAt, isLinear, declares, prepared, targetInRange, readyRefusal, resetRefusal};
+use crate::state::KernelProcessor;
+use arithmetic::pattern::same_value;
+use bank::param::Smoothing;
+use bank::smoother::Smoother;
+use bank::smoother_bank::SmootherBank;
+use limiter::prepare::StoreLengths;
+use limiter::prepare::lengths_fit;
+use settings::LimiterSettings;
+
+fn is_linear(shape: Smoothing) -> bool
+    ensures { λ r. ⌜ r ≡ isLinear shape ⌝ }
+{
+    match shape {
+        Smoothing::Step => false,
+        Smoothing::Linear => true,
+        Smoothing::OnePole => false,
+    }
+}
+
+// Whether a smoother declares the threshold of these settings.
+fn declares(s: LimiterSettings, p: Smoother) -> bool
+    ensures { λ r. ⌜ r ≡ declares s p ⌝ }
+{
+    let shape = p.shape;
+    let low = same_value(p.low, -30.0);
+    let high = same_value(p.high, 0.0);
+    let default = same_value(p.default, s.threshold_db);
+    let time = same_value(p.smoothing_ms, 5.0);
+    low & (high & (default & (time & is_linear(shape))))
+}
+
+// The threshold's smoother.
+fn threshold(smoothers: [Smoother; 8]) -> Smoother
+    ensures { λ r. ⌜ r ≡ slotAt 0 smoothers ⌝ }
+{
+    smoothers[0]
+}
+
+// The threshold's target lies within its range.
+pub fn target_in_range(b: SmootherBank) -> bool
+    ensures { λ r. ⌜ r ≡ targetInRange b ⌝ }
+{
+    let slots = b.smoothers;
+    let p = threshold(slots);
+    (p.low <= p.target) & (p.target <= p.high)
+}
+
+impl KernelProcessor {
+    // 18: the kernel's share, the bank's, and a bank of the one parameter that the settings declare.
+    pub fn is_prepared(self) -> bool
+        ensures { λ r. ⌜ r ≡ prepared (self .limiter) (self .bank) ⌝ }
+    {
+        let l = self.limiter;
+        let b = self.bank;
+        let slots = b.smoothers;
+        let s = l.settings;
+        let kernel = l.is_prepared();
+        let whole = b.is_prepared();
+        let declared = declares(s, threshold(slots));
+        kernel & (whole & ((b.count == 1) & ((b.rate == l.rate) & declared)))
+    }
+
+    // 18, 16 or 19, the first that arises; 0 where none does.
+    pub fn refusal(
+        self,
+        delay: &[f64],
+        marks: &[u64],
+        minima: &[f64],
+        weights: &[f64],
+        row: &[f64],
+        detector: &[f64],
+    ) -> u32
+        ensures { λ r. ⌜ r ≡ readyRefusal (machineAt self (storesAt (now (delay .entry)) (now (marks .entry)) (now (minima .entry)) (now (weights .entry)) (now (row .entry)) (now (detector .entry)))) ⌝ }
+    {
+        if !self.is_prepared() {
+            return 18;
+        }
+        let l = self.limiter;
+        let b = self.bank;
+        let number = l.refusal(delay, marks, minima, weights, row, detector);
+        if number != 0 {
+            return number;
+        }
+        if target_in_range(b) { 0 } else { 19 }
+    }
+
+    // 18 or 16; 0 where neither arises.
+    pub fn reset_refusal(
+        self,
+        delay: &[f64],
+        marks: &[u64],
+        minima: &[f64],
+        weights: &[f64],
+        row: &[f64],
+        detector: &[f64],
+    ) -> u32
+        ensures { λ r. ⌜ r ≡ resetRefusal (machineAt self (storesAt (now (delay .entry)) (now (marks .entry)) (now (minima .entry)) (now (weights .entry)) (now (row .entry)) (now (detector .entry)))) ⌝ }
+    {
+        if !self.is_prepared() {
+            return 18;
+        }
+        let l = self.limiter;
+        let n = StoreLengths {
+            delay: delay.len(),
+            marks: marks.len(),
+            minima: minima.len(),
+            weights: weights.len(),
+            row: row.len(),
+            detector: detector.len(),
+        };
+        if lengths_fit(l.channels, l.env.keeper.look, n) {
+            0
+        } else {
+            16
+        }
+    }
+}
