@@ -1,1 +1,23 @@
--- The claim's proof, and the controls.
+-- The claim's proof, in the order in which it goes, the controls and the starred rows.
+pub mod Peaks
+pub mod Delays
+pub mod Floors
+pub mod Leaving
+pub mod Tied
+pub mod Each
+pub mod Turned
+pub mod Latches
+pub mod Runs
+pub mod Machines
+pub mod Given
+pub mod Joining
+pub mod Calls
+pub mod Starts
+pub mod Drains
+pub mod Blocks
+pub mod Setups
+pub mod Claimed
+pub mod ControlsStart
+pub mod ControlsPresent
+pub mod Controls
+pub mod Rows

@@ -1,15 +1,25 @@
 -- The book: samples, threshold, kept target and drained count of its own, and what follows from them. It has no ring, no marks or minima, no tally, no position of a row or a delay line.
+--
+-- What it shares with the limiter are the rules (`Rules`: taps, output rule, which channels count), formulas of document 01 on plain arguments, and the table:
+--   setup: lookOf, rowOf, coefficientOf, targetOf, thresholdParam
+--   a frame's peak and required gain: sumsOf and largestOf (the detector), heard, requiredGain, unitGain, finiteOrZero
+--   mean and gain: meanOf (over the book's row and the lent weights; it tells a row of nothing but 1 by `tallyOf`, which equals `notOne`: `count-is`, proofs/Floors.antt), followed
+--   the threshold: smootherOf, targetSet, immediateSet, stepped, resetOne
+--   the table's refusals: eventsReply, reaches, the limits
 use Prim.Native.Nat.{ℕ, zero, suc, _+_}
+use mathlib.Core.Bool.{cond}
 use mathlib.Core.List.{List, [], _∷_, _++_, map}
 use lib.ListN.{take, getD, replicate}
-use lib.Ieee.{Float, binary64, mul}
+use lib.Ieee.{Float, binary64, mul, eq}
 use Rattle.arithmetic.specs.Number
 use Rattle.arithmetic.specs.Number.{one}
 use Rattle.arithmetic.specs.Sanitize.{finiteOrZero, unitGain}
 use Rattle.detector.specs.Oversample.{sumsOf, largestOf}
 use Rattle.detector.specs.History.{silent, latest}
 use Rattle.keeper.specs.Floor.{floorOf}
-use Rattle.settings.specs.Derived.{lookOf, rowOf}
+use Rattle.envelope.specs.Mean.{meanOf}
+use Rattle.envelope.specs.Follow.{followed}
+use Rattle.settings.specs.Derived.{lookOf, rowOf, coefficientOf}
 use Rattle.settings.specs.declared.LimiterSettings.{LimiterSettings}
 use Rattle.frame.specs.Rules.{Rules}
 use Rattle.frame.specs.Frame.{heard, requiredGain}
@@ -37,6 +47,10 @@ pub record Book : Type 0 where
 
 abbrev pub lookIn : Book → ℕ
 lookIn b = lookOf (b .settings .«lookahead_ms») (b .rate)
+
+-- the release coefficient
+abbrev pub coeffIn : Book → Float
+coeffIn b = coefficientOf (b .settings .«release_ms») (b .rate)
 
 -- ---- peaks: lists of frames are newest first, and speak of their newest
 -- a channel's samples
@@ -66,6 +80,17 @@ floorsOf look (g ∷ gs) = floorOf look g gs ∷ floorsOf look gs
 -- "the latest look − 11 floors, but at least one, with 1 standing for any before the start"
 unfoldable pub attackRow : ℕ → List Float → List Float
 attackRow look gains = take (rowOf look) (floorsOf look gains ++ replicate (rowOf look) one)
+
+-- the number of floors other than 1
+unfoldable pub notOne : List Float → ℕ
+notOne [] = 0
+notOne (f ∷ fs) = cond (eq f one) (notOne fs) (suc (notOne fs))
+
+-- ---- the gain, after these required gains, with these weights and this release coefficient. It starts at 1, and in each frame it follows the weighted mean of the row that ends there:
+-- "If the mean is at most the gain, the gain becomes it; otherwise it grows by (mean − gain) × coefficient. The gain is sanitized and kept within 0 and 1 before and after."
+unfoldable pub gainAfter : ℕ → List Float → Float → List Float → Float
+gainAfter look weights coeff [] = one
+gainAfter look weights coeff (g ∷ gs) = followed (gainAfter look weights coeff gs) (meanOf weights (attackRow look (g ∷ gs))) coeff
 
 -- ---- what leaves
 -- a channel's sample of look frames earlier, sanitized, or 0 before the start

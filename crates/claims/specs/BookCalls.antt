@@ -171,6 +171,7 @@ unfoldable pub enter : Book → Call → Entry
 enter b (block position frames events audio) = entered (blockJudged b position frames events (length audio)) (blockEntered b position frames events audio) b
 enter b (drain frames audio) = entered (drainJudged b frames (length audio)) (drainEntered b frames) b
 enter b (parameter id v) = entered (parameterJudged id v) (parameterEntered b v) b
+-- in a list 18 and 16 never arise (`CallHolds.never`), so that a reset is finished
 enter b reset = record { reply = finished []; joined = []; book = reopened b }
 
 -- reading a parameter: its value, or 24

@@ -1,4 +1,5 @@
--- THE CLAIM: demand 3 of document 01, of a machine. For every machine that a finished setup or a finished reset leaves, and every list of calls after it.
+-- THE CLAIM: the mission's demand 3, with document 01's book, of a limiter (`Limiting`). It speaks of all state and stores (`Machine`) that a finished setup or a finished
+-- reset leaves, and of every list of calls after it.
 --
 -- "Demand 3's true floor, attack row, required gains and earlier samples are the book's; the floor used, tally, mean, applied gain and output are the limiter's."
 use Prim.Native.Nat.{ℕ, _+_, _-_, _*_, _≤_, _<_}
@@ -6,50 +7,56 @@ use mathlib.Core.Path.{_≡_}
 use mathlib.Core.Bool.{true}
 use mathlib.Core.List.{List, [], _∷_}
 use lib.ListN.{length, getD}
-use lib.Ieee.{Float, nan, le}
+use lib.Ieee.{Float, nan, le, eq}
 use Rattle.arithmetic.specs.Number
 use Rattle.arithmetic.specs.Number.{one, within}
-use Rattle.envelope.specs.Row.{tallyOf}
 use Rattle.envelope.specs.Mean.{meanOf}
 use Rattle.settings.specs.Derived.{rowOf}
 use Rattle.settings.specs.declared.LimiterSettings.{LimiterSettings}
 use Rattle.settings.specs.declared.memory.Cap.{Cap}
+use Rattle.limiter.specs.State.{notSetUp}
 use Rattle.limiter.specs.Stores.{Stores}
+use Rattle.limiter.specs.Prepare.{numbered}
 use Rattle.frame.specs.Rules.{Rules}
 use Rattle.frame.specs.Frame.{Framed}
-use Rattle.bank.specs.Bank.{valueOf}
-use Rattle.driver.specs.Machine.{Machine, thresholdOf, readyRefusal}
+use Rattle.bank.specs.Smoother.{resetOne}
+use Rattle.bank.specs.Bank.{unset, valueOf}
+use Rattle.driver.specs.Machine.{Machine, machineOf, thresholdOf, readyRefusal, resetRefusal}
 use Rattle.driver.specs.Block.{Outcome, outputsOf}
 use Rattle.driver.specs.Calls.{setupOf}
 use Rattle.claims.specs.Session.{Call, block, drain, parameter, reset, audioIn, Limiting, called}
-use Rattle.claims.specs.Book.{Joined, Book, lookIn, requiredOf, floorsOf, attackRow, leavingFrom}
+use Rattle.claims.specs.Book.{Joined, Book, lookIn, coeffIn, requiredOf, floorsOf, attackRow, notOne, gainAfter, leavingFrom}
 use Rattle.claims.specs.BookCalls.{Entry, opened, openedNew, enter, valueIn}
 
 -- ---- one frame
--- f is what the limiter showed in a frame; fs are the book's frames, that one first
-pub record FrameHolds (rules : Rules) (look channels : ℕ) (weights : List Float) (fs : List Joined) (f : Framed) : Type 0 where
+-- f is what the limiter showed in a frame; fs are the book's frames, that one first; look, channels, weights and release coefficient are those of the setup
+pub record FrameHolds (rules : Rules) (look channels : ℕ) (weights : List Float) (coeff : Float) (fs : List Joined) (f : Framed) : Type 0 where
   -- "the gain step uses the true floor, where only frames since the latest finished reset, or since setup, count"
   pub floor : f .floor ≡ getD (floorsOf look (requiredOf rules channels fs)) 0 nan
   -- "its tally equals the number of floors in the attack row other than 1"
-  pub tally : f .moving .env .rowed .state .tally ≡ tallyOf (attackRow look (requiredOf rules channels fs))
+  pub tally : f .moving .env .rowed .state .tally ≡ notOne (attackRow look (requiredOf rules channels fs))
   -- "the applied gain lies within 0 and 1"
   pub gain : within Number.zero one (f .gain) ≡ true
   -- the mean is the weighted fold over the book's row, newest first
   pub mean : f .mean ≡ meanOf weights (attackRow look (requiredOf rules channels fs))
+  -- "the gain follows their weighted mean down": from 1 at the start on, frame by frame, by document 01's rule
+  pub follows : f .gain ≡ gainAfter look weights coeff (requiredOf rules channels fs)
   -- "a row of nothing but 1 has a mean of exactly 1"
-  pub quiet : tallyOf (attackRow look (requiredOf rules channels fs)) ≡ 0 → f .mean ≡ one
+  pub quiet : ((i : ℕ) → i < rowOf look → eq (getD (attackRow look (requiredOf rules channels fs)) i nan) one ≡ true) → f .mean ≡ one
   -- "each channel gives out its sample of look frames earlier, sanitized, or 0 before the start, times that gain by document 01's output rule"
   pub outputs : f .outputs ≡ leavingFrom rules look (f .gain) 0 channels fs
-  -- "Where a sample leaves so, no floor in the attack row is above the required gain of its own frame or of any of the eleven frames after it": it leaves where its frame is one of fs, look frames back
+  -- "Where a sample leaves so, no floor in the attack row is above the required gain of its own frame or of any of the eleven frames after it": it leaves where its frame
+  -- is one of fs, look frames back. This is about the book alone; by `floor` and `mean` its floors are those that the limiter used.
   pub leaving : look < length fs → (i k : ℕ) → i < rowOf look → k ≤ 11
       → le (getD (attackRow look (requiredOf rules channels fs)) i nan) (getD (requiredOf rules channels fs) (look - k) nan) ≡ true
 
 -- ---- the frames that a call takes: those that join the book, oldest first, and those that the limiter showed
-abbrev pub FramesHold : Rules → ℕ → ℕ → List Float → List Joined → List Joined → List Framed → Type 0
-FramesHold rules look channels weights history [] [] = Unit {0}
-FramesHold rules look channels weights history [] (f ∷ fs) = ⊥
-FramesHold rules look channels weights history (j ∷ js) [] = ⊥
-FramesHold rules look channels weights history (j ∷ js) (f ∷ fs) = FrameHolds rules look channels weights (j ∷ history) f × FramesHold rules look channels weights (j ∷ history) js fs
+abbrev pub FramesHold : Rules → ℕ → ℕ → List Float → Float → List Joined → List Joined → List Framed → Type 0
+FramesHold rules look channels weights coeff history [] [] = Unit {0}
+FramesHold rules look channels weights coeff history [] (f ∷ fs) = ⊥
+FramesHold rules look channels weights coeff history (j ∷ js) [] = ⊥
+FramesHold rules look channels weights coeff history (j ∷ js) (f ∷ fs) =
+    FrameHolds rules look channels weights coeff (j ∷ history) f × FramesHold rules look channels weights coeff (j ∷ history) js fs
 
 -- the audio that the call gives out: of each channel the first n places are the frames' outputs, the rest are as they were
 pub record Given (channels width n : ℕ) (outputs : List (List Float)) (before after : List Float) : Type 0 where
@@ -64,7 +71,7 @@ widthOf (drain frames audio) = frames
 widthOf (parameter id v) = 0
 widthOf reset = 0
 
--- ---- one call: o is what the machine makes of it, e what the book does
+-- ---- one call: m are the state and stores before it, o is what the limiter makes of it, e what the book does
 pub record CallHolds (rules : Rules) (b : Book) (m : Machine) (call : Call) (o : Outcome) (e : Entry) : Type 0 where
   -- the answers are the book's
   pub reply : o .reply ≡ e .reply
@@ -74,13 +81,14 @@ pub record CallHolds (rules : Rules) (b : Book) (m : Machine) (call : Call) (o :
   pub refusal : (o .reply .number ≡ 0 → ⊥) → (o .machine ≡ m) × (o .audio ≡ audioIn call)
   -- what is left is set up, fits and is in order
   pub ready : readyRefusal (o .machine) ≡ 0
-  -- demand 3 in each frame taken
-  pub frames : FramesHold rules (lookIn b) (b .channels) (b .weights) (b .frames) (e .joined) (o .frames)
+  -- each frame taken
+  pub frames : FramesHold rules (lookIn b) (b .channels) (b .weights) (coeffIn b) (b .frames) (e .joined) (o .frames)
+  -- the frames' outputs are the audio that is given out
   pub audio : o .reply .number ≡ 0 → Given (b .channels) (widthOf call) (length (e .joined)) (outputsOf (o .frames)) (audioIn call) (o .audio)
   -- the parameter values equal the book's
   pub values : (id : ℕ) → valueOf (o .machine .bank) id ≡ valueIn (e .book) id
 
--- ---- a list of calls, each on what the last one left
+-- ---- a list of calls, each on the state and stores as the last one left them
 abbrev pub Holds : Rules → Limiting → Book → Machine → List Call → Type 0
 Holds rules l b m [] = Unit {0}
 Holds rules l b m (call ∷ calls) =
@@ -88,11 +96,24 @@ Holds rules l b m (call ∷ calls) =
 
 -- ---- the claim
 pub record Claim (rules : Rules) (l : Limiting) : Type 0 where
-  -- after a finished setup
+  -- every list after a finished setup
   pub after-setup : (s : LimiterSettings) (rate channels largest : ℕ) (cap : Cap) (stores : Stores)
-      → (let start = setupOf s rate channels largest cap stores in start .reply .number ≡ 0 → (calls : List Call) → Holds rules l (openedNew s rate channels largest (stores .weights)) (start .machine) calls)
-  -- after a finished reset of any machine at all: the book opens with the bank which that reset left
+      → (let start = l .setups s rate channels largest cap stores in
+      start .reply .number ≡ 0 → (calls : List Call) → Holds rules l (openedNew s rate channels largest (stores .weights)) (start .machine) calls)
+  -- setup is refused exactly where the table says, and then with its values
+  pub setup-answered : (s : LimiterSettings) (rate channels largest : ℕ) (cap : Cap) (stores : Stores) → l .setups s rate channels largest cap stores .reply ≡ setupOf s rate channels largest cap stores .reply
+  -- "a refused setup leaves the limiter not set up", and the stores alone
+  pub setup-refused : (s : LimiterSettings) (rate channels largest : ℕ) (cap : Cap) (stores : Stores)
+      → (let start = l .setups s rate channels largest cap stores in (start .reply .number ≡ 0 → ⊥) → start .machine ≡ machineOf notSetUp unset stores)
+  -- a reset is refused where the table says so, 18 then 16, and nowhere else
+  pub reset-answered : (m : Machine) → l .resets m .reply ≡ numbered (resetRefusal m)
+  -- a refused reset changes nothing of state and stores
+  pub reset-refused : (m : Machine) → (resetRefusal m ≡ 0 → ⊥) → l .resets m .machine ≡ m
+  -- "Reset restores starting values, the bank's too": the bank's one parameter
+  pub reset-bank : (m : Machine) → resetRefusal m ≡ 0 → thresholdOf (l .resets m .machine .bank) ≡ resetOne (thresholdOf (m .bank))
+  -- every list after a finished reset, of any state and stores at all: the book opens with the bank which that reset left
   pub after-reset : (m : Machine)
       → (let start = l .resets m in
+      let k = m .limiter in
       start .reply .number ≡ 0 → (calls : List Call)
-      → Holds rules l (opened (m .limiter .settings) (m .limiter .rate) (m .limiter .channels) (m .limiter .«max_block») (m .stores .weights) (thresholdOf (start .machine .bank))) (start .machine) calls)
+      → Holds rules l (opened (k .settings) (k .rate) (k .channels) (k .«max_block») (m .stores .weights) (thresholdOf (start .machine .bank))) (start .machine) calls)

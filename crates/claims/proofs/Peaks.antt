@@ -1,0 +1,88 @@
+-- The detector's store is told by the book: a channel's twelve places hold the newest twelve of its samples, so the linked peak of a frame is the book's.
+use mathlib.Core.Path.{_≡_, refl, sym, ap, _∙_}
+use mathlib.Core.List.{List, [], _∷_, _++_}
+use Prim.Native.Nat.{ℕ, zero, suc, _+_, _*_}
+use native.Mathlib.Nat.{suc-mul}
+use native.Mathlib.Omega.{arith}
+use lib.ListN.{length, getD, drop, replicate, replicate-append-replicate}
+use lib.Seq.{take-at, drop-at, drop-drop, getD-drop}
+use lib.Ieee.{Float}
+use Rattle.arithmetic.specs.Number
+use Rattle.detector.specs.Oversample.{remembered, sumsOf, largestOf, detected}
+use Rattle.detector.specs.History.{silent, latest}
+use Rattle.detector.proofs.Store.{latest-none, latest-length, push-latest}
+use Rattle.frame.specs.Rules.{Rules}
+use Rattle.frame.specs.Frame.{Linked, heard, linkedFrom}
+use Rattle.claims.specs.Book.{Joined, channelOf, between, peakFrom}
+
+-- ---- the samples of a frame, channel by channel
+module _ (c : ℕ) (ys : List Float) (x : Float) (xs : List Float) (at : drop c ys ≡ x ∷ xs) where
+  pub sample-here : getD ys c Number.zero ≡ x
+  sample-here =
+      let e : c + 0 ≡ c = omega arith in
+      ap (λ (k : ℕ). getD ys k Number.zero) (sym e) ∙ sym (getD-drop c ys 0 Number.zero) ∙ ap (λ (l : List Float). getD l 0 Number.zero) at
+
+  pub samples-later : drop (c + 1) ys ≡ xs
+  samples-later = sym (drop-drop 1 c ys) ∙ ap (drop 1) at
+
+-- ---- what the store holds
+-- k channels' stores, from channel c on
+unfoldable pub storesFrom : ℕ → ℕ → List Joined → List Float
+storesFrom c zero fs = []
+storesFrom c (suc k) fs = latest silent (channelOf c fs) ++ storesFrom (c + 1) k fs
+
+pub record DetectorTied (channels : ℕ) (detector : List Float) (fs : List Joined) : Type 0 where
+  pub stores : detector ≡ storesFrom 0 channels fs
+
+stores-start : (c k : ℕ) → storesFrom c k [] ≡ replicate (k * remembered) Number.zero
+unfolding storesFrom
+stores-start c zero = refl
+stores-start c (suc k) =
+    let e : remembered + k * remembered ≡ suc k * remembered = omega (arith, suc-mul k remembered) in
+    rw (latest-none silent refl, stores-start (c + 1) k) (replicate-append-replicate remembered (k * remembered) Number.zero ∙ ap (λ (n : ℕ). replicate n Number.zero) e)
+
+pub detector-start : (channels : ℕ) → DetectorTied channels (replicate (channels * remembered) Number.zero) []
+detector-start channels = record { stores = sym (stores-start 0 channels) }
+
+-- ---- one frame more
+module _ (rules : Rules) (fs : List Joined) (ys : List Float) (target : Float) where
+  abbrev joined : List Joined
+  joined = record { samples = ys; target = target } ∷ fs
+
+  -- the answer of the detector that holds the newest samples of a channel, x the newest of them
+  abbrev answer : ℕ → Float → Float
+  answer c x = largestOf (sumsOf (rules .taps) (latest silent (x ∷ channelOf c fs)))
+
+  peak-more : (c k : ℕ) (peak x : Float) → getD ys c Number.zero ≡ x → peakFrom rules c (suc k) peak joined ≡ peakFrom rules (c + 1) k (heard (rules .counts c) peak x (answer c x)) joined
+  unfolding peakFrom between
+  peak-more c k peak x e = ap (λ (y : Float). peakFrom rules (c + 1) k (heard (rules .counts c) peak y (answer c y)) joined) e
+
+  stores-more : (c k : ℕ) (x : Float) → getD ys c Number.zero ≡ x → storesFrom c (suc k) joined ≡ latest silent (x ∷ channelOf c fs) ++ storesFrom (c + 1) k joined
+  unfolding storesFrom
+  stores-more c k x e = ap (λ (y : Float). latest silent (y ∷ channelOf c fs) ++ storesFrom (c + 1) k joined) e
+
+  -- a channel's turn, with what the later channels leave
+  abbrev pushedBefore : ℕ → Float → Linked → Linked
+  pushedBefore c x later = record { peak = later .peak; detector = latest silent (x ∷ channelOf c fs) ++ later .detector }
+
+  turn : (c : ℕ) (peak x : Float) (xs : List Float) → linkedFrom rules c peak (storesFrom c (suc (length xs)) fs) (x ∷ xs)
+      ≡ pushedBefore c x (linkedFrom rules (c + 1) (heard (rules .counts c) peak x (answer c x)) (storesFrom (c + 1) (length xs) fs) xs)
+  unfolding linkedFrom storesFrom detected
+  turn c peak x xs =
+      let old = latest silent (channelOf c fs) in
+      let rest = storesFrom (c + 1) (length xs) fs in
+      let n = latest-length silent (channelOf c fs) refl in
+      rw (take-at old rest remembered n, drop-at old rest remembered n, push-latest silent (rules .taps) (channelOf c fs) x refl) refl
+
+  linked-from : (c : ℕ) (peak : Float) (xs : List Float) → drop c ys ≡ xs
+      → linkedFrom rules c peak (storesFrom c (length xs) fs) xs ≡ record { peak = peakFrom rules c (length xs) peak joined; detector = storesFrom c (length xs) joined }
+  linked-from c peak [] at = unfold linkedFrom storesFrom peakFrom in refl
+  linked-from c peak (x ∷ xs) at =
+      let here = sample-here c ys x xs at in
+      rw (peak-more c (length xs) peak x here, stores-more c (length xs) x here)
+      (turn c peak x xs ∙ ap (pushedBefore c x) (linked-from (c + 1) (heard (rules .counts c) peak x (answer c x)) xs (samples-later c ys x xs at)))
+
+pub detector-step : (rules : Rules) (channels : ℕ) (detector : List Float) (fs : List Joined) (xs : List Float) (target : Float) → length xs ≡ channels → DetectorTied channels detector fs
+    → (linkedFrom rules 0 Number.zero detector xs .peak ≡ peakFrom rules 0 channels Number.zero (record { samples = xs; target = target } ∷ fs))
+    × DetectorTied channels (linkedFrom rules 0 Number.zero detector xs .detector) (record { samples = xs; target = target } ∷ fs)
+detector-step rules channels detector fs xs target n t = rw (t .stores, sym n) (rw (linked-from rules fs xs target 0 Number.zero xs refl) (refl, record { stores = refl }))

@@ -1,0 +1,255 @@
+-- THE CONTROLS: eleven limiters of which the claim is false (proofs/Controls.antt). Each is `limiting presentRules` but for the one place that its comment names.
+use Prim.Native.Nat.{ℕ, _+_, _-_}
+use mathlib.Core.Bool.{false, cond}
+use mathlib.Core.List.{List, [], _∷_, _++_, map}
+use lib.Dec.{eqb}
+use lib.ListN.{length, take, drop, getD, set}
+use lib.Ieee.{Float, nan, le}
+use Rattle.arithmetic.specs.Number
+use Rattle.arithmetic.specs.Number.{one}
+use Rattle.arithmetic.specs.Sanitize.{finiteOrZero, unitGain}
+use Rattle.arithmetic.specs.Reply.{Reply, finished, count}
+use Rattle.keeper.specs.Ring.{Entry, wrap, dropBack, dropFront, frontOf}
+use Rattle.keeper.specs.Keeper.{Keeping, Stepped, entriesOf}
+use Rattle.envelope.specs.Row.{pushed, newestFirst, nextPos}
+use Rattle.envelope.specs.Mean.{meanOf}
+use Rattle.envelope.specs.Follow.{followed}
+use Rattle.envelope.specs.Step.{Enveloped, enveloped, GainStepped, gainStepped}
+use Rattle.frame.specs.Rules.{Rules, presentRules}
+use Rattle.frame.specs.Frame.{linkedFrom, requiredGain, givenOut, Delayed, delayedFrom, Moving, Framed}
+use Rattle.frame.specs.Run
+use Rattle.frame.specs.Run.{Frames}
+use Rattle.limiter.specs.Stores.{storesAt}
+use Rattle.limiter.specs.Prepare.{numbered}
+use Rattle.limiter.specs.Run.{movingOf, envelopeOf, movedOn, storesOf}
+use Rattle.limiter.specs.declared.state.Limiter.{Limiter}
+use Rattle.driver.specs.Machine.{Machine, machineOf}
+use Rattle.driver.specs.Events.{Event}
+use Rattle.driver.specs.Block.{Renderer, Outcome, rendered, blockReply, blockDone, blockBy, blockOf, refusedAs}
+use Rattle.driver.specs.Drain.{drainBy, drainOf, withDrained}
+use Rattle.driver.specs.Calls.{Left, left, setupOf, parameterOf, resetOf}
+use Rattle.claims.specs.Session.{Limiting}
+use Rattle.claims.specs.BookCalls.{latchesAt}
+
+-- ---- rendering with the steps of a frame given, so that one of them can be wrong
+pub record Steps : Type 0 where
+  -- what is left of the ring at a gain, from its back
+  pub backs : Float → List Entry → List Entry
+  -- then from its front: look, frame
+  pub fronts : ℕ → ℕ → List Entry → List Entry
+  -- how the gain follows the mean: gain, mean, coefficient
+  pub follow : Float → Float → Float → Float
+  -- the delay lines: look, position, gain, lines, samples
+  pub delays : ℕ → ℕ → Float → List Float → List Float → Delayed
+
+-- the present ones: with them the limiter is `limiting presentRules` (proofs/ControlsPresent.antt)
+abbrev pub presentSteps : Steps
+presentSteps = record {
+  backs = λ gain ring. dropBack gain ring;
+  fronts = λ look frame ring. dropFront look frame ring;
+  follow = λ gain mean coeff. followed gain mean coeff;
+  delays = λ look pos gain delay xs. delayedFrom presentRules look pos gain delay xs;
+}
+
+-- keeper's `steppedOf`
+unfoldable pub steppedBy : Steps → Keeping → Float → Stepped
+steppedBy steps k x =
+    let look = k .keeper .look in
+    let frame = k .keeper .frame in
+    let gain = unitGain x in
+    let ring = entriesOf k in
+    let back = steps .backs gain ring in
+    let left = steps .fronts look frame back in
+    let head = wrap (look + 1) (k .keeper .head + (length back - length left)) in
+    let place = wrap (look + 1) (head + length left) in
+    record {
+      floor = frontOf (record { mark = frame; minimum = gain }) left .minimum;
+      dropped = (length ring - length back) + (length back - length left);
+      keeping = record {
+        keeper = record { look = look; head = head; len = length left + 1; frame = frame + 1 };
+        marks = set (k .marks) place frame;
+        minima = set (k .minima) place gain;
+      };
+    }
+
+-- envelope's `gainStepOf`
+unfoldable pub gainStepBy : Steps → List Float → Float → Enveloped → Float → GainStepped
+gainStepBy steps weights coeff e x =
+    let s = steppedBy steps (e .keeping) x in
+    let p = pushed (e .rowed .state) (e .rowed .row) (s .floor) in
+    let mean = meanOf weights (newestFirst (p .state .pos) (p .row)) in
+    gainStepped (s .floor) (s .dropped) mean (enveloped (s .keeping) p (steps .follow (e .gain) mean coeff))
+
+-- frame's `frameOf`
+unfoldable pub frameBy : Steps → List Float → Float → ℕ → Float → Moving → List Float → Framed
+frameBy steps weights coeff look target m xs =
+    let l = linkedFrom presentRules 0 Number.zero (m .detector) xs in
+    let g = gainStepBy steps weights coeff (m .env) (requiredGain target (l .peak)) in
+    let d = steps .delays look (m .pos) (g .env .gain) (m .delay) xs in
+    record {
+      floor = g .floor;
+      dropped = g .dropped;
+      mean = g .mean;
+      gain = g .env .gain;
+      outputs = d .outputs;
+      moving = record { env = g .env; delay = d .delay; pos = nextPos look (m .pos); detector = l .detector };
+    }
+
+-- frame's `framesOf`
+unfoldable pub framesBy : Steps → List Float → Float → ℕ → Float → Moving → List (List Float) → Frames
+framesBy steps weights coeff look target m [] = record { frames = []; moving = m }
+framesBy steps weights coeff look target m (xs ∷ later) =
+    let f = frameBy steps weights coeff look target m xs in
+    Run.followed f (framesBy steps weights coeff look target (f .moving) later)
+
+-- driver's `rendered`
+unfoldable pub renderedBy : Steps → Renderer
+renderedBy steps l s target fs =
+    let r = framesBy steps (s .weights) (l .«release_coeff») (l .env .keeper .look) target (movingOf l s) fs in
+    record { limiter = movedOn l (envelopeOf (r .moving .env)) (r .moving .pos) target 0; stores = storesOf (r .moving) (s .weights); frames = r .frames }
+
+-- ---- the present calls, of which each control changes one
+abbrev pub presentBlocks : Machine → ℕ → ℕ → List Event → List Float → Outcome
+presentBlocks m position frames events audio = blockOf presentRules m position frames events audio
+
+abbrev pub presentDrains : Machine → ℕ → List Float → Outcome
+presentDrains m frames audio = drainOf presentRules m frames audio
+
+abbrev pub limitingWith : (Machine → ℕ → ℕ → List Event → List Float → Outcome) → (Machine → ℕ → List Float → Outcome) → (Machine → Left) → Limiting
+limitingWith blocks drains resets = record {
+  setups = λ s rate channels largest cap stores. setupOf s rate channels largest cap stores;
+  blocks = blocks;
+  drains = drains;
+  parameters = λ m id v. parameterOf m id v;
+  resets = resets;
+}
+
+abbrev pub limitingBy : Steps → Limiting
+limitingBy steps =
+    limitingWith (λ m position frames events audio. blockBy (renderedBy steps) m position frames events audio) (λ m frames audio. drainBy (renderedBy steps) m frames audio)
+    (λ m. resetOf m)
+
+abbrev pub withBlocks : (Machine → ℕ → ℕ → List Event → List Float → Outcome) → Limiting
+withBlocks blocks = limitingWith blocks presentDrains (λ m. resetOf m)
+
+abbrev pub withDrains : (Machine → ℕ → List Float → Outcome) → Limiting
+withDrains drains = limitingWith presentBlocks drains (λ m. resetOf m)
+
+abbrev pub withResets : (Machine → Left) → Limiting
+withResets resets = limitingWith presentBlocks presentDrains resets
+
+-- an outcome with other state and stores, or another reply
+abbrev pub leaving : Outcome → Machine → Outcome
+leaving o m = record { reply = o .reply; machine = m; audio = o .audio; frames = o .frames }
+
+abbrev pub replying : Outcome → Reply → Outcome
+replying o reply = record { reply = reply; machine = o .machine; audio = o .audio; frames = o .frames }
+
+-- ---- 1: the window has look frames, one too few: an entry goes where its frame is look back
+abbrev pub shortWindow : Limiting
+shortWindow = limitingBy (record {
+  backs = presentSteps .backs;
+  fronts = λ look frame ring. dropFront (look - 1) frame ring;
+  follow = presentSteps .follow;
+  delays = presentSteps .delays;
+})
+
+-- ---- 2: only a smaller gain pushes older ones out: an entry equal to the new gain stays
+abbrev pub dropAbove : Float → List Entry → List Entry
+dropAbove gain [] = []
+dropAbove gain (e ∷ es) = cond (le (e .minimum) gain) (e ∷ es) (dropAbove gain es)
+
+abbrev pub equalsStay : Limiting
+equalsStay = limitingBy (record {
+  backs = λ gain ring. dropAbove gain ring;
+  fronts = presentSteps .fronts;
+  follow = presentSteps .follow;
+  delays = presentSteps .delays;
+})
+
+-- ---- 3: the detector stands still in a drain: its answer is not heard there, and its store is not shifted
+abbrev pub deafRules : Rules
+deafRules = record { taps = presentRules .taps; leaves = presentRules .leaves; counts = λ (c : ℕ). false }
+
+abbrev pub withDetector : List Float → Machine → Machine
+withDetector detector m =
+    let s = m .stores in
+    machineOf (m .limiter) (m .bank) (storesAt (s .delay) (s .marks) (s .minima) (s .weights) (s .row) detector)
+
+abbrev pub deafDrain : Limiting
+deafDrain = withDrains (λ m frames audio.
+    let o = drainOf deafRules m frames audio in
+    leaving o (withDetector (m .stores .detector) (o .machine)))
+
+-- ---- 4: reset keeps the entry at the row's first place
+abbrev pub withRow : List Float → Machine → Machine
+withRow row m =
+    let s = m .stores in
+    machineOf (m .limiter) (m .bank) (storesAt (s .delay) (s .marks) (s .minima) (s .weights) row (s .detector))
+
+abbrev pub rowKept : Limiting
+rowKept = withResets (λ m.
+    let r = resetOf m in
+    left (r .reply) (withRow (take 1 (m .stores .row) ++ drop 1 (r .machine .stores .row)) (r .machine)))
+
+-- ---- 5: rendering leaves the drained count as it was
+abbrev pub drainedKept : Limiting
+drainedKept = withBlocks (λ m position frames events audio.
+    let o = presentBlocks m position frames events audio in
+    leaving o (machineOf (withDrained (o .machine .limiter) (m .limiter .drained)) (o .machine .bank) (o .machine .stores)))
+
+-- ---- 6: rendering does not keep its target: the limiter goes on with the one that it had
+abbrev pub withTarget : Limiter → Float → Limiter
+withTarget l target = movedOn l (l .env) (l .«delay_pos») target (l .drained)
+
+abbrev pub targetLost : Limiting
+targetLost = withBlocks (λ m position frames events audio.
+    let o = presentBlocks m position frames events audio in
+    leaving o (machineOf (withTarget (o .machine .limiter) (m .limiter .target)) (o .machine .bank) (o .machine .stores)))
+
+-- ---- 7: the new sample is stored at the delay position before the old one is read out there
+unfoldable pub storedFirst : ℕ → ℕ → Float → List Float → List Float → Delayed
+storedFirst look pos gain delay [] = record { outputs = []; delay = delay }
+storedFirst look pos gain delay (x ∷ xs) =
+    let line = set (take look delay) pos (finiteOrZero x) in
+    let later = storedFirst look pos gain (drop look delay) xs in
+    record { outputs = givenOut presentRules (getD line pos nan) gain ∷ later .outputs; delay = line ++ later .delay }
+
+abbrev pub noDelay : Limiting
+noDelay = limitingBy (record {
+  backs = presentSteps .backs;
+  fronts = presentSteps .fronts;
+  follow = presentSteps .follow;
+  delays = λ look pos gain delay xs. storedFirst look pos gain delay xs;
+})
+
+-- ---- 8: an event latches one run late: as if it were stamped a frame after the one at which it should latch. What a block refuses is judged by the stamps as they are.
+abbrev pub runLater : ℕ → Event → Event
+runLater position e = record { offset = latchesAt position (e .offset) + 1; id = e .id; value = e .value }
+
+abbrev pub lateEvents : Limiting
+lateEvents = withBlocks (λ m position frames events audio.
+    let reply = blockReply m position frames events (length audio) in
+    cond (eqb (reply .number) 0) (blockDone (rendered presentRules) m position frames (map (runLater position) events) audio) (refusedAs reply m audio))
+
+-- ---- 9: every block is refused
+abbrev pub refusing : Limiting
+refusing = withBlocks (λ m position frames events audio. refusedAs (numbered 20) m audio)
+
+-- ---- 10: a finished drain says that it is done, whatever is left to drain
+abbrev pub saidDone : Reply → Reply
+saidDone r = cond (eqb (r .number) 0) (finished (take 1 (r .values) ++ (count 1 ∷ []))) r
+
+abbrev pub doneAtOnce : Limiting
+doneAtOnce = withDrains (λ m frames audio.
+    let o = presentDrains m frames audio in
+    replying o (saidDone (o .reply)))
+
+-- ---- 11: the gain does not follow the mean: it is 1 always
+abbrev pub fullGain : Limiting
+fullGain = limitingBy (record {
+  backs = presentSteps .backs;
+  fronts = presentSteps .fronts;
+  follow = λ gain mean coeff. one;
+  delays = presentSteps .delays;
+})
