@@ -1,0 +1,81 @@
+/* The limiter's C functions (crate host, libhost.a, x86-64, System V).
+ *
+ * Every function answers document 01's number: 0 where the work is finished, else the refusal. The values
+ * that go with it (a count as itself, a float as its 64 bits) are written to `answer` in order, and the rest
+ * of it is set to 0. `answer` has exactly DAGGERYUZU_ANSWER words; another length is refusal 16, in its place.
+ *
+ * The state is DAGGERYUZU_STATE bytes that the caller owns. A refused call leaves it as it was, but for
+ * setup, which leaves a limiter that is not set up. Bytes that are no state are refusal 18.
+ *
+ * The stores are the caller's too, exact lengths, in numbers (look is daggeryuzu_look's answer; L is
+ * look - 11, at least 1): delay channels * look; marks look + 1; minima look + 1; weights L; row L;
+ * detector channels * 12. Each call gets them as the last one left them. No two slices may overlap.
+ *
+ * Audio is planar: channel c holds frames c * frames onward; a sample is 8 bytes, low byte first.
+ * Events are three words each: offset into the block, parameter id, bits of the value. */
+#ifndef DAGGERYUZU_H
+#define DAGGERYUZU_H
+
+#include <stddef.h>
+#include <stdint.h>
+
+#ifdef __cplusplus
+extern "C" {
+#endif
+
+#define DAGGERYUZU_STATE 512
+#define DAGGERYUZU_ANSWER 8
+
+/* look, the frames by which the audio is held back, of a lookahead in ms (its bits) at a rate */
+uint64_t daggeryuzu_look(uint64_t lookahead_ms_bits, uint32_t rate);
+
+/* the bytes that a cap must allow: the stores' and 80 of the bank; the largest number outside 1 to 8
+ * channels and a look of 11 to 4096 */
+uint64_t daggeryuzu_bytes_needed(size_t channels, size_t look);
+
+/* refusals 1 to 17; settings as bits of f64; capped 0: no limit */
+uint32_t daggeryuzu_setup(
+    uint8_t *state, size_t state_len, uint64_t *answer, size_t answer_len,
+    uint64_t threshold_db_bits, uint64_t true_peak_margin_db_bits, uint64_t lookahead_ms_bits, uint64_t release_ms_bits,
+    uint32_t rate, size_t channels, size_t max_block, uint32_t capped, uint64_t cap,
+    double *delay, size_t delay_len, uint64_t *marks, size_t marks_len, double *minima, size_t minima_len,
+    const double *weights, size_t weights_len, double *row, size_t row_len, double *detector, size_t detector_len);
+
+/* refusals 18, 16, 19, 20, 21 (index), 22 */
+uint32_t daggeryuzu_process(
+    uint8_t *state, size_t state_len, uint64_t *answer, size_t answer_len,
+    uint64_t position, size_t frames, const uint64_t *events, size_t events_len, uint8_t *audio, size_t audio_len,
+    double *delay, size_t delay_len, uint64_t *marks, size_t marks_len, double *minima, size_t minima_len,
+    const double *weights, size_t weights_len, double *row, size_t row_len, double *detector, size_t detector_len);
+
+/* refusals 18, 16, 19, 20, 22; answer: frames written, whether the tail is done (0 or 1) */
+uint32_t daggeryuzu_flush(
+    uint8_t *state, size_t state_len, uint64_t *answer, size_t answer_len,
+    size_t frames, uint8_t *audio, size_t audio_len,
+    double *delay, size_t delay_len, uint64_t *marks, size_t marks_len, double *minima, size_t minima_len,
+    const double *weights, size_t weights_len, double *row, size_t row_len, double *detector, size_t detector_len);
+
+/* refusals 18, 16 (answer), 23 (id, the offending value's bits), 24 */
+uint32_t daggeryuzu_set_parameter(
+    uint8_t *state, size_t state_len, uint64_t *answer, size_t answer_len, uint32_t id, uint64_t value_bits);
+
+/* refusals 18, 16 (answer), 24; answer: the value's bits */
+uint32_t daggeryuzu_parameter(const uint8_t *state, size_t state_len, uint64_t *answer, size_t answer_len, uint32_t id);
+
+/* refusals 18, 16; marks, minima and weights are only looked at for their lengths */
+uint32_t daggeryuzu_reset(
+    uint8_t *state, size_t state_len, uint64_t *answer, size_t answer_len,
+    double *delay, size_t delay_len, const uint64_t *marks, size_t marks_len, const double *minima, size_t minima_len,
+    const double *weights, size_t weights_len, double *row, size_t row_len, double *detector, size_t detector_len);
+
+/* one gain step alone: refusals 18, 16, 19, 22; answer: floor, entries dropped, entries kept, tally, mean, gain */
+uint32_t daggeryuzu_gain_step(
+    uint8_t *state, size_t state_len, uint64_t *answer, size_t answer_len, uint64_t gain_bits,
+    uint64_t *marks, size_t marks_len, double *minima, size_t minima_len, const double *weights, size_t weights_len,
+    double *row, size_t row_len);
+
+#ifdef __cplusplus
+}
+#endif
+
+#endif
