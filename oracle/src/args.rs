@@ -2,12 +2,23 @@
 
 use std::path::PathBuf;
 
+use crate::whole::{Mode, Settings, DAMAGED};
+
 /// What `oracle` can do.
 pub const USAGE: &str = "usage:
   oracle record [--out DIR]       write the recorded answers
   oracle compare [--layer NAME] [--seed N] [--count N]
                                   run the proved code beside the Rust
-  oracle sessions FILE            write recorded sessions of the limiter
+  oracle whole [--rust] [--sessions N] [--seed N]
+                                  play sessions of the whole limiter: the Rust,
+                                  the plain model, the proved code; with --rust
+                                  longer ones, which the model only judges
+  oracle damage [--calls N] [--seed N]
+                                  the same, with states and stores changed
+  oracle model [--sessions N] [--seed N]
+  oracle model-damage [--calls N] [--seed N]
+                                  both, the plain model beside the Rust alone
+  oracle record-whole FILE        write recorded sessions of the whole limiter
   oracle taps                     print the detector's taps, one phase to a line
   oracle time                     time the proved detector beside the Rust's
   oracle weights LOOK             print the attack weights for a look
@@ -26,9 +37,11 @@ pub enum Command {
         seed: u64,
         count: u64,
     },
-    Sessions {
+    RecordWhole {
         out: PathBuf,
     },
+    Whole(Settings),
+    Model(Settings),
     Taps,
     Time,
     Weights {
@@ -108,10 +121,13 @@ pub fn parse(words: &[String]) -> Result<Command, String> {
     match name.as_str() {
         "record" => record(&Words::read(rest, &["--out"])?),
         "compare" => compare(&Words::read(rest, &["--layer", "--seed", "--count"])?),
-        "sessions" => match Words::read(rest, &[])?.plain.as_slice() {
-            [file] => Ok(Command::Sessions { out: file.into() }),
-            _ => Err("sessions wants one file".into()),
-        },
+        "record-whole" => Ok(Command::RecordWhole {
+            out: file(name, rest)?,
+        }),
+        "whole" => Ok(Command::Whole(whole(rest)?)),
+        "damage" => Ok(Command::Whole(damaged_calls(rest)?)),
+        "model" => Ok(Command::Model(sessions(rest, Mode::Whole)?)),
+        "model-damage" => Ok(Command::Model(damaged_calls(rest)?)),
         "taps" => {
             Words::read(rest, &[])?.no_plain()?;
             Ok(Command::Taps)
@@ -129,6 +145,45 @@ pub fn parse(words: &[String]) -> Result<Command, String> {
         "steps" => steps(&Words::read(rest, &["--release"])?),
         other => Err(format!("unknown command {other}")),
     }
+}
+
+/// The one file that a command wants.
+fn file(name: &str, rest: &[String]) -> Result<PathBuf, String> {
+    match Words::read(rest, &[])?.plain.as_slice() {
+        [file] => Ok(file.into()),
+        _ => Err(format!("{name} wants one file")),
+    }
+}
+
+fn whole(rest: &[String]) -> Result<Settings, String> {
+    let (rust, rest): (Vec<_>, Vec<_>) = rest.iter().cloned().partition(|w| w == "--rust");
+    let mode = if rust.is_empty() {
+        Mode::Whole
+    } else {
+        Mode::Direct
+    };
+    sessions(&rest, mode)
+}
+
+fn sessions(rest: &[String], mode: Mode) -> Result<Settings, String> {
+    let words = Words::read(rest, &["--sessions", "--seed"])?;
+    let sessions = words.number("--sessions", 1_000)?;
+    settings(&words, mode, sessions)
+}
+
+fn damaged_calls(rest: &[String]) -> Result<Settings, String> {
+    let words = Words::read(rest, &["--calls", "--seed"])?;
+    let calls: u64 = words.number("--calls", 100_000)?;
+    settings(&words, Mode::Damage, calls.div_ceil(DAMAGED))
+}
+
+fn settings(words: &Words, mode: Mode, sessions: u64) -> Result<Settings, String> {
+    words.no_plain()?;
+    Ok(Settings {
+        mode,
+        sessions,
+        seed: words.number("--seed", 1)?,
+    })
 }
 
 fn record(words: &Words) -> Result<Command, String> {
@@ -169,9 +224,24 @@ mod tests {
     #[test]
     fn commands_read_as_they_are_written() {
         assert_eq!(read("taps"), Ok(Command::Taps));
-        let sessions = Command::Sessions { out: "x/y".into() };
-        assert_eq!(read("sessions x/y"), Ok(sessions));
+        let recorded = Command::RecordWhole { out: "x/y".into() };
+        assert_eq!(read("record-whole x/y"), Ok(recorded));
         assert_eq!(read("weights 72"), Ok(Command::Weights { look: 72 }));
+        let settings = |mode, sessions, seed| Settings {
+            mode,
+            sessions,
+            seed,
+        };
+        let whole = Command::Whole(settings(Mode::Whole, 9, 3));
+        assert_eq!(read("whole --sessions 9 --seed 3"), Ok(whole));
+        let direct = Command::Whole(settings(Mode::Direct, 9, 1));
+        assert_eq!(read("whole --rust --sessions 9"), Ok(direct));
+        let model = Command::Model(settings(Mode::Whole, 1_000, 1));
+        assert_eq!(read("model"), Ok(model));
+        let damage = Command::Model(settings(Mode::Damage, 1, 1));
+        assert_eq!(read("model-damage --calls 64"), Ok(damage));
+        let damage = Command::Whole(settings(Mode::Damage, 2, 1));
+        assert_eq!(read("damage --calls 65"), Ok(damage));
         assert_eq!(
             read("compare --layer exp --seed 7 --count 20"),
             Ok(Command::Compare {
@@ -196,8 +266,12 @@ mod tests {
             "",
             "tap",
             "taps x",
-            "sessions",
-            "sessions x y",
+            "record-whole x y",
+            "record-whole",
+            "whole x",
+            "whole --calls 3",
+            "model --rust",
+            "damage --sessions 3",
             "record --in x",
             "compare --seed",
             "compare --seed x",

@@ -193,7 +193,6 @@ fn set(result: Result<(), ParamSetError>, id: u32) -> Answer {
 }
 
 /// What a smoother holds beside its id, smoothing time and shape.
-#[cfg(feature = "probe")]
 #[derive(Clone, Copy, Debug)]
 pub struct Slot {
     pub cur: f64,

@@ -8,31 +8,32 @@
 mod args;
 mod arguments;
 mod bank;
+mod calls;
 #[cfg(feature = "probe")]
 mod compare;
+#[cfg(feature = "probe")]
 mod gains;
+#[cfg(feature = "host")]
+mod host;
 mod leaf;
-#[cfg(any(test, feature = "probe"))]
 mod model;
 mod numbers;
 mod params;
 #[cfg(feature = "probe")]
 mod probe;
 mod record;
-#[cfg(any(test, feature = "probe"))]
 mod rings;
 mod rng;
-mod sessions;
-#[cfg(any(test, feature = "probe"))]
+mod samples;
 mod setups;
 mod show;
-#[cfg(any(test, feature = "probe"))]
 mod shrink;
 mod signals;
 #[cfg(any(test, feature = "probe"))]
 mod tables;
 #[cfg(feature = "probe")]
 mod time;
+mod whole;
 
 // The module tree of the Rust: its files as `build.rs` found them, and the
 // two modules of names that its crate root has and docs/src lacks.
@@ -68,7 +69,7 @@ fn main() -> ExitCode {
 fn run(command: Command) -> Result<ExitCode, String> {
     let text = match command {
         Command::Record { out } => record::record(&out)?,
-        Command::Sessions { out } => sessions::write(&out)?,
+        Command::RecordWhole { out } => whole::write(&out)?,
         Command::Taps => show::taps(),
         Command::Time => timed()?,
         Command::Weights { look } => show::weights(look)?,
@@ -81,10 +82,30 @@ fn run(command: Command) -> Result<ExitCode, String> {
             let passed = compared(layer.as_deref(), seed, count)?;
             return Ok(ExitCode::from(u8::from(!passed)));
         }
+        Command::Whole(settings) => return Ok(played(&settings, Some(proved()?))),
+        Command::Model(settings) => return Ok(played(&settings, None)),
     };
     // A reader that closed the pipe has what it wanted.
     let _ = std::io::stdout().write_all(text.as_bytes());
     Ok(ExitCode::SUCCESS)
+}
+
+/// Play sessions of the whole limiter.
+fn played(settings: &whole::Settings, proved: Option<calls::Side>) -> ExitCode {
+    let (passed, text) = whole::run(settings, proved);
+    print!("{text}");
+    ExitCode::from(u8::from(!passed))
+}
+
+/// The proved code behind its C functions.
+#[cfg(feature = "host")]
+fn proved() -> Result<calls::Side, String> {
+    Ok(host::call)
+}
+
+#[cfg(not(feature = "host"))]
+fn proved() -> Result<calls::Side, String> {
+    Err("built without the proved limiter; build with --features host".into())
 }
 
 #[cfg(feature = "probe")]

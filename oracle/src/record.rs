@@ -7,9 +7,7 @@ use std::path::Path;
 use crate::arguments::{draw, exp_argument, EXP_HALVES, EXP_KINDS};
 use crate::bank::{self, Answer, Call};
 use crate::dsp::oversample::PolyphaseUpsampler;
-use crate::gains::{course, Course, COURSES};
 use crate::leaf::{Case, Op, LEAVES};
-use crate::mastering::limiter::inside as limiter;
 use crate::numbers::{edge, edges, near, stepped};
 use crate::params;
 use crate::rng::Rng;
@@ -21,24 +19,9 @@ const SEED: u64 = 1;
 /// Cases of each leaf function but `exp`.
 const EACH: usize = 150;
 
-/// The word at which a sequence starts, from a detector or a limiter as setup
-/// leaves it. It is a NaN that no sequence has, so it can be told from a sample
-/// or a gain.
+/// The word at which a sequence starts, from a detector as setup leaves it. It
+/// is a NaN that no sequence has, so it can be told from a sample.
 const START: u64 = 0x7ff8_0000_0000_0001;
-
-/// The recorded gain steps: look, release in ms, kinds of gains, how many. The
-/// longest look has more steps than its window and its row have places.
-const GAINS: [(usize, f64, &[Course], usize); 9] = [
-    (11, 50.0, &COURSES, 400),
-    (12, 0.01, &COURSES, 300),
-    (13, 5.0, &COURSES, 300),
-    (72, 50.0, &[Course::Dips], 300),
-    (72, 200.0, &[Course::Saw], 300),
-    (72, 0.0, &[Course::Damaged], 200),
-    (288, 50.0, &[Course::Saw], 500),
-    (288, 10_000.0, &[Course::Dips], 600),
-    (1000, 50.0, &[Course::Rising], 1_100),
-];
 
 /// Recorded banks, and the calls of each.
 const BANKS: usize = 230;
@@ -51,7 +34,6 @@ pub fn record(folder: &Path) -> Result<String, String> {
     for (name, words) in [
         ("leaves", leaves()),
         ("peaks", peaks()),
-        ("gains", gains()?),
         ("bank", bank()),
     ] {
         let bytes: Vec<u8> = words.iter().flat_map(|w| w.to_le_bytes()).collect();
@@ -138,38 +120,6 @@ fn peaks() -> Vec<u64> {
     words
 }
 
-/// The file `gains`: each sequence starts with its look, release, release
-/// coefficient and weights; then for each step the required gain, floor,
-/// counts, mean and gain.
-fn gains() -> Result<Vec<u64>, String> {
-    let mut rng = Rng::new(SEED);
-    let mut words = Vec::new();
-    for (look, release_ms, kinds, length) in GAINS {
-        let mut limiter = limiter::prepared(look, release_ms)?;
-        let coefficient = limiter::release_coeff(&limiter);
-        let weights = limiter::weights(&limiter);
-        words.extend([START, look as u64, release_ms.to_bits()]);
-        words.extend([coefficient.to_bits(), weights.len() as u64]);
-        words.extend(weights.iter().map(|w| w.to_bits()));
-        for required in mixed(kinds, look, length, &mut rng) {
-            let s = limiter::step(&mut limiter, required);
-            let counts = s.dropped | s.kept << 16 | s.tally << 32;
-            words.extend([required.to_bits(), s.floor.to_bits(), counts as u64]);
-            words.extend([s.mean.to_bits(), s.gain.to_bits()]);
-        }
-    }
-    Ok(words)
-}
-
-/// Gains of these kinds, one stretch after the other.
-fn mixed(kinds: &[Course], look: usize, length: usize, rng: &mut Rng) -> Vec<f64> {
-    let stretch = length / kinds.len();
-    let kinds = kinds.iter();
-    kinds
-        .flat_map(|&kind| course(kind, look, stretch, rng))
-        .collect()
-}
-
 /// The file `bank`: declarations, setups and calls, each with its answer; a
 /// step and a reset with every parameter's value afterwards.
 fn bank() -> Vec<u64> {
@@ -244,39 +194,7 @@ mod tests {
         assert!(words.chunks(2).all(|r| (r[0] == START) == (r[1] == START)));
         assert_eq!(words, peaks());
     }
-    /// The steps of `gains`, with the look of each.
-    fn gain_steps(words: &[u64]) -> Vec<(u64, &[u64])> {
-        let (mut steps, mut at, mut look) = (Vec::new(), 0, 0);
-        while at < words.len() {
-            let start = words[at] == START;
-            let width = if start { 5 + words[at + 4] as usize } else { 5 };
-            if start {
-                look = words[at + 1];
-            } else {
-                steps.push((look, &words[at..at + width]));
-            }
-            at += width;
-        }
-        steps
-    }
 
-    #[test]
-    fn gains_have_drops_at_both_ends_and_full_rings() {
-        let words = gains().expect("good looks");
-        let steps = gain_steps(&words);
-        assert_eq!(steps.len(), 4_000);
-        assert_eq!(words.iter().filter(|&&w| w == START).count(), GAINS.len());
-        for look in GAINS.map(|(look, ..)| look as u64) {
-            let of_look = || steps.iter().filter(|s| s.0 == look).map(|s| s.1);
-            let floors: std::collections::BTreeSet<u64> = of_look().map(|s| s[1]).collect();
-            assert!(floors.len() > 5, "{look}");
-            assert!(of_look().any(|s| s[2] >> 32 > 0));
-            assert!(of_look().any(|s| f64::from_bits(s[4]) < f64::from_bits(s[3])));
-        }
-        let full = |s: &&(u64, &[u64])| s.1[2] >> 16 & 0xffff == s.0 + 1;
-        assert!(steps.iter().filter(full).count() > 50);
-        assert_eq!(words, gains().expect("good looks"));
-    }
     /// The records of `bank`, each without the values behind a step or a reset.
     fn bank_records(words: &[u64]) -> Vec<&[u64]> {
         let (mut records, mut at, mut count) = (Vec::new(), 0, 0);

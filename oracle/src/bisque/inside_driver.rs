@@ -1,10 +1,34 @@
 //! A child of the Rust's own module `driver`: it reads and sets what a smoother
-//! holds.
+//! holds, and reaches the parts of a processor.
 
-#![cfg(feature = "probe")]
-
-use super::SmootherBank;
+use super::{KernelProcessor, SmootherBank};
 use crate::bank::Slot;
+use crate::sample::Sample;
+
+/// The kernel of a processor.
+pub(crate) fn kernel<K, T: Sample>(processor: &KernelProcessor<K, T>) -> &K {
+    &processor.kernel
+}
+
+/// The same, to drive it alone.
+pub(crate) fn kernel_mut<K, T: Sample>(processor: &mut KernelProcessor<K, T>) -> &mut K {
+    &mut processor.kernel
+}
+
+/// The bank of a processor.
+pub(crate) fn bank<K, T: Sample>(processor: &KernelProcessor<K, T>) -> &SmootherBank {
+    &processor.bank
+}
+
+/// The same, to forge it.
+pub(crate) fn bank_mut<K, T: Sample>(processor: &mut KernelProcessor<K, T>) -> &mut SmootherBank {
+    &mut processor.bank
+}
+
+/// The largest block that a processor was prepared for.
+pub(crate) fn largest_block<K, T: Sample>(processor: &KernelProcessor<K, T>) -> Option<usize> {
+    processor.prepared.map(|contract| contract.max_block)
+}
 
 /// What each smoother holds.
 pub(crate) fn slots(bank: &SmootherBank) -> Vec<Slot> {

@@ -1,10 +1,14 @@
 //! A child of the Rust's own module `limiter`: it calls the private `step_env`
-//! and reads the fields that the step leaves.
+//! and reads the fields that a call leaves.
 
 use super::{Kernel, Limiter, LimiterSettings, ProcessSpec};
+use crate::calls::{floats, Stores};
+use crate::dsp::oversample::inside as detector;
 use crate::dsp::sanitize::finite_or_zero;
 #[cfg(any(test, feature = "probe"))]
 use crate::model::keeper::Keeping;
+use crate::model::setup::Setup;
+use crate::model::state::State;
 
 /// What one gain step leaves, in document 01's words.
 #[derive(Clone, Copy, Debug, PartialEq)]
@@ -139,6 +143,72 @@ pub(crate) fn ring(limiter: &Limiter) -> Keeping {
         state: ring_state(limiter),
         marks: limiter.wedge_idx.clone(),
         minima: limiter.wedge_val.clone(),
+    }
+}
+
+/// The kernel's share of the state that crosses; the largest block and the bank
+/// are the driver's.
+pub(crate) fn state(limiter: &Limiter) -> State {
+    State {
+        setup: Setup {
+            threshold: limiter.params[0].default,
+            margin: limiter.true_peak_margin_db,
+            lookahead: limiter.lookahead_ms,
+            release: limiter.release_ms,
+            rate: limiter.fs as u32,
+            channels: limiter.delays.len(),
+            block: 0,
+        },
+        release_coeff: limiter.release_coeff,
+        look: limiter.look as u64,
+        head: limiter.wedge_head as u64,
+        len: limiter.wedge_len as u64,
+        frame: limiter.frame,
+        row_pos: limiter.wm_pos as u64,
+        tally: limiter.wm_nonunity as u64,
+        gain: limiter.env,
+        delay_pos: limiter.delay_pos as u64,
+        target: limiter.flush_thresh,
+        drained: limiter.flushed as u64,
+        ..State::NEVER
+    }
+}
+
+/// What the Rust holds in place of the lent stores.
+pub(crate) fn stores(limiter: &Limiter) -> Stores {
+    let bits = |floats: &[f64]| -> Vec<u64> { floats.iter().map(|x| x.to_bits()).collect() };
+    let heard = limiter.tp_os.iter().flat_map(|os| bits(detector::store(os)));
+    Stores([
+        bits(&limiter.delays.concat()),
+        limiter.wedge_idx.clone(),
+        bits(&limiter.wedge_val),
+        bits(&limiter.hann),
+        bits(&limiter.wm_hist),
+        heard.collect(),
+    ])
+}
+
+/// Replace what a call may have left, as a host may do that owns state and
+/// stores; the stores have their lengths.
+pub(crate) fn forge(limiter: &mut Limiter, state: &State, stores: &Stores) {
+    let [delay, minima, weights, row, heard] =
+        [0, 2, 3, 4, 5].map(|which: usize| floats(&stores.0[which]));
+    limiter.wedge_head = state.head as usize;
+    limiter.wedge_len = state.len as usize;
+    limiter.frame = state.frame;
+    limiter.wm_pos = state.row_pos as usize;
+    limiter.wm_nonunity = state.tally as usize;
+    limiter.env = state.gain;
+    limiter.delay_pos = state.delay_pos as usize;
+    limiter.flush_thresh = state.target;
+    limiter.flushed = state.drained as usize;
+    limiter.delays = delay.chunks(limiter.look).map(<[f64]>::to_vec).collect();
+    limiter.wedge_idx.clone_from(&stores.0[1]);
+    limiter.wedge_val = minima;
+    limiter.hann = weights;
+    limiter.wm_hist = row;
+    for (os, twelve) in limiter.tp_os.iter_mut().zip(heard.chunks(12)) {
+        detector::set_store(os, twelve);
     }
 }
 

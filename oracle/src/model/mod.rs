@@ -1,5 +1,11 @@
-//! Rules of document 01 that the Rust does not have, each as a plain model.
+//! Rules of document 01, each as a plain model: those that the Rust does not
+//! have, and the limiter whole.
 
+pub mod calls;
+mod frames;
+pub mod judge;
 pub mod keeper;
 pub mod setup;
+pub mod state;
+pub mod threshold;
 pub mod weights;

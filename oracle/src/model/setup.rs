@@ -35,8 +35,19 @@ impl Setup {
     }
 
     /// Whether setup takes release and rate, so that there is a coefficient.
+    #[cfg(any(test, feature = "probe"))]
     pub fn has_coeff(&self) -> bool {
         release_taken(self.release) && rate_taken(self.rate)
+    }
+
+    /// 1.0 where the release has no frames, else 1 - exp(-1 / frames).
+    pub fn release_coeff(&self) -> f64 {
+        let frames = (self.release * 1e-3) * f64::from(self.rate);
+        if frames == 0.0 {
+            1.0
+        } else {
+            1.0 - math::exp(-1.0 / frames)
+        }
     }
 
     /// exp of the decibels above full scale, kept within -700 and 0.

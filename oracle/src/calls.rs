@@ -1,0 +1,204 @@
+//! The limiter's calls as they cross by the C functions: what a host lends, what
+//! it asks, and whether two sides left the same.
+
+use crate::model::setup::Setup;
+use crate::model::state::FLOATS;
+use crate::numbers::canonical;
+
+/// The bytes of a state and the words of an answer.
+pub const STATE: usize = 512;
+pub const ANSWER: usize = 8;
+
+/// The bytes of a sample.
+pub const SAMPLE: usize = 8;
+
+/// The stores' names, in document 01's order; the second holds whole numbers.
+pub const STORES: [&str; 6] = ["delay", "marks", "minima", "weights", "row", "detector"];
+pub const MARKS: usize = 1;
+pub const WEIGHTS: usize = 3;
+pub const ROW: usize = 4;
+
+/// The lent stores, in that order, each as the bits of what it holds.
+#[derive(Clone, Debug, Default, PartialEq, Eq)]
+pub struct Stores(pub [Vec<u64>; 6]);
+
+/// What a call is lent beside its events and its audio.
+#[derive(Clone, Debug, Default)]
+pub struct Lent {
+    pub state: Vec<u8>,
+    pub answer: Vec<u64>,
+    pub stores: Stores,
+}
+
+/// A call with its arguments. Events are three words each; audio is bytes.
+#[derive(Clone, Debug)]
+pub enum Call {
+    Setup {
+        setup: Setup,
+        cap: Option<u64>,
+    },
+    Process {
+        position: u64,
+        frames: u64,
+        events: Vec<u64>,
+        audio: Vec<u8>,
+    },
+    Flush {
+        frames: u64,
+        audio: Vec<u8>,
+    },
+    Set {
+        id: u32,
+        bits: u64,
+    },
+    Read {
+        id: u32,
+    },
+    Reset,
+    GainStep {
+        bits: u64,
+    },
+    /// The two functions of numbers alone; the answer's first word is theirs.
+    Look {
+        lookahead: f64,
+        rate: u32,
+    },
+    Bytes {
+        channels: u64,
+        look: u64,
+    },
+}
+
+impl Lent {
+    /// Values into the answer, zeros behind them; one of another length stays.
+    pub fn tell(&mut self, values: &[u64]) {
+        if self.answer.len() == ANSWER {
+            self.answer.fill(0);
+            self.answer[..values.len()].copy_from_slice(values);
+        }
+    }
+}
+
+/// A side of the comparison: it plays a call and answers document 01's number.
+pub type Side = fn(&mut Lent, &mut Call) -> u32;
+
+impl Call {
+    /// The audio that the call is lent.
+    pub fn audio(&self) -> &[u8] {
+        match self {
+            Self::Process { audio, .. } | Self::Flush { audio, .. } => audio,
+            _ => &[],
+        }
+    }
+
+    /// The same, to change it.
+    pub fn audio_mut(&mut self) -> Option<&mut Vec<u8>> {
+        match self {
+            Self::Process { audio, .. } | Self::Flush { audio, .. } => Some(audio),
+            _ => None,
+        }
+    }
+
+    /// Whether an answer's word is a float, so that any NaN is as good.
+    fn tells_float(&self, at: usize) -> bool {
+        match self {
+            Self::GainStep { .. } => [0, 4, 5].contains(&at),
+            Self::Read { .. } => at == 0,
+            _ => false,
+        }
+    }
+}
+
+/// Samples as their bytes.
+pub fn bytes(samples: &[f64]) -> Vec<u8> {
+    let mut bytes = Vec::with_capacity(SAMPLE * samples.len());
+    for sample in samples {
+        bytes.extend_from_slice(&sample.to_le_bytes());
+    }
+    bytes
+}
+
+/// Bytes as words, low byte first; a last one may be short of bytes.
+pub fn words(bytes: &[u8]) -> Vec<u64> {
+    let word = |b: &[u8]| b.iter().rev().fold(0, |w, &x| w << 8 | u64::from(x));
+    bytes.chunks(8).map(word).collect()
+}
+
+/// The floats of a store.
+pub fn floats(words: &[u64]) -> Vec<f64> {
+    words.iter().map(|&word| f64::from_bits(word)).collect()
+}
+
+/// The sample in the first eight bytes.
+pub fn sample(bytes: &[u8]) -> f64 {
+    f64::from_le_bytes(*bytes.first_chunk().expect("eight bytes"))
+}
+
+/// Where two answers of one call differ.
+pub fn answers_differ(call: &Call, due: &[u64], seen: &[u64]) -> Option<String> {
+    let differs = |at: &usize| !alike(due[*at], seen[*at], call.tells_float(*at));
+    let lengths = (due.len() != seen.len()).then(|| "answer: another length".to_owned());
+    lengths.or_else(|| {
+        let at = (0..due.len()).find(differs)?;
+        Some(told(&format!("answer[{at}]"), due[at], seen[at]))
+    })
+}
+
+/// Where two sides' audio differs, in any bit.
+pub fn audio_differs(due: &[u8], seen: &[u8]) -> Option<String> {
+    if due == seen {
+        return None;
+    }
+    let at = due.iter().zip(seen).position(|(d, s)| d != s)?;
+    let [due, seen] = [due, seen].map(|bytes| words(&bytes[at / 8 * 8..])[0]);
+    Some(told(&format!("audio, sample {}", at / 8), due, seen))
+}
+
+/// Where states and stores differ; where the call finished, any NaN is as good
+/// as another.
+pub fn lent_differs(due: &Lent, seen: &Lent, finished: bool) -> Option<String> {
+    state_differs(&due.state, &seen.state, finished).or_else(|| {
+        let pairs = due.stores.0.iter().zip(&seen.stores.0);
+        let mut differences = pairs.zip(STORES).map(|((due, seen), name)| {
+            let floats = finished && name != STORES[MARKS];
+            words_differ(name, due, seen, |_| floats)
+        });
+        differences.find_map(|difference| difference)
+    })
+}
+
+fn state_differs(due: &[u8], seen: &[u8], finished: bool) -> Option<String> {
+    if due == seen {
+        return None;
+    }
+    words_differ("state", &words(due), &words(seen), |at| {
+        finished && FLOATS.contains(&at)
+    })
+}
+
+fn words_differ(
+    name: &str,
+    due: &[u64],
+    seen: &[u64],
+    float: impl Fn(usize) -> bool,
+) -> Option<String> {
+    if due == seen {
+        return None;
+    }
+    if due.len() != seen.len() {
+        return Some(format!("{name}: another length"));
+    }
+    let at = (0..due.len()).find(|&at| !alike(due[at], seen[at], float(at)))?;
+    Some(told(&format!("{name}[{at}]"), due[at], seen[at]))
+}
+
+/// Two words, which are equal or both a NaN where floats stand.
+fn alike(due: u64, seen: u64, float: bool) -> bool {
+    let one = |word| canonical(f64::from_bits(word));
+    due == seen || float && one(due) == one(seen)
+}
+
+fn told(name: &str, due: u64, seen: u64) -> String {
+    let [d, s] = [due, seen].map(|w| format!("{w:016x} ({w}, {:?})", f64::from_bits(w)));
+    format!("{name}: due {d}, seen {s}")
+}

@@ -1,0 +1,406 @@
+//! Each call of the limiter, on what a host lends: the refusal or the work, the
+//! answer's words, and state and stores afterwards.
+
+use super::frames::Machine;
+use super::judge::{self, Told};
+use super::setup::{look, Setup};
+use super::state::State;
+use crate::calls::{sample, Call, Lent, ROW, SAMPLE, STATE};
+
+pub use super::judge::{needed, BANK_BYTES};
+
+/// The bank is stepped at multiples of this many frames.
+const CELL: u64 = 32;
+
+/// Play a call.
+pub fn call(lent: &mut Lent, call: &mut Call) -> u32 {
+    let told = match judged(lent, call) {
+        Ok(()) => played(lent, call),
+        Err(refused) => {
+            if matches!(call, Call::Setup { .. }) {
+                leave_state(lent, &State::NEVER);
+            }
+            refused
+        }
+    };
+    lent.tell(&told.values);
+    told.number
+}
+
+/// Whether the table accepts a call; nothing is played.
+pub fn accepts(lent: &Lent, call: &Call) -> bool {
+    judged(lent, call).is_ok()
+}
+
+fn judged(lent: &Lent, call: &Call) -> Result<(), Told> {
+    match call {
+        Call::Setup { setup, cap } => judge::setup(setup, *cap, lent),
+        Call::Look { .. } | Call::Bytes { .. } => Ok(()),
+        _ => match State::read(&lent.state) {
+            Some(state) => judged_state(&state, lent, call),
+            None => Err(Told::number(18)),
+        },
+    }
+}
+
+/// A call of something that is a state.
+fn judged_state(state: &State, lent: &Lent, call: &Call) -> Result<(), Told> {
+    match call {
+        Call::Setup { .. } | Call::Look { .. } | Call::Bytes { .. } => Ok(()),
+        Call::Process {
+            position,
+            frames,
+            events,
+            audio,
+        } => judge::block(state, lent, *position, *frames, events, audio),
+        Call::Flush { frames, audio } => judge::drain(state, lent, *frames, audio),
+        Call::Set { id, bits } => judge::parameter(state, lent, *id, *bits),
+        Call::Read { id } => judge::reading(state, lent, *id),
+        Call::Reset => judge::lent_fits(state, lent),
+        Call::GainStep { .. } => judge::gain_step(state, lent),
+    }
+}
+
+/// The work of a call that the table accepts.
+fn played(lent: &mut Lent, call: &mut Call) -> Told {
+    match call {
+        Call::Setup { setup, .. } => set_up(lent, setup),
+        Call::Look { lookahead, rate } => Told::with(0, &[look(*lookahead, *rate)]),
+        Call::Bytes { channels, look } => Told::with(0, &[BANK_BYTES + needed(*channels, *look)]),
+        _ => {
+            let state = State::read(&lent.state).expect("judged to be a state");
+            work(&state, lent, call)
+        }
+    }
+}
+
+fn set_up(lent: &mut Lent, setup: &Setup) -> Told {
+    leave_state(lent, &State::started(setup));
+    fill(lent, &[0, 1, 2, 5]);
+    Told::number(0)
+}
+
+/// Setup leaves a state where there is room for one, refused or not.
+fn leave_state(lent: &mut Lent, state: &State) {
+    if lent.state.len() == STATE {
+        lent.state = state.bytes();
+    }
+}
+
+/// Fill these stores with 0, and the row with 1.0.
+fn fill(lent: &mut Lent, zeroed: &[usize]) {
+    for &which in zeroed {
+        lent.stores.0[which].fill(0);
+    }
+    lent.stores.0[ROW].fill(1.0f64.to_bits());
+}
+
+/// The work on a state.
+fn work(state: &State, lent: &mut Lent, call: &mut Call) -> Told {
+    match call {
+        Call::Setup { .. } | Call::Look { .. } | Call::Bytes { .. } => {
+            unreachable!("these ask for no state")
+        }
+        Call::Process {
+            position,
+            frames,
+            events,
+            audio,
+        } => process(state, lent, *position, *frames, events, audio),
+        Call::Flush { frames, audio } => flush(state, lent, *frames, audio),
+        Call::Set { bits, .. } => set(state, lent, f64::from_bits(*bits)),
+        Call::Read { .. } => Told::with(0, &[state.threshold.cur.to_bits()]),
+        Call::Reset => reset(state, lent),
+        Call::GainStep { bits } => gain_step(state, lent, f64::from_bits(*bits)),
+    }
+}
+
+/// A block, frame by frame.
+fn process(
+    state: &State,
+    lent: &mut Lent,
+    position: u64,
+    frames: u64,
+    events: &[u64],
+    audio: &mut [u8],
+) -> Told {
+    let mut machine = Machine::new(state, &lent.stores);
+    let mut waiting: Vec<&[u64]> = events.chunks_exact(3).rev().collect();
+    for i in 0..frames {
+        let grid = (position + i).is_multiple_of(CELL);
+        if grid || i == 0 {
+            latch(&mut machine.state, &mut waiting, i);
+            start_run(&mut machine.state, grid);
+        }
+        let target = machine.state.target;
+        let places = places(state.setup.channels, frames, i);
+        let samples: Vec<f64> = places.iter().map(|&at| sample(&audio[at..])).collect();
+        put(audio, &places, &machine.frame(&samples, target));
+    }
+    latch(&mut machine.state, &mut waiting, u64::MAX);
+    leave(machine, lent);
+    Told::number(0)
+}
+
+/// What happens at a run's first frame, behind the latch.
+fn start_run(state: &mut State, grid: bool) {
+    if grid {
+        state.threshold.step();
+    }
+    let threshold = state.threshold.cur;
+    state.target = Setup {
+        threshold,
+        ..state.setup
+    }
+    .target();
+    state.drained = 0;
+}
+
+/// Latch the events stamped at or before a frame; they wait last first.
+fn latch(state: &mut State, waiting: &mut Vec<&[u64]>, upto: u64) {
+    while let Some(event) = waiting.pop_if(|event| event[0] <= upto) {
+        if event[1] < state.count {
+            state.threshold.aim(f64::from_bits(event[2]));
+        }
+    }
+}
+
+/// Where each channel's sample of a frame begins.
+fn places(channels: usize, frames: u64, frame: u64) -> Vec<usize> {
+    let place = |channel: usize| SAMPLE * (channel * frames as usize + frame as usize);
+    (0..channels).map(place).collect()
+}
+
+/// Outputs into their places.
+fn put(audio: &mut [u8], places: &[usize], outputs: &[f64]) {
+    for (&at, output) in places.iter().zip(outputs) {
+        audio[at..at + SAMPLE].copy_from_slice(&output.to_le_bytes());
+    }
+}
+
+/// A drain: silence at the kept target.
+fn flush(state: &State, lent: &mut Lent, frames: u64, audio: &mut [u8]) -> Told {
+    let mut machine = Machine::new(state, &lent.stores);
+    let written = frames.min(state.look - state.drained);
+    let silence = vec![0.0; state.setup.channels];
+    for i in 0..written {
+        let places = places(state.setup.channels, frames, i);
+        put(audio, &places, &machine.frame(&silence, state.target));
+    }
+    machine.state.drained += written;
+    let done = machine.state.drained >= state.look;
+    leave(machine, lent);
+    Told::with(0, &[written, u64::from(done)])
+}
+
+fn leave(machine: Machine, lent: &mut Lent) {
+    lent.state = machine.leave(&mut lent.stores).bytes();
+}
+
+/// The parameter call.
+fn set(state: &State, lent: &mut Lent, value: f64) -> Told {
+    let mut state = *state;
+    state.threshold.set(value);
+    lent.state = state.bytes();
+    Told::number(0)
+}
+
+/// Starting values again; marks and minima stay.
+fn reset(state: &State, lent: &mut Lent) -> Told {
+    let mut state = *state;
+    state.reset();
+    lent.state = state.bytes();
+    fill(lent, &[0, 5]);
+    Told::number(0)
+}
+
+fn gain_step(state: &State, lent: &mut Lent, gain: f64) -> Told {
+    let mut machine = Machine::new(state, &lent.stores);
+    let shown = machine.gain_step(gain);
+    let (tally, gain) = (machine.state.tally, machine.state.gain);
+    leave(machine, lent);
+    let (floor, mean) = (shown.floor.to_bits(), shown.mean.to_bits());
+    let values = [
+        floor,
+        shown.dropped,
+        shown.kept,
+        tally,
+        mean,
+        gain.to_bits(),
+    ];
+    Told::with(0, &values)
+}
+
+#[cfg(test)]
+mod tests {
+    use super::*;
+    use crate::calls::{bytes, ANSWER};
+    use crate::whole::Rust;
+
+    /// Document 01's own example: look 72, L 61, 4,256 bytes.
+    const STEREO: Setup = Setup {
+        threshold: -1.0,
+        margin: 0.1,
+        lookahead: 1.5,
+        release: 50.0,
+        rate: 48_000,
+        channels: 2,
+        block: 512,
+    };
+
+    fn fresh() -> Lent {
+        Rust::new(&STEREO, None).expect("good settings").lent()
+    }
+
+    fn told(lent: &mut Lent, mut asked: Call) -> (u32, Vec<u64>) {
+        let number = call(lent, &mut asked);
+        (number, lent.answer.clone())
+    }
+
+    fn block(position: u64, frames: u64, events: &[u64]) -> Call {
+        Call::Process {
+            position,
+            frames,
+            events: events.to_vec(),
+            audio: bytes(&vec![0.5; 2 * frames as usize]),
+        }
+    }
+
+    /// The words that a state holds from a place on.
+    fn words<const N: usize>(lent: &Lent, from: usize) -> [u64; N] {
+        let word = |i: usize| sample(&lent.state[8 * (from + i)..]).to_bits();
+        std::array::from_fn(word)
+    }
+
+    #[test]
+    fn document_01_cap_rows() {
+        for (cap, number, values) in [
+            (4_336, 0, [0, 0]),
+            (4_335, 15, [4_256, 4_255]),
+            (79, 7, [80, 79]),
+        ] {
+            let cap = Some(cap);
+            let (seen, answer) = told(&mut fresh(), Call::Setup { setup: STEREO, cap });
+            assert_eq!((seen, &answer[..2]), (number, &values[..]));
+            let refused = Rust::new(&STEREO, cap).err();
+            let expected = format!("needs {} bytes, cap is {}", values[0], values[1]);
+            assert_eq!(refused.is_some(), number != 0);
+            assert!(refused.is_none_or(|line| line.contains(&expected)));
+        }
+    }
+
+    #[test]
+    fn document_01_drains() {
+        let mut lent = fresh();
+        for (written, done) in [(50, 0), (22, 1), (0, 1)] {
+            let frames = 50;
+            let audio = bytes(&[7.0; 100]);
+            let (number, answer) = told(&mut lent, Call::Flush { frames, audio });
+            assert_eq!((number, answer[0], answer[1]), (0, written, done));
+        }
+    }
+
+    /// The bank's steps: updates left of the eight that a new target starts.
+    #[test]
+    fn document_01_runs() {
+        let event = [0, 0, (-4.0f64).to_bits()];
+        for (position, frames, left) in [(0, 64, 6), (33, 40, 7), (33, 31, 8), (32, 1, 7)] {
+            let mut lent = fresh();
+            assert_eq!(call(&mut lent, &mut block(position, frames, &event)), 0);
+            assert_eq!(words(&lent, 26), [left]);
+        }
+    }
+
+    #[test]
+    fn document_01_threshold_row() {
+        let mut lent = fresh();
+        let event = [0, 0, (-4.0f64).to_bits()];
+        for turn in 0..8 {
+            let events = if turn == 0 { &event[..] } else { &[] };
+            call(&mut lent, &mut block(32 * turn, 32, events));
+            let (number, answer) = told(&mut lent, Call::Read { id: 0 });
+            assert_eq!(number, 0);
+            assert_eq!(f64::from_bits(answer[0]) == -4.0, turn == 7);
+        }
+    }
+
+    /// Everything wrong at once, mended one after the other.
+    #[test]
+    fn a_block_is_refused_in_the_tables_order() {
+        let mut lent = fresh();
+        let good = lent.clone();
+        lent.state[0] ^= 1;
+        lent.answer.push(0);
+        lent.stores.0[0].pop();
+        lent.state[8 * 15..8 * 16].fill(0xff);
+        let nan = f64::NAN.to_bits();
+        let mut asked = block(1 << 62, 600, &[3, 0, 0, 2, 0, 0, 700, 0, nan]);
+        let judged = |lent: &mut Lent, asked: &Call| told(lent, asked.clone());
+        assert_eq!(judged(&mut lent, &asked).0, 18);
+        lent.state[0] ^= 1;
+        assert_eq!(judged(&mut lent, &asked).0, 16);
+        lent.answer.pop();
+        assert_eq!(judged(&mut lent, &asked).0, 16);
+        lent.stores.0[0].push(0);
+        assert_eq!(judged(&mut lent, &asked).0, 19);
+        lent.state = good.state;
+        assert_eq!(judged(&mut lent, &asked).0, 20);
+        asked = block(1 << 62, 500, &[3, 0, 0, 2, 0, 0]);
+        let (number, answer) = judged(&mut lent, &asked);
+        assert_eq!((number, answer[0]), (21, 1));
+        asked = block(1 << 62, 500, &[2, 0, 0, 3, 0, 0, 9]);
+        assert_eq!(judged(&mut lent, &asked).0, 22);
+        asked = block((1 << 62) - 500, 500, &[]);
+        assert_eq!(judged(&mut lent, &asked), (0, vec![0; ANSWER]));
+    }
+
+    #[test]
+    fn a_parameter_call_tells_the_value_that_it_refuses() {
+        let mut lent = fresh();
+        let bits = 0xfff8_1234_0000_0001;
+        let (number, answer) = told(&mut lent, Call::Set { id: 9, bits });
+        assert_eq!((number, answer[0], answer[1]), (23, 9, bits));
+        let bits = 1.0f64.to_bits();
+        assert_eq!(told(&mut lent, Call::Set { id: 9, bits }).0, 24);
+        assert_eq!(told(&mut lent, Call::Set { id: 0, bits }).0, 0);
+        assert_eq!(words(&lent, 20), [0.0f64.to_bits(); 2]);
+    }
+
+    #[test]
+    fn a_refused_setup_leaves_a_limiter_never_set_up() {
+        let mut lent = fresh();
+        let setup = Setup {
+            rate: 7_999,
+            ..STEREO
+        };
+        let (number, _) = told(&mut lent, Call::Setup { setup, cap: None });
+        assert_eq!(number, 8);
+        assert_eq!(lent.state, State::NEVER.bytes());
+        assert_eq!(told(&mut lent, Call::Reset).0, 18);
+    }
+
+    /// In mono, MAX twice drives a sum of the detector to infinity.
+    #[test]
+    fn an_overflow_in_the_detector_is_a_gain_of_zero() {
+        let mut lent = Rust::new(
+            &Setup {
+                channels: 1,
+                ..STEREO
+            },
+            None,
+        )
+        .expect("good settings")
+        .lent();
+        let mut samples = vec![0.0; 8];
+        samples[..2].fill(f64::MAX);
+        let asked = Call::Process {
+            position: 0,
+            frames: 8,
+            events: Vec::new(),
+            audio: bytes(&samples),
+        };
+        assert_eq!(told(&mut lent, asked).0, 0);
+        let minima = lent.stores.0[2].iter().map(|&w| f64::from_bits(w));
+        assert!(minima.take(1).all(|first| first == 0.0));
+    }
+}

@@ -1,0 +1,171 @@
+//! A session of the whole limiter: a setup, and turns that each carry all that
+//! they need, so that any of them can be left out.
+
+use super::faults::Fault;
+use crate::calls::{bytes, Call, SAMPLE};
+use crate::model::setup::Setup;
+use crate::rng::Rng;
+use crate::signals::{signal, Signal};
+
+/// The most frames that a block has.
+pub const LARGEST: u64 = 65_536;
+
+/// A session that is yet to be played.
+#[derive(Clone, Debug)]
+pub struct Session {
+    pub setup: Setup,
+    pub cap: Option<u64>,
+    pub turns: Vec<Turn>,
+}
+
+/// A call and what is done to it first. With a fault, or with a setup other than
+/// the session's own, it is tried beside the session.
+#[derive(Clone, Debug)]
+pub struct Turn {
+    pub part: Part,
+    pub faults: Vec<Fault>,
+}
+
+/// A call that is yet to get its audio.
+#[derive(Clone, Debug)]
+pub enum Part {
+    /// The session's own setup again.
+    Restart,
+    Setup {
+        setup: Setup,
+        cap: Option<u64>,
+    },
+    Block(Block),
+    Drain {
+        frames: u64,
+        seed: u64,
+    },
+    Set {
+        id: u32,
+        bits: u64,
+    },
+    Read {
+        id: u32,
+    },
+    Reset,
+    GainStep {
+        bits: u64,
+    },
+    Look {
+        lookahead: f64,
+        rate: u32,
+    },
+    Bytes {
+        channels: u64,
+        look: u64,
+    },
+}
+
+#[derive(Clone, Debug)]
+pub struct Block {
+    pub position: u64,
+    pub frames: u64,
+    pub events: Vec<u64>,
+    /// What each channel's samples are like, and what they are multiplied with.
+    pub kinds: Vec<Signal>,
+    pub level: f64,
+    pub seed: u64,
+}
+
+impl Turn {
+    /// Whether the session goes on from what the call leaves.
+    pub fn commits(&self) -> bool {
+        self.faults.is_empty() && !matches!(self.part, Part::Setup { .. })
+    }
+}
+
+impl Part {
+    /// The call, its audio filled.
+    pub fn call(&self, session: &Session) -> Call {
+        let channels = session.setup.channels;
+        match self.clone() {
+            Self::Restart => Call::Setup {
+                setup: session.setup,
+                cap: session.cap,
+            },
+            Self::Setup { setup, cap } => Call::Setup { setup, cap },
+            Self::Block(block) => Call::Process {
+                audio: block.audio(),
+                position: block.position,
+                frames: block.frames,
+                events: block.events,
+            },
+            Self::Drain { frames, seed } => Call::Flush {
+                frames,
+                audio: rubbish(SAMPLE * channels * lent(frames), seed),
+            },
+            Self::Set { id, bits } => Call::Set { id, bits },
+            Self::Read { id } => Call::Read { id },
+            Self::Reset => Call::Reset,
+            Self::GainStep { bits } => Call::GainStep { bits },
+            Self::Look { lookahead, rate } => Call::Look { lookahead, rate },
+            Self::Bytes { channels, look } => Call::Bytes { channels, look },
+        }
+    }
+}
+
+impl Part {
+    /// The part with at most so many frames.
+    pub fn cut(self, most: u64) -> Self {
+        match self {
+            Self::Block(block) if block.frames > most => Self::Block(block.cut(most)),
+            Self::Drain { frames, seed } => Self::Drain {
+                frames: frames.min(most),
+                seed,
+            },
+            part => part,
+        }
+    }
+}
+
+impl Block {
+    /// The first frames of a block, with the events that lie in them.
+    pub fn cut(&self, frames: u64) -> Self {
+        let events = self.events.chunks_exact(3);
+        Self {
+            frames,
+            events: events
+                .filter(|e| e[0] < frames)
+                .flatten()
+                .copied()
+                .collect(),
+            ..self.clone()
+        }
+    }
+
+    /// Each channel's samples, from a seed of its own.
+    fn audio(&self) -> Vec<u8> {
+        let mut samples = Vec::new();
+        for (channel, &kind) in self.kinds.iter().enumerate() {
+            let mut rng = Rng::new(self.seed ^ (channel as u64) << 56);
+            samples.extend(signal(kind, lent(self.frames), &mut rng));
+        }
+        samples.iter_mut().for_each(|x| *x *= self.level);
+        bytes(&samples)
+    }
+}
+
+/// The frames that audio is lent for: far too many are lent none.
+fn lent(frames: u64) -> usize {
+    if frames > 2 * LARGEST {
+        0
+    } else {
+        frames as usize
+    }
+}
+
+/// Bytes that stand somewhere before a call.
+pub fn rubbish(length: usize, seed: u64) -> Vec<u8> {
+    let mut rng = Rng::new(seed);
+    let mut bytes = Vec::with_capacity(length + 8);
+    while bytes.len() < length {
+        bytes.extend_from_slice(&rng.word().to_le_bytes());
+    }
+    bytes.truncate(length);
+    bytes
+}

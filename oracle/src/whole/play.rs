@@ -1,0 +1,261 @@
+//! Plays a session: the Rust, the plain model and the proved code side by side,
+//! compared after each call. In `Mode::Direct` the model, which is slow, only
+//! judges: what it accepts the Rust and the proved code play.
+
+use super::draw::Mode;
+use super::plan::{rubbish, Part, Session, Turn};
+use super::rust::Rust;
+use crate::calls::{
+    answers_differ, audio_differs, lent_differs, words, Call, Lent, Side, SAMPLE, STATE, WEIGHTS,
+};
+use crate::model::calls as model;
+
+/// What was played.
+#[derive(Clone, Debug, Default, PartialEq, Eq)]
+pub struct Counts {
+    pub sessions: u64,
+    pub calls: u64,
+    pub frames: u64,
+    /// Calls by their number; 0 is finished work.
+    pub numbers: [u64; 25],
+}
+
+impl Counts {
+    pub fn add(&mut self, other: &Self) {
+        self.sessions += other.sessions;
+        self.calls += other.calls;
+        self.frames += other.frames;
+        for (sum, n) in self.numbers.iter_mut().zip(other.numbers) {
+            *sum += n;
+        }
+    }
+}
+
+/// The first turn after which two sides differ; none is the setup.
+#[derive(Clone, Debug)]
+pub struct Split {
+    pub turn: Option<usize>,
+    pub report: String,
+}
+
+/// The sides as they stand.
+struct Stage {
+    mode: Mode,
+    rust: Rust,
+    model: Lent,
+    proved: Option<Proved>,
+}
+
+/// The proved code and what it was lent.
+struct Proved {
+    side: Side,
+    lent: Lent,
+}
+
+/// A call that was played: its number, and what it leaves.
+struct Left {
+    number: u32,
+    lent: Lent,
+    call: Call,
+}
+
+/// A call that was tried by the model and, where it is given, the proved code.
+struct Tried {
+    model: Left,
+    proved: Option<Left>,
+}
+
+/// Play a session on all sides, the proved code among them where it is given.
+pub fn play(session: &Session, mode: Mode, proved: Option<Side>) -> Result<Counts, Split> {
+    let mut counts = Counts {
+        sessions: 1,
+        ..Counts::default()
+    };
+    let first = Turn {
+        part: Part::Restart,
+        faults: Vec::new(),
+    };
+    let unready = |report| Split { turn: None, report };
+    let mut stage = Stage::new(session, mode, proved).map_err(unready)?;
+    let later = session.turns.iter().enumerate();
+    let turns = later.map(|(i, turn)| (Some(i), turn));
+    for (at, turn) in std::iter::once((None, &first)).chain(turns) {
+        let split = |report| Split { turn: at, report };
+        let left = stage.turn(session, turn).map_err(split)?;
+        counts.calls += 1;
+        counts.numbers[left.number as usize] += 1;
+        counts.frames += left.frames();
+    }
+    Ok(counts)
+}
+
+impl Stage {
+    /// Rubbish in every store but the weights, which are the Rust's.
+    fn new(session: &Session, mode: Mode, proved: Option<Side>) -> Result<Self, String> {
+        let rust = Rust::new(&session.setup, session.cap)?;
+        let mut lent = rust.lent();
+        for (which, store) in lent.stores.0.iter_mut().enumerate() {
+            if which != WEIGHTS {
+                *store = words(&rubbish(SAMPLE * store.len(), which as u64));
+            }
+        }
+        lent.state = rubbish(STATE, 6);
+        Ok(Self {
+            mode,
+            rust,
+            proved: proved.map(|side| Proved {
+                side,
+                lent: lent.clone(),
+            }),
+            model: lent,
+        })
+    }
+
+    /// Play a turn; the stage goes on from it where the turn says so.
+    fn turn(&mut self, session: &Session, turn: &Turn) -> Result<Left, String> {
+        let call = turn.part.call(session);
+        if self.mode == Mode::Direct && turn.commits() && model::accepts(&self.model, &call) {
+            return self.directly(turn, call);
+        }
+        let tried = self.tried(turn, &call)?;
+        let number = tried.model.number;
+        if matches!(turn.part, Part::Restart) && turn.faults.is_empty() && number != 0 {
+            return Err(format!("the Rust takes a setup, refused by {number}"));
+        }
+        if turn.commits() {
+            self.go_on(&tried);
+            let rust_judges = matches!(call, Call::Set { .. } | Call::Read { .. });
+            if number == 0 || rust_judges {
+                beside_rust(&mut self.rust, call, &tried.model)?;
+            }
+        }
+        Ok(tried.model)
+    }
+
+    fn go_on(&mut self, tried: &Tried) {
+        self.model.clone_from(&tried.model.lent);
+        if let (Some(proved), Some(left)) = (&mut self.proved, &tried.proved) {
+            proved.lent.clone_from(&left.lent);
+        }
+    }
+
+    /// A call that the model accepts, by the Rust and the proved code alone; the
+    /// model goes on from what it leaves.
+    fn directly(&mut self, turn: &Turn, call: Call) -> Result<Left, String> {
+        let proved = self.proved.as_mut().ok_or("no proved code to play")?;
+        let seen = Left::by(proved.side, prepared(&proved.lent, turn, &call));
+        if let Some(at) = self.rust.left(call).differs(&seen) {
+            return Err(format!("the Rust and the proved code, {at}"));
+        }
+        proved.lent.clone_from(&seen.lent);
+        self.model.clone_from(&seen.lent);
+        Ok(seen)
+    }
+
+    /// The model's call, and the proved code's beside it.
+    fn tried(&self, turn: &Turn, call: &Call) -> Result<Tried, String> {
+        let before = prepared(&self.model, turn, call);
+        let model = Left::by(model::call, before.clone());
+        let changed = model.changed(&before);
+        changed.map_or(Ok(()), |at| Err(format!("the model, {at}")))?;
+        let proved = self.proved.as_ref();
+        let proved = proved.map(|p| beside_model(p, turn, call, &model));
+        let proved = proved.transpose()?;
+        if model.number == 0 && !turn.faults.is_empty() {
+            beside_forged_rust(before, &model)?;
+        }
+        Ok(Tried { model, proved })
+    }
+}
+
+/// What a call is lent and asked, with the turn's faults and an answer that
+/// holds something else.
+fn prepared(lent: &Lent, turn: &Turn, call: &Call) -> (Lent, Call) {
+    let (mut lent, mut call) = (lent.clone(), call.clone());
+    lent.answer.fill(u64::MAX);
+    let faults = turn.faults.iter();
+    faults.for_each(|fault| fault.apply(&mut lent, &mut call));
+    (lent, call)
+}
+
+/// The proved code plays the call too.
+fn beside_model(proved: &Proved, turn: &Turn, call: &Call, model: &Left) -> Result<Left, String> {
+    let before = prepared(&proved.lent, turn, call);
+    let seen = Left::by(proved.side, before.clone());
+    match model.differs(&seen).or_else(|| seen.changed(&before)) {
+        Some(at) => Err(format!("the model and the proved code, {at}")),
+        None => Ok(seen),
+    }
+}
+
+/// The Rust plays the call too.
+fn beside_rust(rust: &mut Rust, call: Call, model: &Left) -> Result<(), String> {
+    match model.differs(&rust.left(call)) {
+        Some(at) => Err(format!("the model and the Rust, {at}")),
+        None => Ok(()),
+    }
+}
+
+/// A Rust into which the same was forged plays the call, where it can.
+fn beside_forged_rust((lent, call): (Lent, Call), model: &Left) -> Result<(), String> {
+    let works = matches!(
+        call,
+        Call::Process { .. } | Call::Flush { .. } | Call::Reset | Call::GainStep { .. }
+    );
+    match works.then(|| Rust::forged(&lent)).flatten() {
+        Some(mut rust) => beside_rust(&mut rust, call, model),
+        None => Ok(()),
+    }
+}
+
+impl Rust {
+    fn left(&mut self, mut call: Call) -> Left {
+        let (number, told) = self.call(&mut call);
+        let mut lent = self.lent();
+        lent.tell(&told);
+        Left { number, lent, call }
+    }
+}
+
+impl Left {
+    fn by(side: Side, (mut lent, mut call): (Lent, Call)) -> Self {
+        let number = side(&mut lent, &mut call);
+        Self { number, lent, call }
+    }
+
+    /// The frames that the call took.
+    fn frames(&self) -> u64 {
+        match &self.call {
+            Call::Process { frames, .. } if self.number == 0 => *frames,
+            Call::Flush { .. } if self.number == 0 => self.lent.answer[0],
+            _ => 0,
+        }
+    }
+
+    /// Where another side differs from what is due.
+    fn differs(&self, seen: &Self) -> Option<String> {
+        let (due, number) = (self.number, seen.number);
+        let numbers = || format!("number: due {due}, seen {number}");
+        (due != number)
+            .then(numbers)
+            .or_else(|| answers_differ(&self.call, &self.lent.answer, &seen.lent.answer))
+            .or_else(|| audio_differs(self.call.audio(), seen.call.audio()))
+            .or_else(|| lent_differs(&self.lent, &seen.lent, true))
+    }
+
+    /// What a refused call changed. It leaves every byte that it was lent; a
+    /// refused setup only the stores, since the state becomes that of a limiter
+    /// never set up.
+    fn changed(&self, (lent, call): &(Lent, Call)) -> Option<String> {
+        if self.number == 0 {
+            return None;
+        }
+        let mut kept = lent.clone();
+        if matches!(call, Call::Setup { .. }) {
+            kept.state.clone_from(&self.lent.state);
+        }
+        let changed = lent_differs(&kept, &self.lent, false)
+            .or_else(|| audio_differs(call.audio(), self.call.audio()));
+        changed.map(|at| format!("changed by a refused call, {at}"))
+    }
+}

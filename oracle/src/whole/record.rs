@@ -1,0 +1,359 @@
+//! Writes recorded sessions of the whole limiter: the Rust's processor is set
+//! up, rendered, drained, set, read, stepped and reset. Inputs are not stored,
+//! since whoever replays a session draws them from its seed too; of a call's
+//! output, the digest is.
+
+use std::fs;
+use std::path::Path;
+
+use super::draw::{Mode, RECORDED};
+use super::drawn;
+use super::plan::{Part, Session};
+use super::play::Counts;
+use super::rust::{planes, Rust};
+use super::Settings;
+use crate::calls::{bytes, Call, Lent, WEIGHTS};
+use crate::model::calls as model;
+use crate::samples::{digest, Source};
+
+/// The recorded file never depends on the command line.
+const SETTINGS: Settings = Settings {
+    mode: Mode::Recorded,
+    sessions: 60,
+    seed: 1,
+};
+
+/// Kinds of samples.
+const KINDS: u64 = 6;
+
+/// First words of the records.
+const START: u64 = 1;
+const BLOCK: u64 = 2;
+const DRAIN: u64 = 3;
+const RESET: u64 = 4;
+const SET: u64 = 5;
+const READ: u64 = 6;
+const GAIN_STEP: u64 = 7;
+const SETUP: u64 = 8;
+/// The last word of a session.
+const END: u64 = 0;
+
+/// The file's words so far, and what they hold.
+#[derive(Debug, Default, PartialEq)]
+struct Record {
+    words: Vec<u64>,
+    counts: Counts,
+}
+
+/// A session that is being recorded: the Rust, and the model, which judges what
+/// is refused.
+struct Recorder {
+    rust: Rust,
+    model: Lent,
+    source: Source,
+    channels: usize,
+}
+
+/// Write the file; answers one line about it.
+pub fn write(file: &Path) -> Result<String, String> {
+    let Record { words, counts } = recorded()?;
+    let bytes: Vec<u8> = words.iter().flat_map(|w| w.to_le_bytes()).collect();
+    fs::write(file, &bytes).map_err(|e| format!("{}: {e}", file.display()))?;
+    Ok(format!(
+        "{}: {} sessions, {} calls, {} frames, {} words, {} bytes\n",
+        file.display(),
+        counts.sessions,
+        counts.calls,
+        counts.frames,
+        words.len(),
+        bytes.len()
+    ))
+}
+
+fn recorded() -> Result<Record, String> {
+    let mut record = Record::default();
+    for number in 0..SETTINGS.sessions {
+        record.play(&drawn(&SETTINGS, number), number)?;
+    }
+    Ok(record)
+}
+
+impl Record {
+    /// Play a session and add its words.
+    fn play(&mut self, session: &Session, number: u64) -> Result<(), String> {
+        let source = Source {
+            state: 1 + 0x9e37_79b9 * (1 + number),
+            kind: number % KINDS,
+        };
+        let mut recorder = Recorder::new(session, source)?;
+        self.words.extend(recorder.head(session));
+        for turn in session.turns.iter().filter(|turn| turn.commits()) {
+            let words = recorder.call(&turn.part, session)?;
+            self.counts.calls += u64::from(!words.is_empty());
+            // A block's frames and a drain's written ones stand in one place.
+            if let [BLOCK | DRAIN, _, frames, ..] = words[..] {
+                self.counts.frames += frames;
+            }
+            self.words.extend(words);
+        }
+        self.words.push(END);
+        self.counts.sessions += 1;
+        Ok(())
+    }
+}
+
+impl Recorder {
+    fn new(session: &Session, source: Source) -> Result<Self, String> {
+        let rust = Rust::new(&session.setup, None)?;
+        Ok(Self {
+            model: rust.lent(),
+            rust,
+            source,
+            channels: session.setup.channels,
+        })
+    }
+
+    /// The head of a session.
+    fn head(&self, session: &Session) -> Vec<u64> {
+        let setup = &session.setup;
+        let weights = &self.model.stores.0[WEIGHTS];
+        let floats = [
+            setup.threshold,
+            setup.margin,
+            setup.lookahead,
+            setup.release,
+        ];
+        let mut words = vec![START, u64::from(setup.rate), setup.channels as u64];
+        words.extend(floats.map(f64::to_bits));
+        words.extend([self.rust.look() as u64, weights.len() as u64]);
+        words.extend([self.source.state, self.source.kind, setup.block as u64]);
+        words.extend(weights);
+        words
+    }
+
+    /// The words of a call; none where document 01 refuses what the Rust would
+    /// not.
+    fn call(&mut self, part: &Part, session: &Session) -> Result<Vec<u64>, String> {
+        let samples = self.source.state;
+        let mut call = self.drawn(part, session);
+        let mut tried = (self.model.clone(), call.clone());
+        let number = model::call(&mut tried.0, &mut tried.1);
+        if number != 0 && !matches!(call, Call::Set { .. } | Call::Read { .. }) {
+            self.source.state = samples;
+            return Ok(Vec::new());
+        }
+        let (told_number, told) = self.rust.call(&mut call);
+        if number != told_number || tried.1.audio() != call.audio() {
+            return Err(format!("the model and the Rust differ at {part:?}"));
+        }
+        self.model = tried.0;
+        Ok(self.words(&call, number, &told))
+    }
+
+    /// The call, its samples those of the session's source.
+    fn drawn(&mut self, part: &Part, session: &Session) -> Call {
+        let mut call = part.call(session);
+        if let Call::Process { frames, audio, .. } = &mut call {
+            if *frames <= RECORDED {
+                let planes = self.source.planes(self.channels, *frames as usize);
+                *audio = bytes(&planes.concat());
+            }
+        }
+        call
+    }
+
+    fn words(&self, call: &Call, number: u32, told: &[u64]) -> Vec<u64> {
+        let number = u64::from(number);
+        let told_first = told.first().copied().unwrap_or_default();
+        match call {
+            Call::Process {
+                position,
+                frames,
+                events,
+                audio,
+            } => {
+                let whole = &events[..events.len() / 3 * 3];
+                let mut words = vec![BLOCK, *position, *frames, whole.len() as u64 / 3];
+                words.extend(whole);
+                words.push(digest(&planes(audio, self.channels), *frames as usize));
+                words
+            }
+            Call::Flush { frames, audio } => {
+                let given = digest(&planes(audio, self.channels), told[0] as usize);
+                vec![DRAIN, *frames, told[0], told[1], given]
+            }
+            Call::Reset => vec![RESET],
+            Call::Set { id, bits } => vec![SET, u64::from(*id), *bits, number],
+            Call::Read { id } => vec![READ, u64::from(*id), number, told_first],
+            Call::GainStep { bits } => [&[GAIN_STEP, *bits], told].concat(),
+            Call::Setup { .. } => vec![SETUP],
+            Call::Look { .. } | Call::Bytes { .. } => Vec::new(),
+        }
+    }
+}
+
+#[cfg(test)]
+mod tests {
+    use super::*;
+    use crate::model::setup::Setup;
+    use crate::model::state::State;
+
+    /// Reads a file as a program would that replays it.
+    struct Reader<'a> {
+        rest: &'a [u64],
+    }
+
+    impl Reader<'_> {
+        fn next(&mut self) -> u64 {
+            let (first, rest) = self.rest.split_first().expect("a word");
+            self.rest = rest;
+            *first
+        }
+
+        fn some(&mut self, count: u64) -> Vec<u64> {
+            (0..count).map(|_| self.next()).collect()
+        }
+
+        fn float(&mut self) -> f64 {
+            f64::from_bits(self.next())
+        }
+    }
+
+    /// The model in place of a proved program.
+    struct Replay {
+        lent: Lent,
+        setup: Setup,
+        source: Source,
+    }
+
+    impl Replay {
+        fn start(file: &mut Reader) -> Self {
+            let (rate, channels) = (file.next() as u32, file.next() as usize);
+            let [threshold, margin, lookahead, release] = [(); 4].map(|()| file.float());
+            let [look, rows, seed, kind, block] = [(); 5].map(|()| file.next());
+            let setup = Setup {
+                threshold,
+                margin,
+                lookahead,
+                release,
+                rate,
+                channels,
+                block: block as usize,
+            };
+            let lent = Lent {
+                state: vec![0; 512],
+                answer: vec![0; 8],
+                stores: crate::calls::Stores::default(),
+            };
+            let source = Source { state: seed, kind };
+            let mut replay = Self {
+                lent,
+                setup,
+                source,
+            };
+            let places = [channels as u64 * look, look + 1, look + 1, 0, rows];
+            for (store, places) in replay.lent.stores.0.iter_mut().zip(places) {
+                *store = vec![1; places as usize];
+            }
+            replay.lent.stores.0[WEIGHTS] = file.some(rows);
+            replay.lent.stores.0[5] = vec![1; 12 * channels];
+            replay.told(Call::Setup { setup, cap: None }, &[0]);
+            let state = State::read(&replay.lent.state).expect("a state");
+            assert_eq!(state.look, look);
+            replay
+        }
+
+        /// Play a call; its number and the words told are those of the file.
+        fn told(&mut self, mut call: Call, due: &[u64]) -> Call {
+            let number = model::call(&mut self.lent, &mut call);
+            assert_eq!(u64::from(number), due[0]);
+            assert_eq!(self.lent.answer[..due.len() - 1], due[1..]);
+            call
+        }
+
+        fn block(&mut self, file: &mut Reader) {
+            let [position, frames, count] = [(); 3].map(|()| file.next());
+            let events = file.some(3 * count);
+            let planes = self.source.planes(self.setup.channels, frames as usize);
+            let call = Call::Process {
+                position,
+                frames,
+                events,
+                audio: bytes(&planes.concat()),
+            };
+            let call = self.told(call, &[0]);
+            self.digest(&call, frames, file.next());
+        }
+
+        fn drain(&mut self, file: &mut Reader) {
+            let [frames, written, done] = [(); 3].map(|()| file.next());
+            let audio = vec![1; 8 * self.setup.channels * frames as usize];
+            let call = self.told(Call::Flush { frames, audio }, &[0, written, done]);
+            self.digest(&call, written, file.next());
+        }
+
+        fn digest(&self, call: &Call, frames: u64, due: u64) {
+            let planes = planes(call.audio(), self.setup.channels);
+            assert_eq!(digest(&planes, frames as usize), due);
+        }
+
+        /// The call whose op was read.
+        fn call(&mut self, op: u64, file: &mut Reader) {
+            match op {
+                BLOCK => return self.block(file),
+                DRAIN => return self.drain(file),
+                RESET => self.told(Call::Reset, &[0]),
+                SET => {
+                    let (id, bits) = (file.next() as u32, file.next());
+                    self.told(Call::Set { id, bits }, &[file.next()])
+                }
+                READ => {
+                    let id = file.next() as u32;
+                    self.told(Call::Read { id }, &file.some(2))
+                }
+                GAIN_STEP => {
+                    let bits = file.next();
+                    let due = [vec![0], file.some(6)].concat();
+                    self.told(Call::GainStep { bits }, &due)
+                }
+                SETUP => {
+                    let setup = self.setup;
+                    self.told(Call::Setup { setup, cap: None }, &[0])
+                }
+                _ => unreachable!("no op {op}"),
+            };
+        }
+    }
+
+    #[test]
+    fn a_replay_by_the_model_gives_the_file_again() {
+        let record = recorded().expect("good settings");
+        let mut file = Reader {
+            rest: &record.words,
+        };
+        let (mut ops, mut calls) = ([0; 9], 0);
+        while !file.rest.is_empty() {
+            assert_eq!(file.next(), START);
+            let mut replay = Replay::start(&mut file);
+            loop {
+                let op = file.next();
+                if op == END {
+                    break;
+                }
+                ops[op as usize] += 1;
+                calls += 1;
+                replay.call(op, &mut file);
+            }
+        }
+        assert_eq!(calls, record.counts.calls);
+        assert!(ops[2..].iter().all(|&n| n > 20), "{ops:?}");
+    }
+
+    #[test]
+    fn the_file_is_small_and_always_the_same() {
+        let record = recorded().expect("good settings");
+        assert!(8 * record.words.len() < 300_000);
+        assert!(record.counts.frames > 50_000);
+        assert_eq!(record, recorded().expect("good settings"));
+    }
+}

@@ -1,0 +1,240 @@
+//! The comparison itself: its sessions are what they should be, the model agrees
+//! with the Rust, and a side that is wrong is found.
+
+use super::plan::Part;
+use super::*;
+use crate::calls::{sample, Call, Lent};
+use crate::model::calls::call as model;
+use crate::model::setup::look;
+
+const WHOLE: Settings = Settings {
+    mode: Mode::Whole,
+    sessions: 60,
+    seed: 1,
+};
+
+const DIRECT: Settings = Settings {
+    mode: Mode::Direct,
+    sessions: 60,
+    seed: 1,
+};
+
+const DAMAGE: Settings = Settings {
+    mode: Mode::Damage,
+    sessions: 80,
+    seed: 1,
+};
+
+/// A mode's calls answer the numbers of each row so often at least.
+fn common(settings: &Settings, rows: &[(u64, &[usize])]) {
+    let counts = all(settings, Some(model)).expect("no difference");
+    assert_eq!(counts.sessions, settings.sessions);
+    for &(least, numbers) in rows {
+        let met = |number: usize| counts.numbers[number] >= least;
+        assert!(numbers.iter().all(|&n| met(n)), "{least}: {counts:?}");
+    }
+}
+
+#[test]
+fn the_model_is_the_rust_and_every_answer_is_met() {
+    let often = [0, 15, 16, 18, 20, 21, 23, 24];
+    let seldom = [5, 7, 9, 11, 12, 22];
+    common(&WHOLE, &[(20, &often), (3, &seldom)]);
+}
+
+#[test]
+fn damage_meets_every_answer_that_it_aims_at() {
+    common(&DAMAGE, &[(500, &[0, 18, 19]), (30, &[17, 22])]);
+}
+
+#[test]
+fn sessions_have_every_size() {
+    for settings in [WHOLE, DIRECT] {
+        every_size(&settings);
+    }
+}
+
+fn every_size(settings: &Settings) {
+    let sessions: Vec<Session> = (0..400).map(|number| drawn(settings, number)).collect();
+    let has = |test: &dyn Fn(&Session) -> bool| assert!(sessions.iter().any(test));
+    for channels in 1..=8 {
+        has(&|s| s.setup.channels == channels);
+    }
+    let frames = |s: &Session| look(s.setup.lookahead, s.setup.rate);
+    has(&|s| frames(s) == 11);
+    has(&|s| frames(s) == 4_096);
+    for release in [0.0f64, -0.0, 10_000.0] {
+        has(&|s| s.setup.release.to_bits() == release.to_bits());
+    }
+    let blocks = |s: &Session, test: &dyn Fn(u64, u64) -> bool| {
+        s.turns.iter().any(|turn| match &turn.part {
+            Part::Block(b) => turn.commits() && test(b.position, b.frames),
+            _ => false,
+        })
+    };
+    has(&|s| blocks(s, &|_, frames| frames == 65_536));
+    has(&|s| blocks(s, &|_, frames| frames == 0));
+    has(&|s| blocks(s, &|position, frames| position + frames == 1 << 62));
+}
+
+/// The table is the model's, the frames are the Rust's.
+#[test]
+fn sessions_without_the_model_are_long() {
+    let settings = Settings {
+        sessions: 12,
+        ..DIRECT
+    };
+    let counts = all(&settings, Some(model)).expect("no difference");
+    assert!(counts.frames > 50_000, "{counts:?}");
+    assert!(counts.numbers[18] > 10, "{counts:?}");
+}
+
+/// The gains that sessions end with: none is rare, so that outputs are heard
+/// both as they came and turned down.
+#[test]
+fn gains_of_every_size_are_met() {
+    let gain = |number| {
+        let session = drawn(&DAMAGE, number);
+        let mut lent = Rust::new(&session.setup, None).expect("good").lent();
+        for turn in session.turns.iter().filter(|turn| turn.commits()) {
+            model(&mut lent, &mut turn.part.call(&session));
+        }
+        sample(&lent.state[8 * 15..])
+    };
+    let gains: Vec<f64> = (0..100).map(gain).collect();
+    let count = |test: &dyn Fn(f64) -> bool| gains.iter().filter(|g| test(**g)).count();
+    assert!(count(&|g| g == 1.0) > 5, "{gains:?}");
+    assert!(count(&|g| g > 0.001 && g < 1.0) > 5, "{gains:?}");
+    assert!(count(&|g| g <= 0.001) > 5, "{gains:?}");
+}
+
+/// Most damage that is accepted can be forged into the Rust, which then holds
+/// the model to it.
+#[test]
+fn the_rust_takes_most_damage() {
+    let (mut accepted, mut taken) = (0, 0);
+    for number in 0..20 {
+        let session = drawn(&DAMAGE, number);
+        let fresh = Rust::new(&session.setup, None).expect("good").lent();
+        for turn in session.turns.iter().filter(|turn| !turn.commits()) {
+            let (mut lent, mut call) = (fresh.clone(), turn.part.call(&session));
+            let faults = turn.faults.iter();
+            faults.for_each(|fault| fault.apply(&mut lent, &mut call));
+            if !matches!(call, Call::Setup { .. }) && model(&mut lent.clone(), &mut call) == 0 {
+                accepted += 1;
+                taken += usize::from(Rust::forged(&lent).is_some());
+            }
+        }
+    }
+    assert!(
+        accepted > 300 && 5 * taken > 4 * accepted,
+        "{taken} of {accepted}"
+    );
+}
+
+#[test]
+fn a_run_depends_on_its_seed_alone() {
+    let text = |seed| {
+        let settings = Settings {
+            sessions: 6,
+            seed,
+            ..DAMAGE
+        };
+        run(&settings, Some(model))
+    };
+    let (passed, lines) = text(7);
+    assert!(passed && lines.contains("0 differences, seed 7"));
+    assert_eq!(text(7), (passed, lines.clone()));
+    assert_ne!(text(8).1.replace("seed 8", "seed 7"), lines);
+}
+
+/// A bit of an output that leaves wrong.
+fn wrong_output(lent: &mut Lent, call: &mut Call) -> u32 {
+    let number = model(lent, call);
+    if let Call::Process { audio, frames, .. } = call {
+        if number == 0 && *frames > 40 {
+            audio[8 * 40] ^= 1;
+        }
+    }
+    number
+}
+
+/// A refused block whose audio is touched, or whose row is.
+fn touched(lent: &mut Lent, call: &mut Call) -> u32 {
+    let number = model(lent, call);
+    if number == 21 {
+        lent.stores.0[4][0] ^= 1;
+    }
+    number
+}
+
+/// The position is judged first.
+fn other_order(lent: &mut Lent, call: &mut Call) -> u32 {
+    match call {
+        Call::Process { position, .. } if *position > 1 << 62 => {
+            lent.tell(&[]);
+            22
+        }
+        _ => model(lent, call),
+    }
+}
+
+/// A refusal that tells nothing.
+fn untold(lent: &mut Lent, call: &mut Call) -> u32 {
+    let before = lent.answer.clone();
+    let number = model(lent, call);
+    if number == 18 {
+        lent.answer = before;
+    }
+    number
+}
+
+/// A reset that forgets the kept target.
+fn forgetful(lent: &mut Lent, call: &mut Call) -> u32 {
+    let kept: Vec<u8> = lent.state.iter().skip(8 * 17).take(8).copied().collect();
+    let number = model(lent, call);
+    if number == 0 && matches!(call, Call::Reset) {
+        lent.state[8 * 17..8 * 18].copy_from_slice(&kept);
+    }
+    number
+}
+
+#[test]
+fn wrong_sides_are_found_and_told_in_short() {
+    for (side, said) in [
+        (wrong_output as Side, "audio, sample 40"),
+        (touched, "row[0]"),
+        (other_order, "number: due"),
+        (untold, "answer[0]"),
+        (forgetful, "state[17]"),
+    ] {
+        for settings in [WHOLE, DIRECT] {
+            let (passed, text) = run(&settings, Some(side));
+            assert!(!passed);
+            assert!(text.contains(said), "{text}");
+            assert!(text.lines().count() <= 6, "{text}");
+        }
+    }
+}
+
+/// A state whose drained count is not judged.
+fn unjudged(lent: &mut Lent, call: &mut Call) -> u32 {
+    if matches!(call, Call::Setup { .. }) {
+        return model(lent, call);
+    }
+    let before = lent.state.clone();
+    if let Some(word) = lent.state.get_mut(8 * 18..8 * 19) {
+        word.fill(0);
+    }
+    let number = model(lent, call);
+    if number != 0 {
+        lent.state = before;
+    }
+    number
+}
+
+#[test]
+fn damage_finds_what_sessions_do_not() {
+    let (passed, text) = run(&DAMAGE, Some(unjudged));
+    assert!(!passed && text.contains("at: 18"), "{text}");
+}
