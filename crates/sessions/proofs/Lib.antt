@@ -1,2 +1,2 @@
 -- Laws of the replayed sessions that belong to no one function.
-pub mod Ready
+pub mod Lent

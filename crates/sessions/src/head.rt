@@ -1,5 +1,5 @@
 // The head of a recorded session: what the limiter was set up with.
-ghost use Prim.Native.Nat.{_≤_};
+ghost use Prim.Native.Nat.{_≤_, _*_};
 use arithmetic::pattern::from_bits;
 use records::words::next;
 use settings::LimiterSettings;
@@ -12,18 +12,33 @@ pub struct Head {
     pub rows: usize,
     pub seed: u64,
     pub kind: u64,
+    pub max_block: usize,
 }
 
-fn float(fd: i32) -> f64 {
+pub fn float(fd: i32) -> f64 {
     from_bits(next(fd).word)
 }
 
-// A count of at most `most`; a larger one is damage, which the digests tell.
-fn count(fd: i32, most: u64) -> u64
+// A count of at most `most`; a larger one is damage, which the answers tell.
+pub fn count(fd: i32, most: u64) -> u64
     ensures { λ r. ⌜ r ≤ most ⌝ }
 {
     let n = next(fd).word;
     if n <= most { n } else { most }
+}
+
+// So many places for each channel; none where there are more than 8 channels or `most` places.
+pub fn places(channels: usize, n: usize, most: usize) -> usize
+    requires { ⌜ most ≤ 4096 ⌝ }
+    ensures { λ r. ⌜ r ≤ 8 * most ⌝ }
+{
+    if channels > 8 {
+        return 0;
+    }
+    if n > most {
+        return 0;
+    }
+    channels * n
 }
 
 fn settings(fd: i32) -> LimiterSettings {
@@ -39,7 +54,7 @@ fn settings(fd: i32) -> LimiterSettings {
 }
 
 pub fn read(fd: i32) -> Head
-    ensures { λ r. ⌜ (r .channels ≤ 8) × (r .look ≤ 4096) × (r .rows ≤ 4096) ⌝ }
+    ensures { λ r. ⌜ (r .look ≤ 4096) × (r .rows ≤ 4096) ⌝ }
 {
     let rate = count(fd, 192000) as u32;
     let channels = count(fd, 8) as usize;
@@ -48,6 +63,7 @@ pub fn read(fd: i32) -> Head
     let rows = count(fd, 4096) as usize;
     let seed = next(fd).word;
     let kind = next(fd).word;
+    let max_block = count(fd, 65536) as usize;
     Head {
         settings: s,
         rate,
@@ -56,6 +72,7 @@ pub fn read(fd: i32) -> Head
         rows,
         seed,
         kind,
+        max_block,
     }
 }
 

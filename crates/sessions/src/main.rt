@@ -1,77 +1,78 @@
-// Replays the Rust limiter's recorded sessions and prints how many runs were replayed and how many
-// differ. `oracle/run sessions` writes data/sessions.
+// Replays the recorded sessions of the Rust's whole limiter and prints how many calls were replayed and
+// how many differ. `oracle/run record-whole` writes data/sessions.
 ghost use mathlib.Core.Path.{_≡_};
+ghost use Prim.Native.Nat.{_≤_};
 ghost use lib.ListN.{length};
 use records::tally::Replayed;
 use records::tally::Tally;
 use records::words::next;
 
-// The samples of a session, and the digest of its outputs.
+// The samples of a session, and the digest of a call's outputs.
 mod samples;
-// Runs, drained runs, resets.
-mod kernel;
 // The head of a session.
 mod head;
-// Its runs.
-mod runs;
+// What its calls answer.
+mod answers;
+// Its calls.
+mod calls;
+// The session.
+mod session;
 
-// Room for 4,097 numbers; an array written in place would stand in every goal.
+// Room for 4,097 numbers; an array written in place would stand in every goal. No room starts at 0, so
+// that a setup that leaves something is told.
 fn room() -> [f64; 4097]
     ensures { λ r. ⌜ length r ≡ 4097 ⌝ }
 {
-    [0.0; 4097]
+    [1.0; 4097]
 }
 
 fn marks_room() -> [u64; 4097]
     ensures { λ r. ⌜ length r ≡ 4097 ⌝ }
 {
-    [0; 4097]
+    [1; 4097]
 }
 
 // Room for eight lines of the longest look.
 fn delay_room() -> [f64; 32768]
     ensures { λ r. ⌜ length r ≡ 32768 ⌝ }
 {
-    [0.0; 32768]
+    [1.0; 32768]
+}
+
+// The weights, in the first places.
+fn weights(fd: i32, rows: usize) -> [f64; 4097]
+    requires { ⌜ rows ≤ 4096 ⌝ }
+    ensures { λ r. ⌜ length r ≡ 4097 ⌝ }
+{
+    let mut weights = room();
+    head::weights(fd, &mut weights[0..rows]);
+    weights
 }
 
 // A session whose first word was read, on stores of its lengths.
-fn session(fd: i32) -> Tally {
+fn replayed(fd: i32, before: Tally) -> Tally {
     let h = head::read(fd);
     let rows = h.rows;
-    let places = h.look + 1;
-    let lines = h.channels * h.look;
-    let heard = h.channels * 12;
-    let mut weights = room();
+    let entries = h.look + 1;
+    let lines = head::places(h.channels, h.look, 4096);
+    let heard = head::places(h.channels, 12, 12);
+    let weights = weights(fd, rows);
     let mut delay = delay_room();
     let mut marks = marks_room();
     let mut minima = room();
     let mut row = room();
-    let mut detector = [0.0; 96];
-    runs::session(
+    let mut detector = [1.0; 96];
+    session::each(
         fd,
         h,
+        before,
         &mut delay[0..lines],
-        &mut marks[0..places],
-        &mut minima[0..places],
-        &mut weights[0..rows],
+        &mut marks[0..entries],
+        &mut minima[0..entries],
+        &weights[0..rows],
         &mut row[0..rows],
         &mut detector[0..heard],
     )
-}
-
-// Both tallies as one, with the first difference of either.
-fn together(a: Tally, b: Tally) -> Tally {
-    let first = if a.differ == 0 {
-        std::num::wrapping_add_u64(a.count, b.first)
-    } else {
-        a.first
-    };
-    Tally {
-        count: std::num::wrapping_add_u64(a.count, b.count),
-        differ: std::num::wrapping_add_u64(a.differ, b.differ),
-        first,
-    }
 }
 
 // Each session of the file, up to ten thousand.
@@ -85,8 +86,7 @@ fn each(fd: i32) -> Replayed {
                 rest: first.rest,
             };
         }
-        let one = session(fd);
-        tally = together(tally, one);
+        tally = replayed(fd, tally);
     }
     Replayed { tally, rest: 0 }
 }
@@ -99,5 +99,5 @@ fn main() {
     }
     let replayed = each(fd);
     libc::close(fd);
-    replayed.print(b"runs of the limiter");
+    replayed.print(b"calls of the limiter");
 }

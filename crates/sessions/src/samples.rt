@@ -1,4 +1,4 @@
-// The samples of a recorded session, which both sides make from a seed, and the digest of its outputs.
+// The samples of a recorded session, which both sides make from a seed, and the digest of a call's outputs.
 use arithmetic::pattern::from_bits;
 use arithmetic::pattern::to_bits;
 
@@ -35,7 +35,7 @@ fn shaped(kind: u64, r: u64) -> u64 {
     r & 0x801f_ffff_ffff_ffff
 }
 
-// One channel's samples; the state afterwards.
+// The samples of a block, channel after channel; the state afterwards.
 pub fn fill(samples: &mut [f64], x: u64, kind: u64) -> u64 {
     let mut state = x;
     let mut i: usize = 0;
@@ -57,13 +57,25 @@ fn spread(d: u64) -> u64 {
     std::num::wrapping_add_u64(low, high)
 }
 
-// A digest with these outputs added.
-pub fn digest(d: u64, outputs: &[f64]) -> u64 {
-    let mut sum = d;
+// The digest with the sample at place i of planar audio, where it is one of its channel's first n.
+fn added(d: u64, x: f64, i: usize, width: usize, n: usize) -> u64 {
+    if width == 0 {
+        return d;
+    }
+    if i % width < n {
+        spread(d ^ to_bits(x))
+    } else {
+        d
+    }
+}
+
+// The digest of the first n frames of planar audio that has `width` frames a channel.
+pub fn digest(audio: &[f64], width: usize, n: usize) -> u64 {
+    let mut d: u64 = 0xcbf2_9ce4_8422_2325;
     let mut i: usize = 0;
-    while i < outputs.len() {
-        sum = spread(sum ^ to_bits(outputs[i]));
+    while i < audio.len() {
+        d = added(d, audio[i], i, width, n);
         i += 1;
     }
-    sum
+    d
 }

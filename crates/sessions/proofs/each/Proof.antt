@@ -23,11 +23,8 @@ next-requires c κs = search needs
 returns : tie.Need-returns Inv-loop μ-loop
 returns c = search needs
 
-session-requires : tie.Need-session-requires Inv-loop μ-loop
-session-requires c κs = search needs
-
-together-requires : tie.Need-together-requires Inv-loop μ-loop
-together-requires c κs = search needs
+replayed-requires : tie.Need-replayed-requires Inv-loop μ-loop
+replayed-requires c κs = search needs
 
 add-turn : tie.Need-add-turn Inv-loop μ-loop
 add-turn c = omega arith
@@ -51,8 +48,7 @@ each-spec =
     loop-holds
     next-requires
     returns
-    session-requires
-    together-requires
+    replayed-requires
     add-turn
     loop-less
     loop-again

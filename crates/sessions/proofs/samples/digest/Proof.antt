@@ -1,4 +1,4 @@
--- `digest`: an output a turn.
+-- `digest`: a sample a turn.
 use Prim.Native.Nat.{_-_, _≤_}
 use native.Mathlib.Omega.{arith}
 use borrow.Author.Needs.{needs}
@@ -7,25 +7,22 @@ use Rattle.sessions.proofs.samples.digest.Statement.{statement}
 use Rattle.sessions.proofs.samples.digest.Tie as tie
 
 abbrev Inv-loop : tie.InvT-loop
-Inv-loop d outputs sum₀ i₀ sum i = i ≤ length outputs
+Inv-loop audio width n d₀ i₀ d i = i ≤ length audio
 
 abbrev μ-loop : tie.MeasureT-loop
-μ-loop d outputs sum₀ i₀ sum i = length outputs - i
+μ-loop audio width n d₀ i₀ d i = length audio - i
 
 loop-holds : tie.Need-loop-holds Inv-loop μ-loop
 loop-holds c = omega arith
 
-mul-to-bits : tie.Need-mul-to-bits Inv-loop μ-loop
-mul-to-bits c = omega arith
+mul-added : tie.Need-mul-added Inv-loop μ-loop
+mul-added c = omega arith
 
-shared-slice-read-to-bits : tie.Need-shared-slice-read-to-bits Inv-loop μ-loop
-shared-slice-read-to-bits c = omega arith
+shared-slice-read-added : tie.Need-shared-slice-read-added Inv-loop μ-loop
+shared-slice-read-added c = omega arith
 
-to-bits-requires : tie.Need-to-bits-requires Inv-loop μ-loop
-to-bits-requires c κs = search needs
-
-spread-requires : tie.Need-spread-requires Inv-loop μ-loop
-spread-requires c κs = search needs
+added-requires : tie.Need-added-requires Inv-loop μ-loop
+added-requires c κs = search needs
 
 add-i : tie.Need-add-i Inv-loop μ-loop
 add-i c = omega arith
@@ -46,10 +43,9 @@ digest-spec =
     Inv-loop
     μ-loop
     loop-holds
-    mul-to-bits
-    shared-slice-read-to-bits
-    to-bits-requires
-    spread-requires
+    mul-added
+    shared-slice-read-added
+    added-requires
     add-i
     loop-less
     loop-again

@@ -1,0 +1,249 @@
+// The calls of a recorded session. Every one is made whatever the file says, since no call of the limiter
+// asks for anything; damage is told by the answers.
+ghost use mathlib.Core.Path.{_≡_};
+ghost use Prim.Native.Nat.{_≤_};
+ghost use lib.ListN.{length};
+use crate::answers;
+use crate::head::Head;
+use crate::head::count;
+use crate::head::float;
+use crate::head::places;
+use crate::samples;
+use driver::state::KernelProcessor;
+use records::words::next;
+use settings::memory::Cap;
+
+// What a call leaves, the limiter and the state of the samples' source, and whether it told what was recorded.
+pub struct Played {
+    pub processor: KernelProcessor,
+    pub x: u64,
+    pub same: bool,
+}
+
+// Room for a call's audio. No output is 2.0, so a place that is left out is told.
+fn audio_room() -> [f64; 4096]
+    ensures { λ r. ⌜ length r ≡ 4096 ⌝ }
+{
+    [2.0; 4096]
+}
+
+// Room for the words of 64 events.
+fn events_room() -> [u64; 192]
+    ensures { λ r. ⌜ length r ≡ 192 ⌝ }
+{
+    [0; 192]
+}
+
+// The next words of the file.
+fn words(fd: i32, into: &mut [u64]) {
+    let mut i: usize = 0;
+    while i < into.len() {
+        into[i] = next(fd).word;
+        i += 1;
+    }
+}
+
+// Ids are words of 32 bits.
+fn id(fd: i32) -> u32 {
+    (next(fd).word % 4294967296) as u32
+}
+
+// The events of a block, in the first places.
+fn events(fd: i32, told: usize) -> [u64; 192]
+    requires { ⌜ told ≤ 192 ⌝ }
+    ensures { λ r. ⌜ length r ≡ 192 ⌝ }
+{
+    let mut events = events_room();
+    words(fd, &mut events[0..told]);
+    events
+}
+
+fn block(
+    fd: i32,
+    h: Head,
+    p: KernelProcessor,
+    before: u64,
+    delay: &mut [f64],
+    marks: &mut [u64],
+    minima: &mut [f64],
+    weights: &[f64],
+    row: &mut [f64],
+    detector: &mut [f64],
+) -> Played {
+    let position = next(fd).word;
+    let frames = next(fd).word as usize;
+    let told = 3 * count(fd, 64) as usize;
+    let events = events(fd, told);
+    let size = places(h.channels, frames, 512);
+    let mut audio = audio_room();
+    let x = samples::fill(&mut audio[0..size], before, h.kind);
+    let done = p.process(
+        position,
+        frames,
+        &events[0..told],
+        &mut audio[0..size],
+        delay,
+        marks,
+        minima,
+        weights,
+        row,
+        detector,
+    );
+    let answer = done.answer;
+    let digest = samples::digest(&audio[0..size], frames, frames);
+    let same = answers::is_processed(answer) & (digest == next(fd).word);
+    let processor = done.processor;
+    Played { processor, x, same }
+}
+
+fn drain(
+    fd: i32,
+    h: Head,
+    p: KernelProcessor,
+    x: u64,
+    delay: &mut [f64],
+    marks: &mut [u64],
+    minima: &mut [f64],
+    weights: &[f64],
+    row: &mut [f64],
+    detector: &mut [f64],
+) -> Played {
+    let frames = next(fd).word as usize;
+    let size = places(h.channels, frames, 512);
+    let mut audio = audio_room();
+    let done = p.flush(
+        frames,
+        &mut audio[0..size],
+        delay,
+        marks,
+        minima,
+        weights,
+        row,
+        detector,
+    );
+    let answer = done.answer;
+    let told = answers::drained(answer);
+    let digest = samples::digest(&audio[0..size], frames, told.written);
+    let same = answers::drained_same(fd, told, digest);
+    let processor = done.processor;
+    Played { processor, x, same }
+}
+
+fn reset(
+    p: KernelProcessor,
+    x: u64,
+    delay: &mut [f64],
+    marks: &[u64],
+    minima: &[f64],
+    weights: &[f64],
+    row: &mut [f64],
+    detector: &mut [f64],
+) -> Played {
+    let done = p.reset(delay, marks, minima, weights, row, detector);
+    let answer = done.answer;
+    let same = answers::is_reset(answer);
+    let processor = done.processor;
+    Played { processor, x, same }
+}
+
+fn set(fd: i32, p: KernelProcessor, x: u64) -> Played {
+    let id = id(fd);
+    let value = float(fd);
+    let done = p.set_parameter_immediate(id, value);
+    let answer = done.answer;
+    let same = answers::set_number(answer) == next(fd).word;
+    let processor = done.processor;
+    Played { processor, x, same }
+}
+
+fn read(fd: i32, p: KernelProcessor, x: u64) -> Played {
+    let id = id(fd);
+    let number = next(fd).word;
+    let bits = next(fd).word;
+    let same = answers::value_same(p.value(id), number, bits);
+    Played {
+        processor: p,
+        x,
+        same,
+    }
+}
+
+fn gain_step(
+    fd: i32,
+    p: KernelProcessor,
+    x: u64,
+    marks: &mut [u64],
+    minima: &mut [f64],
+    weights: &[f64],
+    row: &mut [f64],
+) -> Played {
+    let gain = float(fd);
+    let due = answers::recorded_step(fd);
+    let done = p.step_env(gain, marks, minima, weights, row);
+    let answer = done.answer;
+    let same = answers::step_same(answer, due);
+    let processor = done.processor;
+    Played { processor, x, same }
+}
+
+// The setup; the look that it derives is the recorded one.
+fn setup(
+    h: Head,
+    x: u64,
+    delay: &mut [f64],
+    marks: &mut [u64],
+    minima: &mut [f64],
+    weights: &[f64],
+    row: &mut [f64],
+    detector: &mut [f64],
+) -> Played {
+    let s = h.settings;
+    let done = KernelProcessor::prepare(
+        s,
+        h.rate,
+        h.channels,
+        h.max_block,
+        Cap::Unlimited,
+        delay,
+        marks,
+        minima,
+        weights,
+        row,
+        detector,
+    );
+    let answer = done.answer;
+    let processor = done.processor;
+    let l = processor.limiter;
+    let same = answers::is_set_up(answer) & (l.env.keeper.look == h.look);
+    Played { processor, x, same }
+}
+
+// The rest of a call whose op was read. Another op is no call's, and differs.
+pub fn play(
+    fd: i32,
+    op: u64,
+    h: Head,
+    p: KernelProcessor,
+    x: u64,
+    delay: &mut [f64],
+    marks: &mut [u64],
+    minima: &mut [f64],
+    weights: &[f64],
+    row: &mut [f64],
+    detector: &mut [f64],
+) -> Played {
+    match op {
+        2 => block(fd, h, p, x, delay, marks, minima, weights, row, detector),
+        3 => drain(fd, h, p, x, delay, marks, minima, weights, row, detector),
+        4 => reset(p, x, delay, marks, minima, weights, row, detector),
+        5 => set(fd, p, x),
+        6 => read(fd, p, x),
+        7 => gain_step(fd, p, x, marks, minima, weights, row),
+        8 => setup(h, x, delay, marks, minima, weights, row, detector),
+        _ => Played {
+            processor: p,
+            x,
+            same: false,
+        },
+    }
+}
