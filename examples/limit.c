@@ -1,0 +1,51 @@
+/* Limits a second of a loud stereo tone through the C functions and prints the highest sample, in and out. */
+#include "daggeryuzu.h"
+
+#include <math.h>
+#include <stdio.h>
+#include <stdlib.h>
+#include <string.h>
+
+enum { RATE = 48000, CHANNELS = 2, BLOCK = 480 };
+
+static uint64_t bits(double x) {
+    uint64_t w;
+    memcpy(&w, &x, sizeof w);
+    return w;
+}
+
+int main(void) {
+    const double pi = acos(-1.0);
+    uint8_t state[DAGGERYUZU_STATE];
+    uint64_t answer[DAGGERYUZU_ANSWER];
+
+    /* the stores, for the look of 1.5 ms; the weights are the inside of a Hann window, summing to 1 */
+    const size_t look = daggeryuzu_look(bits(1.5), RATE), l = look > 12 ? look - 11 : 1;
+    double *delay = calloc(CHANNELS * look, 8), *minima = calloc(look + 1, 8), *weights = calloc(l, 8);
+    double *row = calloc(l, 8), *detector = calloc(CHANNELS * 12, 8), sum = 0;
+    uint64_t *marks = calloc(look + 1, 8);
+    for (size_t j = 0; j < l; j++) sum += weights[j] = 0.5 - 0.5 * cos(2 * pi * (j + 1.0) / (l + 1.0));
+    for (size_t j = 0; j < l; j++) weights[j] /= sum;
+
+    /* -1 dB, 0.1 dB margin, 1.5 ms, release 50 ms; no cap */
+    uint32_t number = daggeryuzu_setup(state, sizeof state, answer, DAGGERYUZU_ANSWER, bits(-1.0), bits(0.1), bits(1.5),
+        bits(50.0), RATE, CHANNELS, BLOCK, 0, 0, delay, CHANNELS * look, marks, look + 1, minima, look + 1, weights, l,
+        row, l, detector, CHANNELS * 12);
+    double in = 0, out = 0, audio[CHANNELS * BLOCK];
+    for (uint64_t at = 0; number == 0 && at < RATE; at += BLOCK) {
+        for (int i = 0; i < BLOCK; i++) {
+            audio[i] = audio[BLOCK + i] = 2.0 * sin(2 * pi * 997 * (double)(at + i) / RATE);
+            in = fmax(in, fabs(audio[i]));
+        }
+        number = daggeryuzu_process(state, sizeof state, answer, DAGGERYUZU_ANSWER, at, BLOCK, NULL, 0, (uint8_t *)audio,
+            sizeof audio, delay, CHANNELS * look, marks, look + 1, minima, look + 1, weights, l, row, l, detector,
+            CHANNELS * 12);
+        for (int i = 0; i < CHANNELS * BLOCK; i++) out = fmax(out, fabs(audio[i]));
+    }
+    if (number != 0) {
+        fprintf(stderr, "refused: %u\n", number);
+        return 1;
+    }
+    printf("highest sample in %.3f, out %.3f\n", in, out);
+    return 0;
+}

@@ -1,0 +1,172 @@
+//! A look-ahead peak limiter whose every function is proved to meet its
+//! contract, behind the method names of the Rust it is a translation of.
+//!
+//! Every call does its own checking and answers `Ok`, or the one [`Refusal`]
+//! of document 01's table that arises first; a refused call changes nothing.
+//!
+//! ```
+//! use daggeryuzu::{Limiter, LimiterSettings, ProcessSpec};
+//!
+//! let spec = ProcessSpec { sample_rate: 48_000, channels: 2, max_block: 512, max_memory: None };
+//! let mut limiter = Limiter::prepare(LimiterSettings::default(), spec)?;
+//! let mut audio = vec![0.0; 2 * 512]; // planar: channel after channel
+//! limiter.process(0, &mut audio, &[])?;
+//! let mut tail = vec![0.0; 2 * limiter.latency()];
+//! let produced = limiter.flush(&mut tail)?;
+//! assert!(produced.done);
+//! # Ok::<(), daggeryuzu::Refusal>(())
+//! ```
+
+#![warn(missing_docs)]
+
+mod refusal;
+mod settings;
+mod stores;
+mod sys;
+
+pub use refusal::Refusal;
+pub use settings::{LimiterSettings, ProcessSpec};
+
+use stores::Stores;
+use sys::{Answer, State};
+
+/// The threshold's parameter id.
+pub const THRESHOLD_DB: u32 = 0;
+
+/// A new target for a parameter, stamped with an offset into its block.
+#[derive(Clone, Copy, Debug, PartialEq)]
+pub struct ParamEvent {
+    /// Frames from the block's start.
+    pub offset: u32,
+    /// Which parameter; an unknown one is ignored.
+    pub param: u32,
+    /// The target, kept within the parameter's range.
+    pub value: f64,
+}
+
+/// What a drain came to.
+#[derive(Clone, Copy, Debug, PartialEq, Eq)]
+pub struct Produced {
+    /// Frames written to each channel.
+    pub frames: usize,
+    /// Whether the tail is drained.
+    pub done: bool,
+}
+
+/// The limiter with its state and stores.
+#[derive(Clone, Debug)]
+pub struct Limiter {
+    state: State,
+    stores: Stores,
+    spec: ProcessSpec,
+    events: Vec<u64>,
+}
+
+impl Limiter {
+    /// Sets a limiter up.
+    ///
+    /// # Errors
+    /// Refusals 1 to 17 of document 01.
+    pub fn prepare(settings: LimiterSettings, spec: ProcessSpec) -> Result<Self, Refusal> {
+        let look = sys::look(settings.lookahead_ms, spec.sample_rate);
+        let mut limiter = Self {
+            state: State::new(),
+            stores: Stores::new(spec.channels, look),
+            spec,
+            events: Vec::new(),
+        };
+        let mut answer = Answer::new();
+        let number = limiter
+            .state
+            .setup(&mut answer, settings, spec, &mut limiter.stores);
+        answer.result(number).map(|_| limiter)
+    }
+
+    /// Limits a block in place: planar audio, `channels × frames` samples.
+    /// Events are sorted by their offsets.
+    ///
+    /// # Errors
+    /// 20, 21 or 22; 18, 16 and 19 never arise here, because nobody else
+    /// writes the state and the stores.
+    pub fn process(
+        &mut self,
+        position: u64,
+        audio: &mut [f64],
+        events: &[ParamEvent],
+    ) -> Result<(), Refusal> {
+        self.events.clear();
+        for e in events {
+            self.events
+                .extend([u64::from(e.offset), u64::from(e.param), e.value.to_bits()]);
+        }
+        let frames = audio.len() / self.spec.channels;
+        let mut answer = Answer::new();
+        let number = self.state.process(
+            &mut answer,
+            position,
+            frames,
+            &self.events,
+            audio,
+            &mut self.stores,
+        );
+        answer.result(number).map(|_| ())
+    }
+
+    /// Drains the tail: silence goes in, what was held back comes out.
+    ///
+    /// # Errors
+    /// 20 or 22.
+    pub fn flush(&mut self, audio: &mut [f64]) -> Result<Produced, Refusal> {
+        let frames = audio.len() / self.spec.channels;
+        let mut answer = Answer::new();
+        let number = self
+            .state
+            .flush(&mut answer, frames, audio, &mut self.stores);
+        answer.result(number).map(|words| Produced {
+            frames: words[0] as usize,
+            done: words[1] == 1,
+        })
+    }
+
+    /// Sets a parameter at once, with no ramp.
+    ///
+    /// # Errors
+    /// 23 for a value that is not finite, 24 for an unknown id.
+    pub fn set_parameter_immediate(&mut self, id: u32, value: f64) -> Result<(), Refusal> {
+        let mut answer = Answer::new();
+        let number = self.state.set_parameter(&mut answer, id, value);
+        answer.result(number).map(|_| ())
+    }
+
+    /// The present value of a parameter.
+    ///
+    /// # Errors
+    /// 24 for an unknown id.
+    pub fn parameter(&self, id: u32) -> Result<f64, Refusal> {
+        let mut answer = Answer::new();
+        let number = self.state.parameter(&mut answer, id);
+        answer.result(number).map(|words| f64::from_bits(words[0]))
+    }
+
+    /// Restores the starting values.
+    ///
+    /// # Errors
+    /// None arises here.
+    pub fn reset(&mut self) -> Result<(), Refusal> {
+        let mut answer = Answer::new();
+        let number = self.state.reset(&mut answer, &mut self.stores);
+        answer.result(number).map(|_| ())
+    }
+
+    /// Frames by which the audio is held back: look.
+    #[must_use]
+    pub fn latency(&self) -> usize {
+        self.stores.look()
+    }
+
+    /// Bytes of stores and bank, as document 01 counts them.
+    #[must_use]
+    pub fn memory_footprint(&self) -> u64 {
+        sys::bytes_needed(self.spec.channels, self.stores.look())
+    }
+}

@@ -1,0 +1,57 @@
+//! The examples of README.md, compiled and run: from C and from Rust the same
+//! answer. Without a C compiler the C part says so and is passed over.
+
+use std::path::{Path, PathBuf};
+use std::process::Command;
+
+const ANSWER: &str = "highest sample in 2.000, out 0.881\n";
+
+fn root() -> PathBuf {
+    Path::new(env!("CARGO_MANIFEST_DIR")).join("..")
+}
+
+fn library() -> PathBuf {
+    let dir = std::env::var_os("HOST_LIB_DIR").map_or_else(
+        || root().join("target/staticlib"),
+        |dir| Path::new(env!("CARGO_MANIFEST_DIR")).join(dir),
+    );
+    dir.join("libhost.a")
+}
+
+fn said(program: &mut Command) -> String {
+    let output = program.output().expect("it runs");
+    assert!(
+        output.status.success(),
+        "{}",
+        String::from_utf8_lossy(&output.stderr)
+    );
+    String::from_utf8(output.stdout).expect("text")
+}
+
+#[test]
+fn from_c() {
+    if Command::new("cc").arg("--version").output().is_err() {
+        println!("passed over: no C compiler cc");
+        return;
+    }
+    let program = Path::new(env!("CARGO_TARGET_TMPDIR")).join("limit-c");
+    said(
+        Command::new("cc")
+            .args(["-std=c11", "-Wall", "-Wextra", "-Werror", "-O2", "-I"])
+            .arg(root().join("include"))
+            .arg(root().join("examples/limit.c"))
+            .arg(library())
+            .args(["-lm", "-o"])
+            .arg(&program),
+    );
+    assert_eq!(said(&mut Command::new(program)), ANSWER);
+}
+
+#[test]
+fn from_rust() {
+    let cargo = std::env::var_os("CARGO").unwrap_or_else(|| "cargo".into());
+    let mut run = Command::new(cargo);
+    run.args(["run", "--quiet", "--example", "limit"])
+        .current_dir(env!("CARGO_MANIFEST_DIR"));
+    assert_eq!(said(&mut run), ANSWER);
+}

@@ -1,0 +1,96 @@
+//! include/daggeryuzu.h declares what crate host exports: the same functions,
+//! with the same parameters in the same order.
+
+use std::collections::BTreeMap;
+use std::fs;
+use std::path::{Path, PathBuf};
+
+type Functions = BTreeMap<String, Vec<String>>;
+
+fn root() -> PathBuf {
+    Path::new(env!("CARGO_MANIFEST_DIR")).join("..")
+}
+
+/// Names and C types of `#[no_mangle] pub extern "C"` functions in crates/host/src.
+fn exported() -> Functions {
+    let mut found = Functions::new();
+    for file in fs::read_dir(root().join("crates/host/src")).unwrap() {
+        let text = fs::read_to_string(file.unwrap().path()).unwrap();
+        for rest in text.split("pub extern \"C\" fn ").skip(1) {
+            let (name, rest) = rest.split_once('(').unwrap();
+            let (params, rest) = rest.split_once(')').unwrap();
+            let answer = rest.trim_start().strip_prefix("->").unwrap_or("()");
+            let answer = answer.trim_start().split_whitespace().next().unwrap();
+            let mut types = vec![scalar(answer).to_string()];
+            for param in params.split(',').map(str::trim).filter(|p| !p.is_empty()) {
+                let (_, ty) = param.split_once(':').unwrap();
+                types.extend(c_types(ty.trim()));
+            }
+            found.insert(name.to_string(), types);
+        }
+    }
+    found
+}
+
+fn scalar(ty: &str) -> &str {
+    match ty {
+        "u8" => "uint8_t",
+        "u32" => "uint32_t",
+        "u64" => "uint64_t",
+        "usize" => "size_t",
+        "f64" => "double",
+        other => panic!("no C type for {other}"),
+    }
+}
+
+/// A slice crosses as a pointer and a length.
+fn c_types(ty: &str) -> Vec<String> {
+    let slice = |rest: &str, constant: &str| {
+        let element = rest.trim_end_matches(']');
+        vec![format!("{constant}{} *", scalar(element)), "size_t".into()]
+    };
+    if let Some(rest) = ty.strip_prefix("&mut [") {
+        slice(rest, "")
+    } else if let Some(rest) = ty.strip_prefix("&[") {
+        slice(rest, "const ")
+    } else {
+        vec![scalar(ty).into()]
+    }
+}
+
+/// Names and types of the header's declarations.
+fn declared() -> Functions {
+    let text = fs::read_to_string(root().join("include/daggeryuzu.h")).unwrap();
+    let mut found = Functions::new();
+    for declaration in text.split(';') {
+        let Some(at) = declaration.find("daggeryuzu_") else {
+            continue;
+        };
+        let Some((head, params)) = declaration[at..].split_once('(') else {
+            continue;
+        };
+        let Some(answer) = declaration[..at].split_whitespace().last() else {
+            continue;
+        };
+        let mut types = vec![answer.to_string()];
+        for param in params.trim_end_matches(')').split(',') {
+            let words: Vec<&str> = param.split_whitespace().collect();
+            let (name, ty) = words.split_last().unwrap();
+            let star = if name.starts_with('*') { " *" } else { "" };
+            types.push(format!("{}{star}", ty.join(" ")));
+        }
+        found.insert(head.to_string(), types);
+    }
+    found
+}
+
+#[test]
+fn the_header_declares_what_is_exported() {
+    let exported = exported();
+    assert!(
+        exported.len() >= 9,
+        "only {} functions found",
+        exported.len()
+    );
+    assert_eq!(declared(), exported);
+}
