@@ -1,0 +1,101 @@
+//! The two limiters behind one face: each takes a run of blocks, with all that
+//! it needs laid out before the clock starts, and tells how long it took.
+
+use crate::clock::timed;
+use crate::context::ProcessContext;
+use crate::mastering::limiter as rust;
+use crate::processor::{Kernel, KernelProcessor, ProcessSpec};
+use crate::traits::Processor;
+
+/// What both are set up with.
+#[derive(Clone, Copy, Debug)]
+pub struct Setup {
+    /// Lookahead in ms.
+    pub lookahead_ms: f64,
+    /// Channels.
+    pub channels: usize,
+    /// Frames in a block.
+    pub block: usize,
+}
+
+/// The proved limiter, through its safe wrapper.
+pub struct Ours {
+    limiter: daggeryuzu::Limiter,
+    position: u64,
+}
+
+impl Ours {
+    pub fn new(setup: &Setup) -> Result<Self, String> {
+        let settings = daggeryuzu::LimiterSettings::default().lookahead_ms(setup.lookahead_ms);
+        let spec = daggeryuzu::ProcessSpec {
+            sample_rate: 48_000,
+            channels: setup.channels,
+            max_block: setup.block,
+            max_memory: None,
+        };
+        let limiter = daggeryuzu::Limiter::prepare(settings, spec);
+        Ok(Self {
+            limiter: limiter.map_err(|e| format!("ours: {e}"))?,
+            position: 0,
+        })
+    }
+
+    /// Limits the blocks in place: ns that it took.
+    pub fn run(&mut self, blocks: &mut [Vec<f64>], channels: usize) -> Result<f64, String> {
+        let mut done = Ok(());
+        let time = timed(|| {
+            for block in blocks.iter_mut() {
+                done = done.and(self.limiter.process(self.position, block, &[]));
+                self.position += (block.len() / channels) as u64;
+            }
+        });
+        done.map(|()| time).map_err(|e| format!("ours: {e}"))
+    }
+}
+
+/// The Rust.
+pub struct Theirs {
+    limiter: KernelProcessor<rust::Limiter, f64>,
+    position: u64,
+}
+
+impl Theirs {
+    pub fn new(setup: &Setup) -> Result<Self, String> {
+        let settings = rust::LimiterSettings::new().lookahead_ms(setup.lookahead_ms);
+        let limiter = rust::Limiter::with_settings(settings);
+        let mut limiter = <rust::Limiter as Kernel<f64>>::into_processor(limiter);
+        let spec = ProcessSpec {
+            sample_rate: 48_000,
+            channels: setup.channels,
+            max_block: setup.block,
+            max_memory: None,
+        };
+        limiter
+            .prepare(spec)
+            .map_err(|e| format!("the Rust: {e}"))?;
+        Ok(Self {
+            limiter,
+            position: 0,
+        })
+    }
+
+    /// Limits the blocks in place: ns that it took. The tables of channels are
+    /// laid out before.
+    pub fn run(&mut self, blocks: &mut [Vec<f64>], channels: usize) -> f64 {
+        let mut tables: Vec<Vec<&mut [f64]>> = blocks
+            .iter_mut()
+            .map(|block| {
+                let frames = block.len() / channels;
+                block.chunks_mut(frames).collect()
+            })
+            .collect();
+        timed(|| {
+            for table in &mut tables {
+                let frames = table[0].len() as u64;
+                let mut context = ProcessContext::in_place(table, self.position);
+                self.limiter.process(&mut context);
+                self.position += frames;
+            }
+        })
+    }
+}

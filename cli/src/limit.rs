@@ -1,0 +1,120 @@
+//! The work itself: a stream through the limiter, block by block, with the
+//! latency cut off its start and the tail drained at its end.
+
+use std::collections::VecDeque;
+use std::time::{Duration, Instant};
+
+use daggeryuzu::{Limiter, Refusal};
+
+use crate::failure::Failure;
+use crate::gains::Gains;
+use crate::meter::{Measured, Meter};
+use crate::planar;
+use crate::sndfile::{Encoding, Reader};
+
+/// What the work came to.
+#[derive(Clone, Debug)]
+pub struct Outcome {
+    /// What went in.
+    pub input: Measured,
+    /// What came out, as the file holds it.
+    pub output: Measured,
+    /// The gains in between.
+    pub gains: Gains,
+    /// How long it took.
+    pub elapsed: Duration,
+}
+
+/// Limits all that the reader gives. `sink` gets the output block by block,
+/// interleaved and rounded, and `tick` the frames read so far.
+///
+/// # Errors
+/// What the reader, the limiter, the sink or `tick` has to say.
+pub fn limit(
+    reader: &mut Reader,
+    limiter: &mut Limiter,
+    block: usize,
+    mut sink: impl FnMut(&[f64]) -> Result<(), Failure>,
+    mut tick: impl FnMut(u64) -> Result<(), Failure>,
+) -> Result<Outcome, Failure> {
+    let started = Instant::now();
+    let channels = reader.format().channels;
+    let mut input = Meter::new(channels);
+    let mut out = Out::new(channels, limiter.latency(), reader.format().encoding);
+    let mut samples = vec![0.0; channels * block];
+    let mut planes = Vec::with_capacity(channels * block);
+    let mut position = 0;
+    loop {
+        tick(position)?;
+        let frames = reader.read(&mut samples)?;
+        if frames == 0 {
+            break;
+        }
+        let read = &samples[..channels * frames];
+        input.take(read);
+        out.held.extend(read);
+        planar::split(read, channels, &mut planes);
+        limiter
+            .process(position, &mut planes, &[])
+            .map_err(refused)?;
+        position += frames as u64;
+        sink(out.take(&planes, frames))?;
+    }
+    planes.resize(channels * limiter.latency(), 0.0);
+    let tail = limiter.flush(&mut planes).map_err(refused)?;
+    sink(out.take(&planes, tail.frames))?;
+    Ok(Outcome {
+        input: input.finish(),
+        output: out.meter.finish(),
+        gains: out.gains,
+        elapsed: started.elapsed(),
+    })
+}
+
+/// The limiter's refusal as the line that ends the program.
+pub fn refused(refusal: Refusal) -> Failure {
+    Failure::new(format!("refused: {refusal}"))
+}
+
+/// What is done with the limiter's output.
+struct Out {
+    channels: usize,
+    /// Frames of latency still to be cut off.
+    late: usize,
+    encoding: Encoding,
+    /// Inputs whose outputs are still to come, interleaved.
+    held: VecDeque<f64>,
+    meter: Meter,
+    gains: Gains,
+    ready: Vec<f64>,
+}
+
+impl Out {
+    fn new(channels: usize, late: usize, encoding: Encoding) -> Self {
+        Self {
+            channels,
+            late,
+            encoding,
+            held: VecDeque::new(),
+            meter: Meter::new(channels),
+            gains: Gains::default(),
+            ready: Vec::new(),
+        }
+    }
+
+    /// The block's output without the latency, interleaved and rounded.
+    fn take(&mut self, planes: &[f64], frames: usize) -> &[f64] {
+        let cut = self.late.min(frames);
+        self.late -= cut;
+        planar::join(planes, self.channels, cut..frames, &mut self.ready);
+        for frame in self.ready.chunks_exact(self.channels) {
+            let inputs = self.held.drain(..self.channels);
+            self.gains.take(inputs.zip(frame.iter().copied()));
+        }
+        for x in &mut self.ready {
+            *x = self.encoding.round(*x);
+        }
+        self.meter.take(&self.ready);
+        &self.ready
+    }
+}

@@ -1,0 +1,122 @@
+//! The report as JSON.
+
+use std::fmt::Write as _;
+use std::path::Path;
+
+use super::Report;
+use crate::words::{clock, db};
+
+/// One object, one member to a line.
+#[must_use]
+pub fn json(report: &Report) -> String {
+    let (format, outcome) = (&report.format, &report.outcome);
+    let settings = &report.settings;
+    let peaks = |m: &crate::meter::Measured| {
+        object(&[
+            ("sample_peak_dbfs", number(db(m.peaks.sample))),
+            ("detector_peak_dbfs", number(db(m.peaks.detector))),
+        ])
+    };
+    let least = outcome.gains.least().map_or("null".into(), |least| {
+        object(&[
+            ("gain", number(Some(least.gain))),
+            ("gain_db", number(db(least.gain))),
+            ("frame", least.frame.to_string()),
+            ("time", quoted(&clock(least.frame, format.rate))),
+        ])
+    });
+    let members = [
+        (
+            "program",
+            quoted(concat!("daggeryuzu ", env!("CARGO_PKG_VERSION"))),
+        ),
+        ("input", path(&report.input)),
+        (
+            "output",
+            report.output.as_deref().map_or("null".into(), path),
+        ),
+        ("container", quoted(format.container())),
+        ("encoding", quoted(&format.encoding.name())),
+        ("rate", format.rate.to_string()),
+        ("channels", format.channels.to_string()),
+        ("frames", report.frames().to_string()),
+        ("seconds", number(Some(report.seconds()))),
+        ("threshold_db", number(Some(settings.threshold_db))),
+        ("margin_db", number(Some(settings.true_peak_margin_db))),
+        ("lookahead_ms", number(Some(settings.lookahead_ms))),
+        ("release_ms", number(Some(settings.release_ms))),
+        ("look_frames", report.look.to_string()),
+        ("target_dbfs", number(Some(report.target_db()))),
+        ("in", peaks(&outcome.input)),
+        ("out", peaks(&outcome.output)),
+        ("least_gain", least),
+        (
+            "frames_below_unity",
+            outcome.gains.below_unity().to_string(),
+        ),
+        (
+            "frames_below_tenth_db",
+            outcome.gains.below_tenth().to_string(),
+        ),
+        ("samples_not_finite", outcome.input.not_finite.to_string()),
+        (
+            "elapsed_seconds",
+            number(Some(outcome.elapsed.as_secs_f64())),
+        ),
+        ("real_time_factor", number(Some(report.speed()))),
+    ];
+    let lines: Vec<String> = members
+        .iter()
+        .map(|(name, value)| format!("  {}: {value}", quoted(name)))
+        .collect();
+    format!("{{\n{}\n}}\n", lines.join(",\n"))
+}
+
+fn object(members: &[(&str, String)]) -> String {
+    let members: Vec<String> = members
+        .iter()
+        .map(|(name, value)| format!("{}: {value}", quoted(name)))
+        .collect();
+    format!("{{ {} }}", members.join(", "))
+}
+
+/// JSON has no infinity: what is none or not finite is null.
+fn number(x: Option<f64>) -> String {
+    match x.filter(|x| x.is_finite()) {
+        Some(x) => format!("{x}"),
+        None => "null".into(),
+    }
+}
+
+fn path(path: &Path) -> String {
+    quoted(&path.to_string_lossy())
+}
+
+fn quoted(text: &str) -> String {
+    let mut quoted = String::from("\"");
+    for c in text.chars() {
+        match c {
+            '"' | '\\' => quoted.extend(['\\', c]),
+            c if c.is_control() => {
+                let _ = write!(quoted, "\\u{:04x}", u32::from(c));
+            }
+            c => quoted.push(c),
+        }
+    }
+    quoted.push('"');
+    quoted
+}
+
+#[cfg(test)]
+mod tests {
+    use super::*;
+
+    #[test]
+    fn text_and_numbers_are_json() {
+        assert_eq!(quoted("a\"b\\c\nd é"), "\"a\\\"b\\\\c\\u000ad é\"");
+        assert_eq!(number(Some(f64::INFINITY)), "null");
+        assert_eq!(number(None), "null");
+        assert_eq!(number(Some(-1.1)), "-1.1");
+        assert_eq!(number(Some(48.0)), "48");
+    }
+}

@@ -1,0 +1,138 @@
+//! From a job to its files.
+
+use std::path::{Path, PathBuf};
+
+use daggeryuzu::{Limiter, ProcessSpec};
+
+use crate::args::Job;
+use crate::failure::Failure;
+use crate::interrupt;
+use crate::limit::{limit, refused};
+use crate::place::{same, Pending};
+use crate::progress::Progress;
+use crate::report::{json, svg, Report};
+use crate::sndfile::{Reader, Writer};
+
+/// Does a job. Each of its files appears whole at the end, the sound first, or
+/// not at all.
+///
+/// # Errors
+/// The line that says why not.
+pub fn run(job: &Job) -> Result<Report, Failure> {
+    apart(job)?;
+    let mut reader = Reader::open(&job.input)?;
+    let format = reader.format();
+    let spec = ProcessSpec {
+        sample_rate: format.rate,
+        channels: format.channels,
+        max_block: job.block,
+        max_memory: None,
+    };
+    let mut limiter =
+        Limiter::prepare(job.settings, spec).map_err(|e| Failure::at(&job.input, refused(e)))?;
+    let look = limiter.latency();
+    let mut sound = job.output.as_deref().map(|p| Sound::start(p, &reader));
+    let mut sound = sound.take().transpose()?;
+    let mut numbers = job.report.as_deref().map(Pending::start).transpose()?;
+    let mut picture = job.plot.as_deref().map(Pending::start).transpose()?;
+    let mut progress = Progress::new(reader.frames(), format.rate);
+    let outcome = limit(
+        &mut reader,
+        &mut limiter,
+        job.block,
+        |samples| sound.as_mut().map_or(Ok(()), |s| s.write(samples)),
+        |frame| {
+            progress.show(frame);
+            interrupt::check()
+        },
+    )?;
+    drop(progress);
+    let report = Report {
+        input: job.input.clone(),
+        output: job.output.clone(),
+        format,
+        settings: job.settings,
+        look,
+        outcome,
+    };
+    let mut files = Vec::new();
+    if let Some(sound) = sound.take() {
+        files.push(sound.finish(report.frames())?);
+    }
+    if let Some(mut file) = numbers.take() {
+        file.write(&json(&report))?;
+        files.push(file);
+    }
+    if let Some(mut file) = picture.take() {
+        file.write(&svg(&report))?;
+        files.push(file);
+    }
+    for file in &files {
+        file.sync()?;
+    }
+    interrupt::check()?;
+    files.into_iter().try_for_each(Pending::publish)?;
+    Ok(report)
+}
+
+/// Refuses a file that is to be two things at once.
+fn apart(job: &Job) -> Result<(), Failure> {
+    let files: Vec<(&str, &Path)> = [
+        ("input", Some(&job.input)),
+        ("output", job.output.as_ref()),
+        ("report", job.report.as_ref()),
+        ("plot", job.plot.as_ref()),
+    ]
+    .into_iter()
+    .filter_map(|(name, path)| Some((name, path?.as_path())))
+    .collect();
+    for (i, (name, path)) in files.iter().enumerate() {
+        if let Some((other, _)) = files[..i].iter().find(|(_, p)| same(p, path)) {
+            return Err(Failure::at(
+                path,
+                format!("{other} and {name} are the same file"),
+            ));
+        }
+    }
+    Ok(())
+}
+
+/// The sound file on its way.
+struct Sound {
+    place: PathBuf,
+    pending: Pending,
+    writer: Writer,
+}
+
+impl Sound {
+    fn start(place: &Path, reader: &Reader) -> Result<Self, Failure> {
+        let pending = Pending::start(place)?;
+        let mut writer =
+            Writer::start(pending.file()?, reader.format()).map_err(|e| unwritten(place, &e))?;
+        writer.extras_of(reader);
+        Ok(Self {
+            place: place.into(),
+            pending,
+            writer,
+        })
+    }
+
+    fn write(&mut self, samples: &[f64]) -> Result<(), Failure> {
+        let written = self.writer.write(samples);
+        written.map_err(|e| unwritten(&self.place, &e))
+    }
+
+    /// Closes it and looks whether its header promises what was written.
+    fn finish(self, frames: u64) -> Result<Pending, Failure> {
+        let closed = self.writer.close();
+        closed.map_err(|e| unwritten(&self.place, &e))?;
+        match Reader::open(self.pending.unfinished()) {
+            Ok(back) if back.frames() == Some(frames) => Ok(self.pending),
+            _ => Err(unwritten(&self.place, "it does not read back whole")),
+        }
+    }
+}
+
+fn unwritten(place: &Path, line: &str) -> Failure {
+    Failure::at(place, format!("cannot be written: {line}"))
+}
