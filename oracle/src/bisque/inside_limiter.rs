@@ -102,11 +102,6 @@ pub(crate) fn weights(limiter: &Limiter) -> &[f64] {
     &limiter.hann
 }
 
-/// The release coefficient that the Rust derived.
-pub(crate) fn release_coeff(limiter: &Limiter) -> f64 {
-    limiter.release_coeff
-}
-
 /// One call of the Rust's own `step_env`.
 pub(crate) fn step(limiter: &mut Limiter, required: f64) -> Stepped {
     let (frame, before, old_gain) = (limiter.frame, limiter.wedge_len, limiter.env);
