@@ -28,6 +28,7 @@ use Rattle.bank.specs.declared.smoother_bank.SmootherBank.{SmootherBank}
 use Rattle.bank.proofs.Prepared.{faultless}
 use Rattle.bank.proofs.Ramp.{range-of, stepped-is, true→T}
 use Rattle.driver.specs.Machine.{Machine, thresholdOf, declares, prepared, targetInRange, inOrder, fits, readyRefusal, resetRefusal}
+use Rattle.driver.proofs.Judged.{prepared-is}
 use Rattle.claims.proofs.Turned.{Kernel}
 
 -- ---- the threshold's smoother: what 18 and 19 ask of it
@@ -121,25 +122,16 @@ first-slot t b e = ap (slotAt 0) e
 
 module _ (l : Limiter) (b : SmootherBank) where
   pub set-up-of : prepared l b ≡ true → SetUp (thresholdOf b) l b
-  unfolding prepared
   set-up-of h =
       let t = thresholdOf b in
-      let d = declares (l .settings) t in
-      let r = eqb (b .rate) (l .rate) in
-      let c = eqb (b .count) 1 in
-      let k = and-true (Order.prepared l) (Bank.prepared b && (c && (r && d))) h in
-      let p = and-true (Bank.prepared b) (c && (r && d)) (k .1) in
-      let q = and-true c (r && d) (p .1) in
-      let s = and-true r d (q .1) in
-      let count : b .count ≡ 1 = eqb-true (b .count) 1 (q .0) in
-      let rate : b .rate ≡ l .rate = eqb-true (b .rate) (l .rate) (s .0) in
-      let slots = has-slot (l .settings) (b .smoothers) (s .1) in
-      let o = and-true (b .ready) (slotPrepared (b .rate) 0 t && true) (sym (one-prepared t b slots count) ∙ p .0) in
+      let p = prepared-is l b h in
+      let slots = has-slot (l .settings) (b .smoothers) (p .declared) in
+      let o = and-true (b .ready) (slotPrepared (b .rate) 0 t && true) (sym (one-prepared t b slots (p .one)) ∙ p .bank) in
       record {
-        kernel = k .0;
-        one = record { slots = slots; count = count; ready = o .0 };
-        rate = rate;
-        declared = record { slot = subst (λ (n : ℕ). slotPrepared n 0 t ≡ true) rate (and-true (slotPrepared (b .rate) 0 t) true (o .1) .0); is = s .1 };
+        kernel = p .kernel;
+        one = record { slots = slots; count = p .one; ready = o .0 };
+        rate = p .rate;
+        declared = record { slot = subst (λ (n : ℕ). slotPrepared n 0 t ≡ true) (p .rate) (and-true (slotPrepared (b .rate) 0 t) true (o .1) .0); is = p .declared };
       }
 
   pub set-up-is : (t : Smoother) → SetUp t l b → prepared l b ≡ true

@@ -5,7 +5,7 @@ use Prim.Native.Nat.{ℕ, zero, suc, _+_, _-_, _*_, _%_, _≤_, _<_, min}
 use native.Mathlib.Nat.{zero-mul, one-mul, add-mul}
 use native.Mathlib.Omega.{arith}
 use lib.Dec.{leb}
-use lib.ListN.{take, drop}
+use lib.ListN.{drop}
 use lib.Seq.{getD-drop, drop-drop}
 use lib.Ieee.{Float, nan}
 use Rattle.settings.specs.Target.{targetOf}
@@ -20,6 +20,7 @@ use Rattle.driver.specs.Machine.{Machine, machineOf, targetNow}
 use Rattle.driver.specs.Planar.{frameAt, framesAt}
 use Rattle.driver.specs.Events.{Event, eventsReply, latched}
 use Rattle.driver.specs.Block.{Rendered, rendered, runAt, runsFrom, runsOf, bankAt, Ran, runsThrough}
+use Rattle.driver.proofs.Planes.{frames-take, frames-drop}
 use Rattle.claims.specs.Book.{Book}
 use Rattle.claims.specs.BookCalls.{toldWhere, thresholdAt, samplesFrom, Joining, joiningFrom}
 use Rattle.claims.proofs.Each.{renderEach, allAt, each-append, rendered-each, rendered-settings}
@@ -43,19 +44,6 @@ frame-samples width i c (suc k) audio =
 
 pub frame-is : (width channels i : ℕ) (audio : List Float) → frameAt width channels i audio ≡ samplesFrom width i 0 channels audio
 frame-is width channels i audio = rw (zero-mul width) at (frame-samples width i 0 channels audio)
-
-module _ (width channels : ℕ) (audio : List Float) where
-  pub frames-take : (n left i : ℕ) → n ≤ left → take n (framesAt width channels i left audio) ≡ framesAt width channels i n audio
-  unfolding framesAt
-  frames-take zero left i h = refl
-  frames-take (suc n) zero i h = absurd (omega arith)
-  frames-take (suc n) (suc left) i h = ap (λ (fs : List (List Float)). frameAt width channels i audio ∷ fs) (frames-take n left (i + 1) (omega arith))
-
-  pub frames-drop : (n left i : ℕ) → n ≤ left → drop n (framesAt width channels i left audio) ≡ framesAt width channels (i + n) (left - n) audio
-  unfolding framesAt
-  frames-drop zero left i h = stays (λ (k r : ℕ). framesAt width channels k r audio) i left
-  frames-drop (suc n) zero i h = absurd (omega arith)
-  frames-drop (suc n) (suc left) i h = frames-drop n left (i + 1) (omega arith) ∙ onward (λ (k r : ℕ). framesAt width channels k r audio) i left n
 
 -- ---- the book's frames of a run
 module _ (b : Book) (position frames : ℕ) (events : List Event) (audio : List Float) where
@@ -153,8 +141,8 @@ module _ (rules : Rules) (b : Book) (position frames : ℕ) (events : List Event
       let thenAt : Rendered → Ran = λ (v : Rendered). andRun v (runsThrough (rendered rules) (q + suc n) (o + suc n) ns (waitingAfter o w) ys (machineOf (v .limiter) z (v .stores))) in
       let la = latched o w (bankWith bank others s) in
       ap (λ (fs : List (List Float)). ranThen (q + suc n) (o + suc n) ns l st (la .waiting) fs (drop (suc n) (framesAt frames (b .channels) o (suc left) audio)) (bankAt q (la .bank)))
-      (frames-take frames (b .channels) audio (suc n) (suc left) o (omega arith))
-      ∙ ap (λ (fs : List (List Float)). ranThen (q + suc n) (o + suc n) ns l st (la .waiting) xs fs (bankAt q (la .bank))) (frames-drop frames (b .channels) audio (suc n) (suc left) o (omega arith))
+      (frames-take frames (b .channels) o (suc n) (suc left) audio (omega arith))
+      ∙ ap (λ (fs : List (List Float)). ranThen (q + suc n) (o + suc n) ns l st (la .waiting) xs fs (bankAt q (la .bank))) (frames-drop frames (b .channels) o (suc n) (suc left) audio (omega arith))
       ∙ ap (λ (v : List Event). ranThen (q + suc n) (o + suc n) ns l st v xs ys (bankAt q (la .bank))) (opened .1)
       ∙ ap (λ (v : SmootherBank). ranThen (q + suc n) (o + suc n) ns l st (waitingAfter o w) xs ys v) (ap (λ (p : ℕ). bankAt p (la .bank)) at ∙ opened .0)
       ∙ ap (λ (m : LimiterSettings). thenAt (rendered rules l st (targetOf (t .cur) (m .«true_peak_margin_db»)) xs)) settings
