@@ -1,0 +1,41 @@
+-- The sample type of a call: how many bytes a sample has, what it is worth, and what bytes an output becomes.
+use Prim.Native.Nat.{ℕ, _/_, _%_}
+use mathlib.Core.Bool.{cond}
+use mathlib.Core.List.{List, [], map}
+use lib.Dec.{eqb}
+use lib.ListN.{length}
+use lib.Ieee.{Float, binary64, toBits}
+use Rattle.arithmetic.specs.Number.{bits, largest}
+use Rattle.audio.specs.Bytes.{wordOf, bytesOf, cut, joined}
+use Rattle.audio.specs.Planar.{written}
+use Rattle.audio.specs.declared.format.Format.{Format}
+use Rattle.audio.specs.declared.format.Format.the-variants.{F64}
+
+-- "a sample being 8 bytes, low byte first"
+abbrev pub sampleBytes : Format → ℕ
+sampleBytes F64 = 8
+
+-- the value of a sample's bytes
+unfoldable pub sampleOf : Format → List ℕ → Float
+sampleOf F64 place = bits (wordOf place)
+
+-- the bytes of an output
+unfoldable pub bytesFor : Format → Float → List ℕ
+bytesFor F64 x = bytesOf 8 (toBits binary64 x)
+
+-- ---- a call's audio
+-- the audio length that 20 judges, in samples; bytes that are no whole number of samples have a length that no call asks for
+unfoldable pub sizeOf : Format → List ℕ → ℕ
+sizeOf format bytes = cond (eqb (length bytes % sampleBytes format) 0) (length bytes / sampleBytes format) largest
+
+-- the bytes of each sample
+unfoldable pub placesOf : Format → List ℕ → List (List ℕ)
+placesOf format bytes = cut (sampleBytes format) (length bytes / sampleBytes format) bytes
+
+abbrev pub samplesOf : Format → List ℕ → List Float
+samplesOf format bytes = map (sampleOf format) (placesOf format bytes)
+
+-- the bytes with the outputs of the first n frames in their samples' places, and every other byte as it was
+unfoldable pub writtenBytes : Format → ℕ → ℕ → ℕ → List ℕ → List (List Float) → List ℕ
+writtenBytes format width channels n bytes outputs =
+    joined (written [] width channels n (placesOf format bytes) (map (map (bytesFor format)) outputs))
