@@ -1,7 +1,7 @@
 // The runs of a block (driver.rs: `drive`).
 ghost use mathlib.Core.Path.{_≡_};
 ghost use Rattle.frame.specs.Rules.{presentRules};
-ghost use Rattle.limiter.specs.Stores.{storesAt};
+ghost use Rattle.limiter.specs.Stores.{atEntry, atExit, atCall};
 ghost use Rattle.driver.specs.Machine.{machineAt};
 ghost use Rattle.driver.specs.Events.{eventsOf};
 ghost use Rattle.driver.specs.Block.{rendered, blockDone};
@@ -29,9 +29,11 @@ impl KernelProcessor {
         row: &mut [f64],
         detector: &mut [f64],
     ) -> KernelProcessor
-        requires { ⌜ BlockAsked (machineAt self (storesAt (now delay) (now marks) (now minima) (now weights) (now row) (now detector))) position frames (now audio) (now run) ⌝ }
-        ensures { λ r. ⌜ machineAt r (storesAt (now (delay .exit)) (now (marks .exit)) (now (minima .exit)) (now (weights .entry)) (now (row .exit)) (now (detector .exit))) ≡ blockDone (rendered presentRules) (machineAt self (storesAt (now (delay .entry)) (now (marks .entry)) (now (minima .entry)) (now (weights .entry)) (now (row .entry)) (now (detector .entry)))) position frames (eventsOf (now (events .entry))) (now (audio .entry)) .machine ⌝ }
-        ensures { λ _. ⌜ now (audio .exit) ≡ blockDone (rendered presentRules) (machineAt self (storesAt (now (delay .entry)) (now (marks .entry)) (now (minima .entry)) (now (weights .entry)) (now (row .entry)) (now (detector .entry)))) position frames (eventsOf (now (events .entry))) (now (audio .entry)) .audio ⌝ }
+        requires { ⌜ BlockAsked (machineAt self (atCall delay marks minima weights row detector)) position frames (now audio) (now run) ⌝ }
+        ensures { λ r. ⌜ machineAt r (atExit delay marks minima weights row detector)
+            ≡ blockDone (rendered presentRules) (machineAt self (atEntry delay marks minima weights row detector)) position frames (eventsOf (now (events .entry))) (now (audio .entry)) .machine ⌝ }
+        ensures { λ _. ⌜ now (audio .exit)
+            ≡ blockDone (rendered presentRules) (machineAt self (atEntry delay marks minima weights row detector)) position frames (eventsOf (now (events .entry))) (now (audio .entry)) .audio ⌝ }
     {
         let mut limiter = self.limiter;
         let mut bank = self.bank;

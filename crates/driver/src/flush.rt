@@ -6,7 +6,7 @@ ghost use Rattle.detector.specs.Run.{runLength};
 ghost use Rattle.frame.specs.Rules.{presentRules};
 ghost use Rattle.limiter.specs.Order.{prepared};
 ghost use Rattle.limiter.specs.Prepare.{numbered};
-ghost use Rattle.limiter.specs.Stores.{Stores, storesAt};
+ghost use Rattle.limiter.specs.Stores.{Stores, atEntry, atExit, atCall};
 ghost use Rattle.driver.specs.Machine.{machineAt};
 ghost use Rattle.driver.specs.Planar.{written};
 ghost use Rattle.driver.specs.Block.{outputsOf};
@@ -63,10 +63,13 @@ fn drain_frames(
     row: &mut [f64],
     detector: &mut [f64],
 ) -> Limiter
-    requires { ⌜ DrainAsked limiter n width (storesAt (now delay) (now marks) (now minima) (now weights) (now row) (now detector)) (now audio) (now run) ⌝ }
-    ensures { λ r. ⌜ r ≡ withDrained (silent limiter (storesAt (now (delay .entry)) (now (marks .entry)) (now (minima .entry)) (now (weights .entry)) (now (row .entry)) (now (detector .entry))) n .limiter) (limiter .drained + n) ⌝ }
-    ensures { λ _. ⌜ storesAt (now (delay .exit)) (now (marks .exit)) (now (minima .exit)) (now (weights .entry)) (now (row .exit)) (now (detector .exit)) ≡ silent limiter (storesAt (now (delay .entry)) (now (marks .entry)) (now (minima .entry)) (now (weights .entry)) (now (row .entry)) (now (detector .entry))) n .stores ⌝ }
-    ensures { λ _. ⌜ now (audio .exit) ≡ written width (limiter .channels) n (now (audio .entry)) (outputsOf (silent limiter (storesAt (now (delay .entry)) (now (marks .entry)) (now (minima .entry)) (now (weights .entry)) (now (row .entry)) (now (detector .entry))) n .frames)) ⌝ }
+    requires { ⌜ DrainAsked limiter n width (atCall delay marks minima weights row detector) (now audio) (now run) ⌝ }
+    ensures { λ r. ⌜ r
+        ≡ withDrained (silent limiter (atEntry delay marks minima weights row detector) n .limiter) (limiter .drained + n) ⌝ }
+    ensures { λ _. ⌜ atExit delay marks minima weights row detector
+        ≡ silent limiter (atEntry delay marks minima weights row detector) n .stores ⌝ }
+    ensures { λ _. ⌜ now (audio .exit)
+        ≡ written width (limiter .channels) n (now (audio .entry)) (outputsOf (silent limiter (atEntry delay marks minima weights row detector) n .frames)) ⌝ }
 {
     let channels = limiter.channels;
     let mut l = limiter;
@@ -112,7 +115,8 @@ impl KernelProcessor {
         row: &[f64],
         detector: &[f64],
     ) -> u32
-        ensures { λ r. ⌜ numbered r ≡ drainReply (machineAt self (storesAt (now (delay .entry)) (now (marks .entry)) (now (minima .entry)) (now (weights .entry)) (now (row .entry)) (now (detector .entry)))) frames size ⌝ }
+        ensures { λ r. ⌜ numbered r
+            ≡ drainReply (machineAt self (atEntry delay marks minima weights row detector)) frames size ⌝ }
     {
         let number = self.refusal(delay, marks, minima, weights, row, detector);
         if number != 0 {
@@ -134,7 +138,8 @@ impl KernelProcessor {
         row: &mut [f64],
         detector: &mut [f64],
     ) -> Flushed
-        ensures { λ r. ⌜ flushedAt r (storesAt (now (delay .exit)) (now (marks .exit)) (now (minima .exit)) (now (weights .entry)) (now (row .exit)) (now (detector .exit))) (now (audio .exit)) ≡ seen (drainOf presentRules (machineAt self (storesAt (now (delay .entry)) (now (marks .entry)) (now (minima .entry)) (now (weights .entry)) (now (row .entry)) (now (detector .entry)))) frames (now (audio .entry))) ⌝ }
+        ensures { λ r. ⌜ flushedAt r (atExit delay marks minima weights row detector) (now (audio .exit))
+            ≡ seen (drainOf presentRules (machineAt self (atEntry delay marks minima weights row detector)) frames (now (audio .entry))) ⌝ }
     {
         let size = audio.len();
         let number = self.drain_refusal(frames, size, delay, marks, minima, weights, row, detector);

@@ -4,7 +4,7 @@ ghost use mathlib.Core.Bool.{true};
 ghost use lib.Dec.{eqb};
 ghost use Rattle.frame.specs.Rules.{presentRules};
 ghost use Rattle.limiter.specs.Order.{prepared};
-ghost use Rattle.limiter.specs.Stores.{Stores, storesAt};
+ghost use Rattle.limiter.specs.Stores.{Stores, atEntry, atExit};
 ghost use Rattle.driver.specs.Machine.{machineAt};
 ghost use Rattle.driver.specs.Events.{eventsOf};
 ghost use Rattle.driver.specs.Block.{callReply, blockReply, blockOf};
@@ -45,7 +45,8 @@ impl KernelProcessor {
     // 20, 21 and 22 in turn, for a limiter that is set up. No store is read.
     fn judge_call(self, position: u64, frames: usize, events: &[u64], size: usize) -> ProcessAnswer
         requires { ⌜ prepared (self .limiter) ≡ true ⌝ }
-        ensures { λ r. ⌜ ((s : Stores) → processReply r ≡ callReply (machineAt self s) position frames (eventsOf (now (events .entry))) size) ⌝ }
+        ensures { λ r. ⌜ ((s : Stores) → processReply r
+            ≡ callReply (machineAt self s) position frames (eventsOf (now (events .entry))) size) ⌝ }
     {
         let l = self.limiter;
         if frames > l.max_block {
@@ -80,7 +81,8 @@ impl KernelProcessor {
         row: &[f64],
         detector: &[f64],
     ) -> ProcessAnswer
-        ensures { λ r. ⌜ processReply r ≡ blockReply (machineAt self (storesAt (now (delay .entry)) (now (marks .entry)) (now (minima .entry)) (now (weights .entry)) (now (row .entry)) (now (detector .entry)))) position frames (eventsOf (now (events .entry))) size ⌝ }
+        ensures { λ r. ⌜ processReply r
+            ≡ blockReply (machineAt self (atEntry delay marks minima weights row detector)) position frames (eventsOf (now (events .entry))) size ⌝ }
     {
         let number = self.refusal(delay, marks, minima, weights, row, detector);
         if number != 0 {
@@ -104,7 +106,8 @@ impl KernelProcessor {
         row: &mut [f64],
         detector: &mut [f64],
     ) -> Processed
-        ensures { λ r. ⌜ processedAt r (storesAt (now (delay .exit)) (now (marks .exit)) (now (minima .exit)) (now (weights .entry)) (now (row .exit)) (now (detector .exit))) (now (audio .exit)) ≡ seen (blockOf presentRules (machineAt self (storesAt (now (delay .entry)) (now (marks .entry)) (now (minima .entry)) (now (weights .entry)) (now (row .entry)) (now (detector .entry)))) position frames (eventsOf (now (events .entry))) (now (audio .entry))) ⌝ }
+        ensures { λ r. ⌜ processedAt r (atExit delay marks minima weights row detector) (now (audio .exit))
+            ≡ seen (blockOf presentRules (machineAt self (atEntry delay marks minima weights row detector)) position frames (eventsOf (now (events .entry))) (now (audio .entry))) ⌝ }
     {
         let size = audio.len();
         let answer = self.judge_block(

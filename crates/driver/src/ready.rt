@@ -1,6 +1,6 @@
 // 18, 16 and 19 of the whole machine, in the table's order.
 ghost use mathlib.Core.Path.{_≡_};
-ghost use Rattle.limiter.specs.Stores.{storesAt};
+ghost use Rattle.limiter.specs.Stores.{atEntry};
 ghost use Rattle.bank.specs.Bank.{slotAt};
 ghost use Rattle.driver.specs.Machine.{machineAt, isLinear, declares, prepared, targetInRange, readyRefusal, resetRefusal};
 use crate::state::KernelProcessor;
@@ -75,7 +75,7 @@ impl KernelProcessor {
         row: &[f64],
         detector: &[f64],
     ) -> u32
-        ensures { λ r. ⌜ r ≡ readyRefusal (machineAt self (storesAt (now (delay .entry)) (now (marks .entry)) (now (minima .entry)) (now (weights .entry)) (now (row .entry)) (now (detector .entry)))) ⌝ }
+        ensures { λ r. ⌜ r ≡ readyRefusal (machineAt self (atEntry delay marks minima weights row detector)) ⌝ }
     {
         if !self.is_prepared() {
             return 18;
@@ -99,7 +99,7 @@ impl KernelProcessor {
         row: &[f64],
         detector: &[f64],
     ) -> u32
-        ensures { λ r. ⌜ r ≡ resetRefusal (machineAt self (storesAt (now (delay .entry)) (now (marks .entry)) (now (minima .entry)) (now (weights .entry)) (now (row .entry)) (now (detector .entry)))) ⌝ }
+        ensures { λ r. ⌜ r ≡ resetRefusal (machineAt self (atEntry delay marks minima weights row detector)) ⌝ }
     {
         if !self.is_prepared() {
             return 18;

@@ -1,6 +1,6 @@
 // Reset: the starting values again, the bank's too.
 ghost use mathlib.Core.Path.{_≡_};
-ghost use Rattle.limiter.specs.Stores.{storesAt};
+ghost use Rattle.limiter.specs.Stores.{atEntry, atExit};
 ghost use Rattle.driver.specs.Machine.{machineAt};
 ghost use Rattle.driver.specs.Calls.{resetOf};
 ghost use Rattle.driver.specs.Answers.{resetAnswerOf, wasResetAt};
@@ -31,7 +31,8 @@ impl KernelProcessor {
         row: &mut [f64],
         detector: &mut [f64],
     ) -> WasReset
-        ensures { λ r. ⌜ wasResetAt r (storesAt (now (delay .exit)) (now (marks .entry)) (now (minima .entry)) (now (weights .entry)) (now (row .exit)) (now (detector .exit))) ≡ resetOf (machineAt self (storesAt (now (delay .entry)) (now (marks .entry)) (now (minima .entry)) (now (weights .entry)) (now (row .entry)) (now (detector .entry)))) ⌝ }
+        ensures { λ r. ⌜ wasResetAt r (atExit delay marks minima weights row detector)
+            ≡ resetOf (machineAt self (atEntry delay marks minima weights row detector)) ⌝ }
     {
         let number = self.reset_refusal(delay, marks, minima, weights, row, detector);
         if number != 0 {

@@ -2,7 +2,7 @@
 ghost use mathlib.Core.Path.{_≡_};
 ghost use Prim.Native.Nat.{_-_, _/_, _≤_};
 ghost use lib.ListN.{length};
-ghost use Rattle.limiter.specs.Stores.{storesAt};
+ghost use Rattle.limiter.specs.Stores.{atEntry, atExit, atCall};
 ghost use Rattle.driver.specs.Events.{eventsFrom};
 ghost use Rattle.settings.specs.Target.{targetOf};
 ghost use Rattle.driver.specs.Machine.{thresholdOf};
@@ -41,7 +41,8 @@ pub fn before_run(
 ) -> LatchedTo
     requires { ⌜ cursor ≤ length (now events) / 3 ⌝ }
     ensures { λ r. ⌜ r .cursor ≤ length (now (events .entry)) / 3 ⌝ }
-    ensures { λ r. ⌜ latchedAt r (now (events .entry)) ≡ beforeRun position first (eventsFrom (now (events .entry)) cursor (length (now (events .entry)) / 3 - cursor)) bank ⌝ }
+    ensures { λ r. ⌜ latchedAt r (now (events .entry))
+        ≡ beforeRun position first (eventsFrom (now (events .entry)) cursor (length (now (events .entry)) / 3 - cursor)) bank ⌝ }
 {
     let l = latch(bank, events, cursor, first);
     let b = l.bank;
@@ -81,8 +82,8 @@ pub fn render_frames(
     row: &mut [f64],
     detector: &mut [f64],
 ) -> Limiter
-    requires { ⌜ RunAsked limiter target width first n (storesAt (now delay) (now marks) (now minima) (now weights) (now row) (now detector)) (now audio) (now run) ⌝ }
-    ensures { λ r. ⌜ RunGiven limiter target width first n (storesAt (now (delay .entry)) (now (marks .entry)) (now (minima .entry)) (now (weights .entry)) (now (row .entry)) (now (detector .entry))) (now (audio .entry)) r (storesAt (now (delay .exit)) (now (marks .exit)) (now (minima .exit)) (now (weights .entry)) (now (row .exit)) (now (detector .exit))) (now (audio .exit)) ⌝ }
+    requires { ⌜ RunAsked limiter target width first n (atCall delay marks minima weights row detector) (now audio) (now run) ⌝ }
+    ensures { λ r. ⌜ RunGiven limiter target width first n (atEntry delay marks minima weights row detector) (now (audio .entry)) r (atExit delay marks minima weights row detector) (now (audio .exit)) ⌝ }
 {
     let channels = limiter.channels;
     carry(channels, n, width, first, audio, 32, 0, run);

@@ -4,7 +4,7 @@ ghost use mathlib.Core.Bool.{cond};
 ghost use lib.Dec.{eqb};
 ghost use lib.ListN.{replicate};
 ghost use Rattle.limiter.specs.State.{notSetUp};
-ghost use Rattle.limiter.specs.Stores.{Stores, storesAt};
+ghost use Rattle.limiter.specs.Stores.{Stores, atEntry, atExit};
 ghost use Rattle.limiter.specs.Prepare.{prepareReply};
 ghost use Rattle.bank.specs.Bank;
 ghost use Rattle.bank.specs.Bank.{unset, setUpOf};
@@ -79,7 +79,8 @@ fn kept(answer: PrepareAnswer, bank: SmootherBank) -> SmootherBank
 
 // A refused setup.
 fn refused(answer: SetupAnswer) -> SetUp
-    ensures { λ r. ⌜ ((stores : Stores) → setUpAt r stores ≡ left (setupReply answer) (machineOf notSetUp unset stores)) ⌝ }
+    ensures { λ r. ⌜ ((stores : Stores) → setUpAt r stores
+        ≡ left (setupReply answer) (machineOf notSetUp unset stores)) ⌝ }
 {
     let processor = KernelProcessor::not_set_up();
     SetUp { answer, processor }
@@ -109,7 +110,8 @@ impl KernelProcessor {
         row: &mut [f64],
         detector: &mut [f64],
     ) -> SetUp
-        ensures { λ r. ⌜ setUpAt r (storesAt (now (delay .exit)) (now (marks .exit)) (now (minima .exit)) (now (weights .entry)) (now (row .exit)) (now (detector .exit))) ≡ setupOf s rate channels «max_block» cap (storesAt (now (delay .entry)) (now (marks .entry)) (now (minima .entry)) (now (weights .entry)) (now (row .entry)) (now (detector .entry))) ⌝ }
+        ensures { λ r. ⌜ setUpAt r (atExit delay marks minima weights row detector)
+            ≡ setupOf s rate channels «max_block» cap (atEntry delay marks minima weights row detector) ⌝ }
     {
         let set = bank_of(s, rate);
         let first = set.answer;

@@ -5,6 +5,8 @@ use mathlib.Core.List.{List}
 use lib.Dec.{eqb}
 use lib.ListN.{length, replicate}
 use lib.Ieee.{Float}
+use denote.Ref.{RefT, now}
+use denote.Triple.Both.{Both}
 use Rattle.arithmetic.specs.Number
 use Rattle.arithmetic.specs.Number.{one}
 use Rattle.settings.specs.Derived.{rowOf}
@@ -19,6 +21,24 @@ pub record Stores : Type 0 where
 
 abbrev pub storesAt : List Float → List ℕ → List Float → List Float → List Float → List Float → Stores
 storesAt delay marks minima weights row detector = record { delay = delay; marks = marks; minima = minima; weights = weights; row = row; detector = detector }
+
+-- ---- the six as a contract names them
+-- a lent slice at a call's two moments
+abbrev pub Lent : Type 0 → Type 0
+Lent A = Both (RefT (List A)) (RefT (List A))
+
+-- at entry, and at exit
+abbrev pub atEntry : Lent Float → Lent ℕ → Lent Float → Lent Float → Lent Float → Lent Float → Stores
+atEntry delay marks minima weights row detector =
+    storesAt (now (delay .entry)) (now (marks .entry)) (now (minima .entry)) (now (weights .entry)) (now (row .entry)) (now (detector .entry))
+
+abbrev pub atExit : Lent Float → Lent ℕ → Lent Float → Lent Float → Lent Float → Lent Float → Stores
+atExit delay marks minima weights row detector =
+    storesAt (now (delay .exit)) (now (marks .exit)) (now (minima .exit)) (now (weights .exit)) (now (row .exit)) (now (detector .exit))
+
+-- in what a function asks
+abbrev pub atCall : RefT (List Float) → RefT (List ℕ) → RefT (List Float) → RefT (List Float) → RefT (List Float) → RefT (List Float) → Stores
+atCall delay marks minima weights row detector = storesAt (now delay) (now marks) (now minima) (now weights) (now row) (now detector)
 
 -- the stores' lengths, in their order
 pub record Lengths : Type 0 where

@@ -2,7 +2,7 @@
 ghost use mathlib.Core.Path.{_≡_};
 ghost use Prim.Native.Nat.{_+_};
 ghost use lib.ListN.{length};
-ghost use Rattle.limiter.specs.Stores.{storesAt};
+ghost use Rattle.limiter.specs.Stores.{atEntry};
 ghost use Rattle.limiter.specs.Order.{prepared, inOrder, readyRefusal};
 use crate::prepare::StoreLengths;
 use crate::prepare::lengths_fit;
@@ -48,7 +48,7 @@ impl Limiter {
         row: &[f64],
         detector: &[f64],
     ) -> u32
-        ensures { λ r. ⌜ r ≡ readyRefusal self (storesAt (now (delay .entry)) (now (marks .entry)) (now (minima .entry)) (now (weights .entry)) (now (row .entry)) (now (detector .entry))) ⌝ }
+        ensures { λ r. ⌜ r ≡ readyRefusal self (atEntry delay marks minima weights row detector) ⌝ }
     {
         if !self.is_prepared() {
             return 18;

@@ -3,7 +3,7 @@ ghost use mathlib.Core.Path.{_≡_};
 ghost use Prim.Native.Nat.{_≤_};
 ghost use lib.Dec.{eqb};
 ghost use lib.ListN.{length};
-ghost use Rattle.limiter.specs.Stores.{lengthsFit, storesAt};
+ghost use Rattle.limiter.specs.Stores.{lengthsFit, atEntry, atExit};
 ghost use Rattle.limiter.specs.Prepare.{prepareReply, answerOf, lengthsAt, storesRefusal, capAnswer, prepareRefusal, preparedAt, prepareOf};
 use crate::state::Limiter;
 use crate::stores::fill;
@@ -128,7 +128,8 @@ fn judge(
     weights: &[f64],
 ) -> PrepareAnswer
     requires { ⌜ l .weights ≡ length (now weights) ⌝ }
-    ensures { λ r. ⌜ prepareReply r ≡ prepareRefusal s rate channels «max_block» cap (lengthsAt l) (now (weights .entry)) ⌝ }
+    ensures { λ r. ⌜ prepareReply r
+        ≡ prepareRefusal s rate channels «max_block» cap (lengthsAt l) (now (weights .entry)) ⌝ }
 {
     let first = settings::accepted::refusal(s, rate, channels, max_block);
     if first != 0 {
@@ -154,7 +155,8 @@ impl Limiter {
         row: &mut [f64],
         detector: &mut [f64],
     ) -> Prepared
-        ensures { λ r. ⌜ preparedAt r (storesAt (now (delay .exit)) (now (marks .exit)) (now (minima .exit)) (now (weights .entry)) (now (row .exit)) (now (detector .exit))) ≡ prepareOf s rate channels «max_block» cap (storesAt (now (delay .entry)) (now (marks .entry)) (now (minima .entry)) (now (weights .entry)) (now (row .entry)) (now (detector .entry))) ⌝ }
+        ensures { λ r. ⌜ preparedAt r (atExit delay marks minima weights row detector)
+            ≡ prepareOf s rate channels «max_block» cap (atEntry delay marks minima weights row detector) ⌝ }
     {
         let l = StoreLengths {
             delay: delay.len(),

@@ -3,7 +3,7 @@
 ghost use mathlib.Core.Path.{_≡_};
 ghost use Prim.Native.Nat.{_+_};
 ghost use Rattle.frame.specs.Rules.{presentRules};
-ghost use Rattle.limiter.specs.Stores.{storesAt};
+ghost use Rattle.limiter.specs.Stores.{atEntry, atExit, atCall};
 ghost use Rattle.limiter.specs.Run.{movedOn, KernelReady, ranAt, renderOf, drainOf};
 use crate::state::Limiter;
 use crate::stores::fill;
@@ -50,8 +50,9 @@ impl Limiter {
         row: &mut [f64],
         detector: &mut [f64],
     ) -> Limiter
-        requires { ⌜ KernelReady self n (storesAt (now delay) (now marks) (now minima) (now weights) (now row) (now detector)) (now audio) ⌝ }
-        ensures { λ r. ⌜ ranAt r (storesAt (now (delay .exit)) (now (marks .exit)) (now (minima .exit)) (now (weights .entry)) (now (row .exit)) (now (detector .exit))) (now (audio .exit)) ≡ renderOf presentRules self target n (storesAt (now (delay .entry)) (now (marks .entry)) (now (minima .entry)) (now (weights .entry)) (now (row .entry)) (now (detector .entry))) (now (audio .entry)) ⌝ }
+        requires { ⌜ KernelReady self n (atCall delay marks minima weights row detector) (now audio) ⌝ }
+        ensures { λ r. ⌜ ranAt r (atExit delay marks minima weights row detector) (now (audio .exit))
+            ≡ renderOf presentRules self target n (atEntry delay marks minima weights row detector) (now (audio .entry)) ⌝ }
     {
         let env = self.env;
         let run = render_run(
@@ -85,8 +86,9 @@ impl Limiter {
         row: &mut [f64],
         detector: &mut [f64],
     ) -> Limiter
-        requires { ⌜ KernelReady self n (storesAt (now delay) (now marks) (now minima) (now weights) (now row) (now detector)) (now audio) ⌝ }
-        ensures { λ r. ⌜ ranAt r (storesAt (now (delay .exit)) (now (marks .exit)) (now (minima .exit)) (now (weights .entry)) (now (row .exit)) (now (detector .exit))) (now (audio .exit)) ≡ drainOf presentRules self n (storesAt (now (delay .entry)) (now (marks .entry)) (now (minima .entry)) (now (weights .entry)) (now (row .entry)) (now (detector .entry))) (now (audio .entry)) ⌝ }
+        requires { ⌜ KernelReady self n (atCall delay marks minima weights row detector) (now audio) ⌝ }
+        ensures { λ r. ⌜ ranAt r (atExit delay marks minima weights row detector) (now (audio .exit))
+            ≡ drainOf presentRules self n (atEntry delay marks minima weights row detector) (now (audio .entry)) ⌝ }
     {
         fill(audio, 0.0);
         let drained = self.drained + n;
