@@ -1,6 +1,6 @@
 -- The book: samples, threshold, kept target and drained count of its own, and what follows from them. It has no ring, no marks or minima, no tally, no position of a row or a delay line.
 --
--- What it shares with the limiter are the rules (`Rules`: taps, output rule, which channels count), formulas of document 01 on plain arguments, and the table:
+-- What it shares with the limiter are the rules of what was set up and of the call's sample type (`rulesOf`: taps, which channels count, output rule), formulas of document 01 on plain arguments, and the table:
 --   setup: lookOf, rowOf, coefficientOf, targetOf, thresholdParam
 --   a frame's peak and required gain: sumsOf and largestOf (the detector), heard, requiredGain, unitGain, finiteOrZero
 --   mean and gain: meanOf (over the book's row and the lent weights; it tells a row of nothing but 1 by `tallyOf`, which equals `notOne`: `count-is`, proofs/Floors.antt), followed
@@ -21,7 +21,8 @@ use Rattle.envelope.specs.Mean.{meanOf}
 use Rattle.envelope.specs.Follow.{followed}
 use Rattle.settings.specs.Derived.{lookOf, rowOf, coefficientOf}
 use Rattle.settings.specs.declared.LimiterSettings.{LimiterSettings}
-use Rattle.frame.specs.Rules.{Rules}
+use Rattle.settings.specs.declared.ProcessSpec.{ProcessSpec}
+use Rattle.frame.specs.Rules.{Linking, Rules}
 use Rattle.frame.specs.Frame.{heard, requiredGain}
 use Rattle.bank.specs.declared.smoother.Smoother.{Smoother}
 
@@ -33,9 +34,7 @@ pub record Joined : Type 0 where
 pub record Book : Type 0 where
   -- what was set up
   pub settings : LimiterSettings
-  pub rate : ℕ
-  pub channels : ℕ
-  pub largest : ℕ
+  pub spec : ProcessSpec
   pub weights : List Float
   -- the bank: the threshold's smoother
   pub threshold : Smoother
@@ -46,11 +45,11 @@ pub record Book : Type 0 where
   pub frames : List Joined
 
 abbrev pub lookIn : Book → ℕ
-lookIn b = lookOf (b .settings .«lookahead_ms») (b .rate)
+lookIn b = lookOf (b .settings .«lookahead_ms») (b .spec .rate)
 
 -- the release coefficient
 abbrev pub coeffIn : Book → Float
-coeffIn b = coefficientOf (b .settings .«release_ms») (b .rate)
+coeffIn b = coefficientOf (b .settings .«release_ms») (b .spec .rate)
 
 -- ---- peaks: lists of frames are newest first, and speak of their newest
 -- a channel's samples
@@ -58,19 +57,19 @@ abbrev pub channelOf : ℕ → List Joined → List Float
 channelOf c fs = map (λ (f : Joined). getD (f .samples) c Number.zero) fs
 
 -- the detector's answer: the newest twelve samples, 0 before the start
-unfoldable pub between : Rules → ℕ → List Joined → Float
-between rules c fs = largestOf (sumsOf (rules .taps) (latest silent (channelOf c fs)))
+unfoldable pub between : Linking → ℕ → List Joined → Float
+between linking c fs = largestOf (sumsOf (linking .taps) (latest silent (channelOf c fs)))
 
 -- the highest peak over k channels from channel c on, on the samples and between them
-unfoldable pub peakFrom : Rules → ℕ → ℕ → Float → List Joined → Float
-peakFrom rules c zero peak fs = peak
-peakFrom rules c (suc k) peak fs = peakFrom rules (c + 1) k (heard (rules .counts c) peak (getD (channelOf c fs) 0 Number.zero) (between rules c fs)) fs
+unfoldable pub peakFrom : Linking → ℕ → ℕ → Float → List Joined → Float
+peakFrom linking c zero peak fs = peak
+peakFrom linking c (suc k) peak fs = peakFrom linking (c + 1) k (heard (linking .counts c) peak (getD (channelOf c fs) 0 Number.zero) (between linking c fs)) fs
 
 -- ---- required gains, floors, attack row
 -- "the target divided by a frame's highest peak over all channels, kept within 0 and 1; in silence it is 1": of each frame
-unfoldable pub requiredOf : Rules → ℕ → List Joined → List Float
-requiredOf rules channels [] = []
-requiredOf rules channels (f ∷ fs) = unitGain (requiredGain (f .target) (peakFrom rules 0 channels Number.zero (f ∷ fs))) ∷ requiredOf rules channels fs
+unfoldable pub requiredOf : Linking → ℕ → List Joined → List Float
+requiredOf linking channels [] = []
+requiredOf linking channels (f ∷ fs) = unitGain (requiredGain (f .target) (peakFrom linking 0 channels Number.zero (f ∷ fs))) ∷ requiredOf linking channels fs
 
 -- "the least required gain among the latest look + 1 frames, or among all so far while there are fewer": of each frame, by plain scan
 unfoldable pub floorsOf : ℕ → List Float → List Float

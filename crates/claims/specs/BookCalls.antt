@@ -6,28 +6,28 @@ use lib.Dec.{eqb, leb}
 use lib.ListN.{length, getD, replicate}
 use lib.Ieee.{Float, nan}
 use lib.Ieee.Scale.{finite}
+use Rattle.audio.specs.Format.{sizeOf, samplesOf}
 use Rattle.arithmetic.specs.Number
-use Rattle.arithmetic.specs.Reply.{Reply, finished, refused, count, float}
+use Rattle.arithmetic.specs.Reply.{Reply, finished, refused, count, float, andThen, must}
 use Rattle.keeper.specs.InOrder.{mostFrames}
 use Rattle.settings.specs.Target.{targetOf}
 use Rattle.settings.specs.declared.LimiterSettings.{LimiterSettings}
+use Rattle.settings.specs.declared.ProcessSpec.{ProcessSpec}
 use Rattle.bank.specs.Smoother.{smootherOf, targetSet, immediateSet, stepped, resetOne}
 use Rattle.bank.specs.declared.smoother.Smoother.{Smoother}
 use Rattle.driver.specs.Machine.{thresholdParam}
 use Rattle.driver.specs.Events.{Event, eventsReply}
-use Rattle.driver.specs.Block.{andThen, must, reaches}
+use Rattle.driver.specs.Block.{reaches}
 use Rattle.driver.specs.Drain.{longestDrain}
 use Rattle.claims.specs.Session.{Call, block, drain, parameter, reset}
 use Rattle.claims.specs.Book.{Joined, Book, lookIn}
 
 -- ---- opening
 -- afresh: the target is the default threshold's
-abbrev pub opened : LimiterSettings → ℕ → ℕ → ℕ → List Float → Smoother → Book
-opened s rate channels largest weights threshold = record {
+abbrev pub opened : LimiterSettings → ProcessSpec → List Float → Smoother → Book
+opened s spec weights threshold = record {
   settings = s;
-  rate = rate;
-  channels = channels;
-  largest = largest;
+  spec = spec;
   weights = weights;
   threshold = threshold;
   target = targetOf (s .«threshold_db») (s .«true_peak_margin_db»);
@@ -36,12 +36,12 @@ opened s rate channels largest weights threshold = record {
 }
 
 -- after a setup: the threshold's smoother stands at its default
-abbrev pub openedNew : LimiterSettings → ℕ → ℕ → ℕ → List Float → Book
-openedNew s rate channels largest weights = opened s rate channels largest weights (smootherOf rate (thresholdParam s))
+abbrev pub openedNew : LimiterSettings → ProcessSpec → List Float → Book
+openedNew s spec weights = opened s spec weights (smootherOf (spec .rate) (thresholdParam s))
 
 -- after a reset of its own: afresh, but for what reset keeps of the bank
 abbrev pub reopened : Book → Book
-reopened b = opened (b .settings) (b .rate) (b .channels) (b .largest) (b .weights) (resetOne (b .threshold))
+reopened b = opened (b .settings) (b .spec) (b .weights) (resetOne (b .threshold))
 
 -- ---- the threshold, by absolute positions
 -- whether the bank steps at an absolute position
@@ -53,18 +53,18 @@ abbrev pub latchesAt : ℕ → ℕ → ℕ
 latchesAt position offset = cond (eqb offset 0) 0 (offset + (32 - (position + offset) % 32) % 32)
 
 -- an event for another parameter than the threshold is ignored
-abbrev pub told : Event → Smoother → Smoother
-told e s = cond (eqb (e .id) 0) (targetSet (e .value) s) s
+abbrev pub latch : Event → Smoother → Smoother
+latch e s = cond (eqb (e .id) 0) (targetSet (e .value) s) s
 
 -- the events that latch at a frame which passes a test, in their order
-unfoldable pub toldWhere : (ℕ → Bool) → ℕ → List Event → Smoother → Smoother
-toldWhere test position [] s = s
-toldWhere test position (e ∷ es) s = toldWhere test position es (cond (test (latchesAt position (e .offset))) (told e s) s)
+unfoldable pub latchWhere : (ℕ → Bool) → ℕ → List Event → Smoother → Smoother
+latchWhere test position [] s = s
+latchWhere test position (e ∷ es) s = latchWhere test position es (cond (test (latchesAt position (e .offset))) (latch e s) s)
 
 -- the threshold in frame i of a block
 unfoldable pub thresholdAt : ℕ → List Event → ℕ → Smoother → Smoother
 thresholdAt position events i s =
-    let t = toldWhere (λ (f : ℕ). eqb f i) position events s in
+    let t = latchWhere (λ (f : ℕ). eqb f i) position events s in
     cond (stepsAt (position + i)) (stepped t) t
 
 -- ---- the frames of a call, oldest first
@@ -85,13 +85,13 @@ joiningFrom b position frames events audio i (suc n) s =
     let t = thresholdAt position events i s in
     let later = joiningFrom b position frames events audio (i + 1) n t in
     record {
-      frames = record { samples = samplesFrom frames i 0 (b .channels) audio; target = targetOf (t .cur) (b .settings .«true_peak_margin_db») } ∷ later .frames;
+      frames = record { samples = samplesFrom frames i 0 (b .spec .channels) audio; target = targetOf (t .cur) (b .settings .«true_peak_margin_db») } ∷ later .frames;
       threshold = later .threshold;
     }
 
 -- a frame of a drain: silent input, the kept target
 abbrev pub silentFrame : Book → Joined
-silentFrame b = record { samples = replicate (b .channels) Number.zero; target = b .target }
+silentFrame b = record { samples = replicate (b .spec .channels) Number.zero; target = b .target }
 
 -- ---- what becomes of the book
 -- frames join one after the other
@@ -107,9 +107,7 @@ lastTarget target (f ∷ fs) = lastTarget (f .target) fs
 abbrev pub grown : Book → Smoother → ℕ → List Joined → Book
 grown b threshold drained fs = record {
   settings = b .settings;
-  rate = b .rate;
-  channels = b .channels;
-  largest = b .largest;
+  spec = b .spec;
   weights = b .weights;
   threshold = threshold;
   target = lastTarget (b .target) fs;
@@ -133,20 +131,20 @@ entered reply e b = cond (eqb (reply .number) 0) e (passedOver reply b)
 -- ---- a block: 20, 21, 22
 abbrev pub blockJudged : Book → ℕ → ℕ → List Event → ℕ → Reply
 blockJudged b position frames events size =
-    andThen (must (leb frames (b .largest) && eqb size (b .channels * frames)) 20)
+    andThen (must (leb frames (b .spec .«max_block») && eqb size (b .spec .channels * frames)) 20)
     (andThen (eventsReply frames 0 0 events) (must (reaches position frames && leb (length (b .frames) + frames) mostFrames) 22))
 
 -- the frames, then the events that no frame of the block latched; a block of no frames leaves the drained count
 unfoldable pub blockEntered : Book → ℕ → ℕ → List Event → List Float → Entry
 blockEntered b position frames events audio =
     let j = joiningFrom b position frames events audio 0 frames (b .threshold) in
-    let rest = toldWhere (λ (f : ℕ). leb frames f) position events (j .threshold) in
+    let rest = latchWhere (λ (f : ℕ). leb frames f) position events (j .threshold) in
     record { reply = finished []; joined = j .frames; book = grown b rest (cond (eqb frames 0) (b .drained) 0) (j .frames) }
 
 -- ---- a drain: 20, 22
 abbrev pub drainJudged : Book → ℕ → ℕ → Reply
 drainJudged b frames size =
-    andThen (must (leb frames longestDrain && eqb size (b .channels * frames)) 20) (must (leb (length (b .frames) + frames) mostFrames) 22)
+    andThen (must (leb frames longestDrain && eqb size (b .spec .channels * frames)) 20) (must (leb (length (b .frames) + frames) mostFrames) 22)
 
 -- "A drain of f frames writes the first min(f, look − drained) of each channel, and is done once drained reaches look"
 unfoldable pub drainEntered : Book → ℕ → Entry
@@ -168,8 +166,9 @@ parameterEntered b v = record { reply = finished []; joined = []; book = grown b
 
 -- ---- each call
 unfoldable pub enter : Book → Call → Entry
-enter b (block position frames events audio) = entered (blockJudged b position frames events (length audio)) (blockEntered b position frames events audio) b
-enter b (drain frames audio) = entered (drainJudged b frames (length audio)) (drainEntered b frames) b
+enter b (block format position frames events bytes) =
+    entered (blockJudged b position frames events (sizeOf format bytes)) (blockEntered b position frames events (samplesOf format bytes)) b
+enter b (drain format frames bytes) = entered (drainJudged b frames (sizeOf format bytes)) (drainEntered b frames) b
 enter b (parameter id v) = entered (parameterJudged id v) (parameterEntered b v) b
 -- in a list 18 and 16 never arise (`CallHolds.never`), so that a reset is finished
 enter b reset = record { reply = finished []; joined = []; book = reopened b }

@@ -10,21 +10,24 @@ use lib.ListN.{length, getD}
 use lib.Ieee.{Float, nan, le, eq}
 use Rattle.arithmetic.specs.Number
 use Rattle.arithmetic.specs.Number.{one, within}
+use Rattle.arithmetic.specs.Reply.{numbered}
+use Rattle.audio.specs.Format.{bytesFor, placesOf}
+use Rattle.audio.specs.declared.format.Format.{Format}
+use Rattle.audio.specs.declared.format.Format.the-variants.{F64}
 use Rattle.envelope.specs.Mean.{meanOf}
 use Rattle.settings.specs.Derived.{rowOf}
 use Rattle.settings.specs.declared.LimiterSettings.{LimiterSettings}
-use Rattle.settings.specs.declared.memory.Cap.{Cap}
-use Rattle.limiter.specs.State.{notSetUp}
+use Rattle.settings.specs.declared.ProcessSpec.{ProcessSpec}
+use Rattle.limiter.specs.State.{notSetUp, specOf}
 use Rattle.limiter.specs.Stores.{Stores}
-use Rattle.limiter.specs.Prepare.{numbered}
-use Rattle.frame.specs.Rules.{Rules}
+use Rattle.frame.specs.Rules.{Rules, rulesOf}
 use Rattle.frame.specs.Frame.{Framed}
 use Rattle.bank.specs.Smoother.{resetOne}
 use Rattle.bank.specs.Bank.{unset, valueOf}
 use Rattle.driver.specs.Machine.{Machine, machineOf, thresholdOf, readyRefusal, resetRefusal}
 use Rattle.driver.specs.Block.{Outcome, outputsOf}
 use Rattle.driver.specs.Calls.{setupOf}
-use Rattle.claims.specs.Session.{Call, block, drain, parameter, reset, audioIn, Limiting, called}
+use Rattle.claims.specs.Session.{Call, block, drain, parameter, reset, bytesIn, Limiting, called}
 use Rattle.claims.specs.Book.{Joined, Book, lookIn, coeffIn, requiredOf, floorsOf, attackRow, notOne, gainAfter, leavingFrom}
 use Rattle.claims.specs.BookCalls.{Entry, opened, openedNew, enter, valueIn}
 
@@ -32,23 +35,23 @@ use Rattle.claims.specs.BookCalls.{Entry, opened, openedNew, enter, valu
 -- f is what the limiter showed in a frame; fs are the book's frames, that one first; look, channels, weights and release coefficient are those of the setup
 pub record FrameHolds (rules : Rules) (look channels : ℕ) (weights : List Float) (coeff : Float) (fs : List Joined) (f : Framed) : Type 0 where
   -- "the gain step uses the true floor, where only frames since the latest finished reset, or since setup, count"
-  pub floor : f .floor ≡ getD (floorsOf look (requiredOf rules channels fs)) 0 nan
+  pub floor : f .floor ≡ getD (floorsOf look (requiredOf (rules .linking) channels fs)) 0 nan
   -- "its tally equals the number of floors in the attack row other than 1"
-  pub tally : f .moving .env .rowed .state .tally ≡ notOne (attackRow look (requiredOf rules channels fs))
+  pub tally : f .moving .env .rowed .state .tally ≡ notOne (attackRow look (requiredOf (rules .linking) channels fs))
   -- "the applied gain lies within 0 and 1"
   pub gain : within Number.zero one (f .gain) ≡ true
   -- the mean is the weighted fold over the book's row, newest first
-  pub mean : f .mean ≡ meanOf weights (attackRow look (requiredOf rules channels fs))
+  pub mean : f .mean ≡ meanOf weights (attackRow look (requiredOf (rules .linking) channels fs))
   -- "the gain follows their weighted mean down": from 1 at the start on, frame by frame, by document 01's rule
-  pub follows : f .gain ≡ gainAfter look weights coeff (requiredOf rules channels fs)
+  pub follows : f .gain ≡ gainAfter look weights coeff (requiredOf (rules .linking) channels fs)
   -- "a row of nothing but 1 has a mean of exactly 1"
-  pub quiet : ((i : ℕ) → i < rowOf look → eq (getD (attackRow look (requiredOf rules channels fs)) i nan) one ≡ true) → f .mean ≡ one
+  pub quiet : ((i : ℕ) → i < rowOf look → eq (getD (attackRow look (requiredOf (rules .linking) channels fs)) i nan) one ≡ true) → f .mean ≡ one
   -- "each channel gives out its sample of look frames earlier, sanitized, or 0 before the start, times that gain by document 01's output rule"
   pub outputs : f .outputs ≡ leavingFrom rules look (f .gain) 0 channels fs
   -- "Where a sample leaves so, no floor in the attack row is above the required gain of its own frame or of any of the eleven frames after it": it leaves where its frame
   -- is one of fs, look frames back. This is about the book alone; by `floor` and `mean` its floors are those that the limiter used.
   pub leaving : look < length fs → (i k : ℕ) → i < rowOf look → k ≤ 11
-      → le (getD (attackRow look (requiredOf rules channels fs)) i nan) (getD (requiredOf rules channels fs) (look - k) nan) ≡ true
+      → le (getD (attackRow look (requiredOf (rules .linking) channels fs)) i nan) (getD (requiredOf (rules .linking) channels fs) (look - k) nan) ≡ true
 
 -- ---- the frames that a call takes: those that join the book, oldest first, and those that the limiter showed
 abbrev pub FramesHold : Rules → ℕ → ℕ → List Float → Float → List Joined → List Joined → List Framed → Type 0
@@ -58,53 +61,63 @@ FramesHold rules look channels weights coeff history (j ∷ js) [] = ⊥
 FramesHold rules look channels weights coeff history (j ∷ js) (f ∷ fs) =
     FrameHolds rules look channels weights coeff (j ∷ history) f × FramesHold rules look channels weights coeff (j ∷ history) js fs
 
--- the audio that the call gives out: of each channel the first n places are the frames' outputs, the rest are as they were
-pub record Given (channels width n : ℕ) (outputs : List (List Float)) (before after : List Float) : Type 0 where
+-- the audio that the call gives out: of each channel the first n samples have the bytes of the frames' outputs, and every other sample's are as they were
+pub record Given (format : Format) (channels width n : ℕ) (outputs : List (List Float)) (before after : List ℕ) : Type 0 where
   pub as-long : length after ≡ length before
-  pub placed : (c i : ℕ) → c < channels → i < n → getD after (c * width + i) nan ≡ getD (getD outputs i []) c nan
-  pub others : (c i : ℕ) → c < channels → n ≤ i → i < width → getD after (c * width + i) nan ≡ getD before (c * width + i) nan
+  pub placed : (c i : ℕ) → c < channels → i < n → getD (placesOf format after) (c * width + i) [] ≡ bytesFor format (getD (getD outputs i []) c nan)
+  pub others : (c i : ℕ) → c < channels → n ≤ i → i < width → getD (placesOf format after) (c * width + i) [] ≡ getD (placesOf format before) (c * width + i) []
 
 -- how many frames a channel of the call's audio has
 abbrev pub widthOf : Call → ℕ
-widthOf (block position frames events audio) = frames
-widthOf (drain frames audio) = frames
+widthOf (block format position frames events bytes) = frames
+widthOf (drain format frames bytes) = frames
 widthOf (parameter id v) = 0
 widthOf reset = 0
 
+-- its sample type; a call without audio takes no frame, so that any would do
+abbrev pub formatOf : Call → Format
+formatOf (block format position frames events bytes) = format
+formatOf (drain format frames bytes) = format
+formatOf (parameter id v) = F64
+formatOf reset = F64
+
+-- the rules of its frames: from what was set up and the call, so that they may differ from call to call
+abbrev pub rulesIn : Book → Call → Rules
+rulesIn b call = rulesOf (b .settings) (formatOf call)
+
 -- ---- one call: m are the state and stores before it, o is what the limiter makes of it, e what the book does
-pub record CallHolds (rules : Rules) (b : Book) (m : Machine) (call : Call) (o : Outcome) (e : Entry) : Type 0 where
+pub record CallHolds (b : Book) (m : Machine) (call : Call) (o : Outcome) (e : Entry) : Type 0 where
   -- the answers are the book's
   pub reply : o .reply ≡ e .reply
   -- 18, 16 and 19 never arise
   pub never : (o .reply .number ≡ 18 → ⊥) × ((o .reply .number ≡ 16 → ⊥) × (o .reply .number ≡ 19 → ⊥))
   -- a refused call changes nothing
-  pub refusal : (o .reply .number ≡ 0 → ⊥) → (o .machine ≡ m) × (o .audio ≡ audioIn call)
+  pub refusal : (o .reply .number ≡ 0 → ⊥) → (o .machine ≡ m) × (o .bytes ≡ bytesIn call)
   -- what is left is set up, fits and is in order
   pub ready : readyRefusal (o .machine) ≡ 0
   -- each frame taken
-  pub frames : FramesHold rules (lookIn b) (b .channels) (b .weights) (coeffIn b) (b .frames) (e .joined) (o .frames)
+  pub frames : FramesHold (rulesIn b call) (lookIn b) (b .spec .channels) (b .weights) (coeffIn b) (b .frames) (e .joined) (o .frames)
   -- the frames' outputs are the audio that is given out
-  pub audio : o .reply .number ≡ 0 → Given (b .channels) (widthOf call) (length (e .joined)) (outputsOf (o .frames)) (audioIn call) (o .audio)
+  pub audio : o .reply .number ≡ 0 → Given (formatOf call) (b .spec .channels) (widthOf call) (length (e .joined)) (outputsOf (o .frames)) (bytesIn call) (o .bytes)
   -- the parameter values equal the book's
   pub values : (id : ℕ) → valueOf (o .machine .bank) id ≡ valueIn (e .book) id
 
 -- ---- a list of calls, each on the state and stores as the last one left them
-abbrev pub Holds : Rules → Limiting → Book → Machine → List Call → Type 0
-Holds rules l b m [] = Unit {0}
-Holds rules l b m (call ∷ calls) =
-    CallHolds rules b m call (called l m call) (enter b call) × Holds rules l (enter b call .book) (called l m call .machine) calls
+abbrev pub Holds : Limiting → Book → Machine → List Call → Type 0
+Holds l b m [] = Unit {0}
+Holds l b m (call ∷ calls) = CallHolds b m call (called l m call) (enter b call) × Holds l (enter b call .book) (called l m call .machine) calls
 
 -- ---- the claim
-pub record Claim (rules : Rules) (l : Limiting) : Type 0 where
+pub record Claim (l : Limiting) : Type 0 where
   -- every list after a finished setup
-  pub after-setup : (s : LimiterSettings) (rate channels largest : ℕ) (cap : Cap) (stores : Stores)
-      → (let start = l .setups s rate channels largest cap stores in
-      start .reply .number ≡ 0 → (calls : List Call) → Holds rules l (openedNew s rate channels largest (stores .weights)) (start .machine) calls)
+  pub after-setup : (s : LimiterSettings) (spec : ProcessSpec) (stores : Stores)
+      → (let start = l .setups s spec stores in
+      start .reply .number ≡ 0 → (calls : List Call) → Holds l (openedNew s spec (stores .weights)) (start .machine) calls)
   -- setup is refused exactly where the table says, and then with its values
-  pub setup-answered : (s : LimiterSettings) (rate channels largest : ℕ) (cap : Cap) (stores : Stores) → l .setups s rate channels largest cap stores .reply ≡ setupOf s rate channels largest cap stores .reply
+  pub setup-answered : (s : LimiterSettings) (spec : ProcessSpec) (stores : Stores) → l .setups s spec stores .reply ≡ setupOf s spec stores .reply
   -- "a refused setup leaves the limiter not set up", and the stores alone
-  pub setup-refused : (s : LimiterSettings) (rate channels largest : ℕ) (cap : Cap) (stores : Stores)
-      → (let start = l .setups s rate channels largest cap stores in (start .reply .number ≡ 0 → ⊥) → start .machine ≡ machineOf notSetUp unset stores)
+  pub setup-refused : (s : LimiterSettings) (spec : ProcessSpec) (stores : Stores)
+      → (let start = l .setups s spec stores in (start .reply .number ≡ 0 → ⊥) → start .machine ≡ machineOf notSetUp unset stores)
   -- a reset is refused where the table says so, 18 then 16, and nowhere else
   pub reset-answered : (m : Machine) → l .resets m .reply ≡ numbered (resetRefusal m)
   -- a refused reset changes nothing of state and stores
@@ -116,4 +129,4 @@ pub record Claim (rules : Rules) (l : Limiting) : Type 0 where
       → (let start = l .resets m in
       let k = m .limiter in
       start .reply .number ≡ 0 → (calls : List Call)
-      → Holds rules l (opened (k .settings) (k .rate) (k .channels) (k .«max_block») (m .stores .weights) (thresholdOf (start .machine .bank))) (start .machine) calls)
+      → Holds l (opened (k .settings) (specOf k) (m .stores .weights) (thresholdOf (start .machine .bank))) (start .machine) calls)

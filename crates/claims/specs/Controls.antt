@@ -1,4 +1,4 @@
--- THE CONTROLS: eleven limiters of which the claim is false (proofs/Controls.antt). Each is `limiting presentRules` but for the one place that its comment names.
+-- THE CONTROLS: eleven limiters of which the claim is false (proofs/Controls.antt). Each is `limiting` but for the one place that its comment names.
 use Prim.Native.Nat.{ℕ, _+_, _-_}
 use mathlib.Core.Bool.{false, cond}
 use mathlib.Core.List.{List, [], _∷_, _++_, map}
@@ -8,24 +8,25 @@ use lib.Ieee.{Float, nan, le}
 use Rattle.arithmetic.specs.Number
 use Rattle.arithmetic.specs.Number.{one}
 use Rattle.arithmetic.specs.Sanitize.{finiteOrZero, unitGain}
-use Rattle.arithmetic.specs.Reply.{Reply, finished, count}
+use Rattle.arithmetic.specs.Reply.{Reply, finished, numbered, count}
+use Rattle.audio.specs.Format.{sizeOf}
+use Rattle.audio.specs.declared.format.Format.{Format}
 use Rattle.keeper.specs.Ring.{Entry, wrap, dropBack, dropFront, frontOf}
 use Rattle.keeper.specs.Keeper.{Keeping, Stepped, entriesOf}
 use Rattle.envelope.specs.Row.{pushed, newestFirst, nextPos}
 use Rattle.envelope.specs.Mean.{meanOf}
 use Rattle.envelope.specs.Follow.{followed}
 use Rattle.envelope.specs.Step.{Enveloped, enveloped, GainStepped, gainStepped}
-use Rattle.frame.specs.Rules.{Rules, presentRules}
+use Rattle.frame.specs.Rules.{Rules, rulesOf}
 use Rattle.frame.specs.Frame.{linkedFrom, requiredGain, givenOut, Delayed, delayedFrom, Moving, Framed}
 use Rattle.frame.specs.Run
 use Rattle.frame.specs.Run.{Frames}
 use Rattle.limiter.specs.Stores.{storesAt}
-use Rattle.limiter.specs.Prepare.{numbered}
 use Rattle.limiter.specs.Run.{movingOf, envelopeOf, movedOn, storesOf}
 use Rattle.limiter.specs.declared.state.Limiter.{Limiter}
 use Rattle.driver.specs.Machine.{Machine, machineOf}
 use Rattle.driver.specs.Events.{Event}
-use Rattle.driver.specs.Block.{Renderer, Outcome, rendered, blockReply, blockDone, blockBy, blockOf, refusedAs}
+use Rattle.driver.specs.Block.{Renderer, Outcome, rendered, renderedIn, blockReply, blockDone, blockBy, blockOf, refusedAs}
 use Rattle.driver.specs.Drain.{drainBy, drainOf, withDrained}
 use Rattle.driver.specs.Calls.{Left, left, setupOf, parameterOf, resetOf}
 use Rattle.claims.specs.Session.{Limiting}
@@ -39,16 +40,16 @@ pub record Steps : Type 0 where
   pub fronts : ℕ → ℕ → List Entry → List Entry
   -- how the gain follows the mean: gain, mean, coefficient
   pub follow : Float → Float → Float → Float
-  -- the delay lines: look, position, gain, lines, samples
-  pub delays : ℕ → ℕ → Float → List Float → List Float → Delayed
+  -- the delay lines: rules, look, position, gain, lines, samples
+  pub delays : Rules → ℕ → ℕ → Float → List Float → List Float → Delayed
 
--- the present ones: with them the limiter is `limiting presentRules` (proofs/ControlsPresent.antt)
-abbrev pub presentSteps : Steps
-presentSteps = record {
+-- the right ones: with them the limiter is `limiting` (proofs/ControlsPresent.antt)
+abbrev pub rightSteps : Steps
+rightSteps = record {
   backs = λ gain ring. dropBack gain ring;
   fronts = λ look frame ring. dropFront look frame ring;
   follow = λ gain mean coeff. followed gain mean coeff;
-  delays = λ look pos gain delay xs. delayedFrom presentRules look pos gain delay xs;
+  delays = λ rules look pos gain delay xs. delayedFrom rules look pos gain delay xs;
 }
 
 -- keeper's `steppedOf`
@@ -81,11 +82,11 @@ gainStepBy steps weights coeff e x =
     gainStepped (s .floor) (s .dropped) mean (enveloped (s .keeping) p (steps .follow (e .gain) mean coeff))
 
 -- frame's `frameOf`
-unfoldable pub frameBy : Steps → List Float → Float → ℕ → Float → Moving → List Float → Framed
-frameBy steps weights coeff look target m xs =
-    let l = linkedFrom presentRules 0 Number.zero (m .detector) xs in
+unfoldable pub frameBy : Steps → Rules → List Float → Float → ℕ → Float → Moving → List Float → Framed
+frameBy steps rules weights coeff look target m xs =
+    let l = linkedFrom (rules .linking) 0 Number.zero (m .detector) xs in
     let g = gainStepBy steps weights coeff (m .env) (requiredGain target (l .peak)) in
-    let d = steps .delays look (m .pos) (g .env .gain) (m .delay) xs in
+    let d = steps .delays rules look (m .pos) (g .env .gain) (m .delay) xs in
     record {
       floor = g .floor;
       dropped = g .dropped;
@@ -96,62 +97,71 @@ frameBy steps weights coeff look target m xs =
     }
 
 -- frame's `framesOf`
-unfoldable pub framesBy : Steps → List Float → Float → ℕ → Float → Moving → List (List Float) → Frames
-framesBy steps weights coeff look target m [] = record { frames = []; moving = m }
-framesBy steps weights coeff look target m (xs ∷ later) =
-    let f = frameBy steps weights coeff look target m xs in
-    Run.followed f (framesBy steps weights coeff look target (f .moving) later)
+unfoldable pub framesBy : Steps → Rules → List Float → Float → ℕ → Float → Moving → List (List Float) → Frames
+framesBy steps rules weights coeff look target m [] = record { frames = []; moving = m }
+framesBy steps rules weights coeff look target m (xs ∷ later) =
+    let f = frameBy steps rules weights coeff look target m xs in
+    Run.followed f (framesBy steps rules weights coeff look target (f .moving) later)
 
 -- driver's `rendered`
-unfoldable pub renderedBy : Steps → Renderer
-renderedBy steps l s target fs =
-    let r = framesBy steps (s .weights) (l .«release_coeff») (l .env .keeper .look) target (movingOf l s) fs in
+unfoldable pub renderedBy : Steps → Rules → Renderer
+renderedBy steps rules l s target fs =
+    let r = framesBy steps rules (s .weights) (l .«release_coeff») (l .env .keeper .look) target (movingOf l s) fs in
     record { limiter = movedOn l (envelopeOf (r .moving .env)) (r .moving .pos) target 0; stores = storesOf (r .moving) (s .weights); frames = r .frames }
 
--- ---- the present calls, of which each control changes one
-abbrev pub presentBlocks : Machine → ℕ → ℕ → List Event → List Float → Outcome
-presentBlocks m position frames events audio = blockOf presentRules m position frames events audio
+-- ---- the right calls, of which each control changes one
+abbrev pub Blocks : Type 0
+Blocks = Format → Machine → ℕ → ℕ → List Event → List ℕ → Outcome
 
-abbrev pub presentDrains : Machine → ℕ → List Float → Outcome
-presentDrains m frames audio = drainOf presentRules m frames audio
+abbrev pub Drains : Type 0
+Drains = Format → Machine → ℕ → List ℕ → Outcome
 
-abbrev pub limitingWith : (Machine → ℕ → ℕ → List Event → List Float → Outcome) → (Machine → ℕ → List Float → Outcome) → (Machine → Left) → Limiting
+abbrev pub rightBlocks : Blocks
+rightBlocks format m position frames events bytes = blockOf format m position frames events bytes
+
+abbrev pub rightDrains : Drains
+rightDrains format m frames bytes = drainOf format m frames bytes
+
+abbrev pub limitingWith : Blocks → Drains → (Machine → Left) → Limiting
 limitingWith blocks drains resets = record {
-  setups = λ s rate channels largest cap stores. setupOf s rate channels largest cap stores;
+  setups = λ s spec stores. setupOf s spec stores;
   blocks = blocks;
   drains = drains;
   parameters = λ m id v. parameterOf m id v;
   resets = resets;
 }
 
+abbrev pub renderedWith : Steps → Format → Machine → Renderer
+renderedWith steps format m = renderedBy steps (rulesOf (m .limiter .settings) format)
+
 abbrev pub limitingBy : Steps → Limiting
 limitingBy steps =
-    limitingWith (λ m position frames events audio. blockBy (renderedBy steps) m position frames events audio) (λ m frames audio. drainBy (renderedBy steps) m frames audio)
-    (λ m. resetOf m)
+    limitingWith (λ format m position frames events bytes. blockBy (renderedWith steps format m) format m position frames events bytes)
+    (λ format m frames bytes. drainBy (renderedWith steps format m) format m frames bytes) (λ m. resetOf m)
 
-abbrev pub withBlocks : (Machine → ℕ → ℕ → List Event → List Float → Outcome) → Limiting
-withBlocks blocks = limitingWith blocks presentDrains (λ m. resetOf m)
+abbrev pub withBlocks : Blocks → Limiting
+withBlocks blocks = limitingWith blocks rightDrains (λ m. resetOf m)
 
-abbrev pub withDrains : (Machine → ℕ → List Float → Outcome) → Limiting
-withDrains drains = limitingWith presentBlocks drains (λ m. resetOf m)
+abbrev pub withDrains : Drains → Limiting
+withDrains drains = limitingWith rightBlocks drains (λ m. resetOf m)
 
 abbrev pub withResets : (Machine → Left) → Limiting
-withResets resets = limitingWith presentBlocks presentDrains resets
+withResets resets = limitingWith rightBlocks rightDrains resets
 
 -- an outcome with other state and stores, or another reply
 abbrev pub leaving : Outcome → Machine → Outcome
-leaving o m = record { reply = o .reply; machine = m; audio = o .audio; frames = o .frames }
+leaving o m = record { reply = o .reply; machine = m; bytes = o .bytes; frames = o .frames }
 
 abbrev pub replying : Outcome → Reply → Outcome
-replying o reply = record { reply = reply; machine = o .machine; audio = o .audio; frames = o .frames }
+replying o reply = record { reply = reply; machine = o .machine; bytes = o .bytes; frames = o .frames }
 
 -- ---- 1: the window has look frames, one too few: an entry goes where its frame is look back
 abbrev pub shortWindow : Limiting
 shortWindow = limitingBy (record {
-  backs = presentSteps .backs;
+  backs = rightSteps .backs;
   fronts = λ look frame ring. dropFront (look - 1) frame ring;
-  follow = presentSteps .follow;
-  delays = presentSteps .delays;
+  follow = rightSteps .follow;
+  delays = rightSteps .delays;
 })
 
 -- ---- 2: only a smaller gain pushes older ones out: an entry equal to the new gain stays
@@ -162,23 +172,23 @@ dropAbove gain (e ∷ es) = cond (le (e .minimum) gain) (e ∷ es) (dropAbove ga
 abbrev pub equalsStay : Limiting
 equalsStay = limitingBy (record {
   backs = λ gain ring. dropAbove gain ring;
-  fronts = presentSteps .fronts;
-  follow = presentSteps .follow;
-  delays = presentSteps .delays;
+  fronts = rightSteps .fronts;
+  follow = rightSteps .follow;
+  delays = rightSteps .delays;
 })
 
 -- ---- 3: the detector stands still in a drain: its answer is not heard there, and its store is not shifted
-abbrev pub deafRules : Rules
-deafRules = record { taps = presentRules .taps; leaves = presentRules .leaves; counts = λ (c : ℕ). false }
+abbrev pub noneCounts : Rules → Rules
+noneCounts rules = record { linking = record { taps = rules .linking .taps; counts = λ (c : ℕ). false }; leaves = rules .leaves }
 
 abbrev pub withDetector : List Float → Machine → Machine
 withDetector detector m =
     let s = m .stores in
     machineOf (m .limiter) (m .bank) (storesAt (s .delay) (s .marks) (s .minima) (s .weights) (s .row) detector)
 
-abbrev pub deafDrain : Limiting
-deafDrain = withDrains (λ m frames audio.
-    let o = drainOf deafRules m frames audio in
+abbrev pub detectorStopped : Limiting
+detectorStopped = withDrains (λ format m frames bytes.
+    let o = drainBy (rendered (noneCounts (rulesOf (m .limiter .settings) format))) format m frames bytes in
     leaving o (withDetector (m .stores .detector) (o .machine)))
 
 -- ---- 4: reset keeps the entry at the row's first place
@@ -194,8 +204,8 @@ rowKept = withResets (λ m.
 
 -- ---- 5: rendering leaves the drained count as it was
 abbrev pub drainedKept : Limiting
-drainedKept = withBlocks (λ m position frames events audio.
-    let o = presentBlocks m position frames events audio in
+drainedKept = withBlocks (λ format m position frames events bytes.
+    let o = rightBlocks format m position frames events bytes in
     leaving o (machineOf (withDrained (o .machine .limiter) (m .limiter .drained)) (o .machine .bank) (o .machine .stores)))
 
 -- ---- 6: rendering does not keep its target: the limiter goes on with the one that it had
@@ -203,24 +213,24 @@ abbrev pub withTarget : Limiter → Float → Limiter
 withTarget l target = movedOn l (l .env) (l .«delay_pos») target (l .drained)
 
 abbrev pub targetLost : Limiting
-targetLost = withBlocks (λ m position frames events audio.
-    let o = presentBlocks m position frames events audio in
+targetLost = withBlocks (λ format m position frames events bytes.
+    let o = rightBlocks format m position frames events bytes in
     leaving o (machineOf (withTarget (o .machine .limiter) (m .limiter .target)) (o .machine .bank) (o .machine .stores)))
 
 -- ---- 7: the new sample is stored at the delay position before the old one is read out there
-unfoldable pub storedFirst : ℕ → ℕ → Float → List Float → List Float → Delayed
-storedFirst look pos gain delay [] = record { outputs = []; delay = delay }
-storedFirst look pos gain delay (x ∷ xs) =
+unfoldable pub storedFirst : Rules → ℕ → ℕ → Float → List Float → List Float → Delayed
+storedFirst rules look pos gain delay [] = record { outputs = []; delay = delay }
+storedFirst rules look pos gain delay (x ∷ xs) =
     let line = set (take look delay) pos (finiteOrZero x) in
-    let later = storedFirst look pos gain (drop look delay) xs in
-    record { outputs = givenOut presentRules (getD line pos nan) gain ∷ later .outputs; delay = line ++ later .delay }
+    let later = storedFirst rules look pos gain (drop look delay) xs in
+    record { outputs = givenOut rules (getD line pos nan) gain ∷ later .outputs; delay = line ++ later .delay }
 
 abbrev pub noDelay : Limiting
 noDelay = limitingBy (record {
-  backs = presentSteps .backs;
-  fronts = presentSteps .fronts;
-  follow = presentSteps .follow;
-  delays = λ look pos gain delay xs. storedFirst look pos gain delay xs;
+  backs = rightSteps .backs;
+  fronts = rightSteps .fronts;
+  follow = rightSteps .follow;
+  delays = λ rules look pos gain delay xs. storedFirst rules look pos gain delay xs;
 })
 
 -- ---- 8: an event latches one run late: as if it were stamped a frame after the one at which it should latch. What a block refuses is judged by the stamps as they are.
@@ -228,28 +238,28 @@ abbrev pub runLater : ℕ → Event → Event
 runLater position e = record { offset = latchesAt position (e .offset) + 1; id = e .id; value = e .value }
 
 abbrev pub lateEvents : Limiting
-lateEvents = withBlocks (λ m position frames events audio.
-    let reply = blockReply m position frames events (length audio) in
-    cond (eqb (reply .number) 0) (blockDone (rendered presentRules) m position frames (map (runLater position) events) audio) (refusedAs reply m audio))
+lateEvents = withBlocks (λ format m position frames events bytes.
+    let reply = blockReply m position frames events (sizeOf format bytes) in
+    cond (eqb (reply .number) 0) (blockDone (renderedIn format m) format m position frames (map (runLater position) events) bytes) (refusedAs reply m bytes))
 
 -- ---- 9: every block is refused
 abbrev pub refusing : Limiting
-refusing = withBlocks (λ m position frames events audio. refusedAs (numbered 20) m audio)
+refusing = withBlocks (λ format m position frames events bytes. refusedAs (numbered 20) m bytes)
 
 -- ---- 10: a finished drain says that it is done, whatever is left to drain
 abbrev pub saidDone : Reply → Reply
 saidDone r = cond (eqb (r .number) 0) (finished (take 1 (r .values) ++ (count 1 ∷ []))) r
 
 abbrev pub doneAtOnce : Limiting
-doneAtOnce = withDrains (λ m frames audio.
-    let o = presentDrains m frames audio in
+doneAtOnce = withDrains (λ format m frames bytes.
+    let o = rightDrains format m frames bytes in
     replying o (saidDone (o .reply)))
 
 -- ---- 11: the gain does not follow the mean: it is 1 always
 abbrev pub fullGain : Limiting
 fullGain = limitingBy (record {
-  backs = presentSteps .backs;
-  fronts = presentSteps .fronts;
+  backs = rightSteps .backs;
+  fronts = rightSteps .fronts;
   follow = λ gain mean coeff. one;
-  delays = presentSteps .delays;
+  delays = rightSteps .delays;
 })

@@ -7,16 +7,17 @@ use lib.ListN.{replicate}
 use lib.Ieee.{Float, nan, inf, eq}
 use Rattle.arithmetic.specs.Number.{bits, zero, one}
 use Rattle.arithmetic.specs.Sanitize.{unitGain}
-use Rattle.arithmetic.specs.Reply.{Reply, finished, refused, count, float}
+use Rattle.arithmetic.specs.Reply.{Reply, finished, refused, numbered, count, float}
+use Rattle.audio.specs.declared.format.Format.the-variants.{F64}
 use Rattle.keeper.specs.Keeper.{setupOf}
 use Rattle.keeper.specs.History.{repliesAfter}
 use Rattle.settings.specs.Settings.{settingsOf, defaults}
 use Rattle.settings.specs.Derived.{lookOf, rowOf}
 use Rattle.settings.specs.Memory.{needed}
 use Rattle.settings.specs.declared.memory.Cap.{Cap}
+use Rattle.settings.specs.declared.ProcessSpec.{ProcessSpec}
 use Rattle.limiter.specs.Stores.{Stores, lengthsOf}
-use Rattle.limiter.specs.Prepare.{numbered, storesRefusal}
-use Rattle.frame.specs.Rules.{presentRules}
+use Rattle.limiter.specs.Prepare.{storesRefusal}
 use Rattle.bank.specs.Smoother.{stepped}
 use Rattle.bank.specs.Bank.{allChanged, setUpOf, setTargetOf, bankAfter, valueOf}
 use Rattle.driver.specs.Machine.{Machine, thresholdParam}
@@ -33,12 +34,16 @@ half = bits 0x3fe0_0000_0000_0000
 abbrev pub tells : Float → ℕ → ℕ → Reply
 tells floor dropped kept = finished (float floor ∷ count dropped ∷ count kept ∷ [])
 
--- what setup replies at 48,000, stereo, a largest block of 512: by default, with a cap; and with another lookahead
+-- 48,000, stereo, a largest block of 512
+abbrev pub stereo : Cap → ProcessSpec
+stereo cap = record { rate = 48000; channels = 2; «max_block» = 512; cap = cap }
+
+-- what setup replies there: by default, with a cap; and with another lookahead
 abbrev pub cappedAt : ℕ → Stores → Reply
-cappedAt cap stores = Calls.setupOf defaults 48000 2 512 (Cap.Bytes cap) stores .reply
+cappedAt cap stores = Calls.setupOf defaults (stereo (Cap.Bytes cap)) stores .reply
 
 abbrev pub lookingAt : Float → Stores → Reply
-lookingAt ms stores = Calls.setupOf (settingsOf (defaults .«threshold_db») (defaults .«true_peak_margin_db») ms (defaults .«release_ms»)) 48000 2 512 Cap.Unlimited stores .reply
+lookingAt ms stores = Calls.setupOf (settingsOf (defaults .«threshold_db») (defaults .«true_peak_margin_db») ms (defaults .«release_ms»)) (stereo Cap.Unlimited) stores .reply
 
 -- lookaheads in ms
 abbrev pub ms0·21 : Float
@@ -63,10 +68,10 @@ ramped n = valueOf (bankAfter n (setTargetOf (setUpOf (replicate 8 (thresholdPar
 
 -- state and stores after a drain of 50 stereo frames, and what that drain replied
 abbrev pub drained50 : Machine → Machine
-drained50 m = drainOf presentRules m 50 (replicate 100 zero) .machine
+drained50 m = drainOf F64 m 50 (replicate 800 0) .machine
 
-abbrev pub told50 : Machine → Reply
-told50 m = drainOf presentRules m 50 (replicate 100 zero) .reply
+abbrev pub reply50 : Machine → Reply
+reply50 m = drainOf F64 m 50 (replicate 800 0) .reply
 
 pub record Starred : Type 0 where
   -- * Gains NaN, +infinity, −0.25, 1.5 count as 0, 0, 0, 1.
@@ -99,11 +104,11 @@ pub record Starred : Type 0 where
   pub ramp-7 : (seven : Float) → ramped 7 ≡ finished (float seven ∷ []) → eq seven minus4 ≡ false
   -- * Look 72, drains of 50: 50 not done, 22 done, 0 done.
   pub drains : (cap : Cap) (stores : Stores)
-      → (let start = Calls.setupOf defaults 48000 2 512 cap stores in
+      → (let start = Calls.setupOf defaults (stereo cap) stores in
       start .reply .number ≡ 0
-      → (told50 (start .machine) ≡ finished (count 50 ∷ count 0 ∷ []))
-      × (told50 (drained50 (start .machine)) ≡ finished (count 22 ∷ count 1 ∷ []))
-      × (told50 (drained50 (drained50 (start .machine))) ≡ finished (count 0 ∷ count 1 ∷ [])))
+      → (reply50 (start .machine) ≡ finished (count 50 ∷ count 0 ∷ []))
+      × (reply50 (drained50 (start .machine)) ≡ finished (count 22 ∷ count 1 ∷ []))
+      × (reply50 (drained50 (drained50 (start .machine))) ≡ finished (count 0 ∷ count 1 ∷ [])))
   -- * For look=11, gain=3ff0000000000000, gain=3fe0000000000000, gain=3fe8000000000000 `floors` writes
   pub floors : textOf (ascii "look=11\ngain=3ff0000000000000\ngain=3fe0000000000000\ngain=3fe8000000000000\n")
       ≡ ascii "frame=0 floor=3ff0000000000000 dropped=0 kept=1\nframe=1 floor=3fe0000000000000 dropped=1 kept=1\nframe=2 floor=3fe0000000000000 dropped=0 kept=2\n"

@@ -1,20 +1,22 @@
 -- The other calls: setup, parameter call, reset, the lone gain step, reading a value.
 use Prim.Native.Nat.{ℕ, _+_}
 use mathlib.Core.Bool.{Bool, cond, not, _&&_}
-use mathlib.Core.List.{[], _∷_}
+use mathlib.Core.List.{List, [], _∷_}
 use lib.Dec.{eqb, leb}
 use lib.ListN.{length, replicate}
 use lib.Ieee.{Float}
 use lib.Ieee.Scale.{finite}
-use Rattle.arithmetic.specs.Reply.{Reply, finished, refused, count, float, unless}
+use denote.Ref.{now}
+use Rattle.arithmetic.specs.Reply.{Reply, finished, refused, numbered, count, float, unless, andThen, must}
 use Rattle.envelope.specs.Step.{GainStepped, gainStepOf, envelopedAt}
 use Rattle.settings.specs.Derived.{rowOf}
 use Rattle.settings.specs.Memory.{fitsCap, leftOf}
 use Rattle.settings.specs.declared.LimiterSettings.{LimiterSettings}
 use Rattle.settings.specs.declared.memory.Cap.{Cap}
+use Rattle.settings.specs.declared.ProcessSpec.{ProcessSpec}
 use Rattle.limiter.specs.State.{notSetUp}
-use Rattle.limiter.specs.Stores.{Stores, storesAt}
-use Rattle.limiter.specs.Prepare.{numbered, prepareOf}
+use Rattle.limiter.specs.Stores.{Stores, storesAt, Lent}
+use Rattle.limiter.specs.Prepare.{prepareOf}
 use Rattle.limiter.specs.Reset
 use Rattle.limiter.specs.Run.{movedOn, envelopeOf}
 use Rattle.limiter.specs.declared.state.Limiter.{Limiter}
@@ -22,7 +24,7 @@ use Rattle.bank.specs.Smoother.{immediateSet, resetOne}
 use Rattle.bank.specs.Bank.{unset, setUpOf, oneChanged, allChanged, valueOf}
 use Rattle.bank.specs.declared.smoother_bank.SmootherBank.{SmootherBank}
 use Rattle.driver.specs.Machine.{Machine, machineOf, thresholdParam, prepared, inOrder, resetRefusal}
-use Rattle.driver.specs.Block.{andThen, must, hasRoom}
+use Rattle.driver.specs.Block.{hasRoom}
 
 -- what a call without audio leaves
 pub record Left : Type 0 where
@@ -46,12 +48,16 @@ abbrev pub budgetReply : Cap → Reply
 budgetReply Cap.Unlimited = finished []
 budgetReply (Cap.Bytes cap) = cond (fitsCap bankBytes (Cap.Bytes cap)) (finished []) (refused 7 (count bankBytes ∷ count cap ∷ []))
 
--- the bank of one parameter (of eight declarations it takes the first), then 7, then the limiter's own setup with the rest of the cap; a refused setup leaves the limiter not set up
-unfoldable pub setupOf : LimiterSettings → ℕ → ℕ → ℕ → Cap → Stores → Left
-setupOf s rate channels block cap stores =
-    let b = setUpOf (replicate 8 (thresholdParam s)) 1 rate in
-    let l = prepareOf s rate channels block (leftOf bankBytes cap) stores in
-    let reply = andThen (b .reply) (andThen (budgetReply cap) (l .reply)) in
+-- "The bank's bytes are taken first; the limiter's cap is the rest"
+abbrev pub withRest : ProcessSpec → ProcessSpec
+withRest spec = record { rate = spec .rate; channels = spec .channels; «max_block» = spec .«max_block»; cap = leftOf bankBytes (spec .cap) }
+
+-- the bank of one parameter (of eight declarations it takes the first), then 7, then the limiter's own setup; a refused setup leaves the limiter not set up
+unfoldable pub setupOf : LimiterSettings → ProcessSpec → Stores → Left
+setupOf s spec stores =
+    let b = setUpOf (replicate 8 (thresholdParam s)) 1 (spec .rate) in
+    let l = prepareOf s (withRest spec) stores in
+    let reply = andThen (b .reply) (andThen (budgetReply (spec .cap)) (l .reply)) in
     settled reply (machineOf (l .limiter) (b .bank) (l .stores)) (machineOf notSetUp unset stores)
 
 -- ---- parameter call
@@ -75,6 +81,13 @@ unfoldable pub resetOf : Machine → Left
 resetOf m = settled (numbered (resetRefusal m)) (resetDone m) m
 
 -- ---- the lone gain step: marks, minima, weights and row are lent
+-- the four as a contract names them, beside any delay lines and detector store
+abbrev pub fourAtEntry : List Float → Lent ℕ → Lent Float → Lent Float → Lent Float → List Float → Stores
+fourAtEntry delay marks minima weights row detector = storesAt delay (now (marks .entry)) (now (minima .entry)) (now (weights .entry)) (now (row .entry)) detector
+
+abbrev pub fourAtExit : List Float → Lent ℕ → Lent Float → Lent Float → Lent Float → List Float → Stores
+fourAtExit delay marks minima weights row detector = storesAt delay (now (marks .exit)) (now (minima .exit)) (now (weights .exit)) (now (row .exit)) detector
+
 -- 16 of the four
 abbrev pub gainFits : Limiter → Stores → Bool
 gainFits l s =

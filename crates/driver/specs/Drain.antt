@@ -3,17 +3,16 @@ use Prim.Native.Nat.{ℕ, _+_, _-_, min}
 use mathlib.Core.Bool.{cond}
 use mathlib.Core.List.{List, [], _∷_}
 use lib.Dec.{eqb, leb}
-use lib.ListN.{length, replicate}
+use lib.ListN.{replicate}
 use lib.Ieee.{Float}
 use Rattle.arithmetic.specs.Number
-use Rattle.arithmetic.specs.Reply.{Reply, finished, count}
-use Rattle.frame.specs.Rules.{Rules}
-use Rattle.limiter.specs.Prepare.{numbered}
+use Rattle.arithmetic.specs.Reply.{Reply, finished, count, numbered, andThen, must}
+use Rattle.audio.specs.Format.{sizeOf, writtenBytes}
+use Rattle.audio.specs.declared.format.Format.{Format}
 use Rattle.limiter.specs.Run.{movedOn}
 use Rattle.limiter.specs.declared.state.Limiter.{Limiter}
 use Rattle.driver.specs.Machine.{Machine, machineOf, readyRefusal}
-use Rattle.driver.specs.Planar.{written}
-use Rattle.driver.specs.Block.{Renderer, rendered, sized, hasRoom, andThen, must, Outcome, refusedAs, outputsOf}
+use Rattle.driver.specs.Block.{Renderer, renderedIn, sized, hasRoom, Outcome, refusedAs, outputsOf}
 
 -- 20 in a drain: over 65,536 frames
 abbrev pub longestDrain : ℕ
@@ -42,23 +41,23 @@ withDrained l drained = movedOn l (l .env) (l .«delay_pos») (l .target) draine
 abbrev pub silence : ℕ → ℕ → List (List Float)
 silence channels n = replicate n (replicate channels Number.zero)
 
-abbrev pub drainDone : Renderer → Machine → ℕ → List Float → Outcome
-drainDone render m frames audio =
+abbrev pub drainDone : Renderer → Format → Machine → ℕ → List ℕ → Outcome
+drainDone render format m frames bytes =
     let l = m .limiter in
     let n = drainable l frames in
     let r = render l (m .stores) (l .target) (silence (l .channels) n) in
     record {
       reply = finished (count n ∷ count (doneAt l (l .drained + n)) ∷ []);
       machine = machineOf (withDrained (r .limiter) (l .drained + n)) (m .bank) (r .stores);
-      audio = written frames (l .channels) n audio (outputsOf (r .frames));
+      bytes = writtenBytes format frames (l .channels) n bytes (outputsOf (r .frames));
       frames = r .frames;
     }
 
 -- a drain, with any renderer
-unfoldable pub drainBy : Renderer → Machine → ℕ → List Float → Outcome
-drainBy render m frames audio =
-    let reply = drainReply m frames (length audio) in
-    cond (eqb (reply .number) 0) (drainDone render m frames audio) (refusedAs reply m audio)
+unfoldable pub drainBy : Renderer → Format → Machine → ℕ → List ℕ → Outcome
+drainBy render format m frames bytes =
+    let reply = drainReply m frames (sizeOf format bytes) in
+    cond (eqb (reply .number) 0) (drainDone render format m frames bytes) (refusedAs reply m bytes)
 
-abbrev pub drainOf : Rules → Machine → ℕ → List Float → Outcome
-drainOf rules m frames audio = drainBy (rendered rules) m frames audio
+abbrev pub drainOf : Format → Machine → ℕ → List ℕ → Outcome
+drainOf format m frames bytes = drainBy (renderedIn format m) format m frames bytes

@@ -3,46 +3,35 @@ use Prim.Native.Nat.{ℕ, _+_, _-_, _*_, _/_, _≤_, _<_}
 use mathlib.Core.Path.{_≡_}
 use mathlib.Core.Bool.{true}
 use mathlib.Core.List.{List, _++_}
-use lib.ListN.{length, getD}
+use lib.ListN.{length}
 use lib.Ieee.{Float, nan}
 use Rattle.arithmetic.specs.Number
 use Rattle.arithmetic.specs.Number.{one, within}
+use Rattle.audio.specs.Planar.{framesAt}
+use Rattle.audio.specs.Format.{sizeOf, samplesOf, writtenBytes}
+use Rattle.audio.specs.declared.format.Format.{Format}
 use Rattle.detector.specs.Run.{runLength}
 use Rattle.keeper.specs.InOrder.{mostFrames}
-use Rattle.frame.specs.Rules.{presentRules}
+use Rattle.frame.specs.Rules.{rulesOf}
 use Rattle.limiter.specs.Stores.{Stores, lengthsOf, lengthsFit}
 use Rattle.limiter.specs.Order
 use Rattle.limiter.specs.declared.state.Limiter.{Limiter}
 use Rattle.bank.specs.declared.smoother_bank.SmootherBank.{SmootherBank}
 use Rattle.driver.specs.Machine.{Machine}
-use Rattle.driver.specs.Planar.{framesAt, written}
-use Rattle.driver.specs.Events.{Event, eventsFrom, Latched, latched}
-use Rattle.driver.specs.Block.{Rendered, rendered, bankAt, outputsOf, farthest}
+use Rattle.driver.specs.Events.{Event, eventsFrom, eventsOf, Latched, latched}
+use Rattle.driver.specs.Block.{Rendered, rendered, renderedIn, runAt, bankAt, Turn, turnOf, farthest, Outcome, outputsOf, blockDone}
 use Rattle.driver.specs.Drain.{silence}
 use Rattle.driver.specs.declared.events.LatchedTo.{LatchedTo}
+use Rattle.driver.specs.declared.turn.Unfinished.{Unfinished}
 
--- ---- places carried from one planar list to another; `none` stands past a list's end
--- n of them from one place on to another place on, and everything else as it was
-pub record PlacesCopied {A : Type 0} (none : A) (n from : ℕ) (source : List A) (to : ℕ) (before after : List A) : Type 0 where
-  pub there : (i : ℕ) → i < n → getD after (to + i) none ≡ getD source (from + i) none
-  pub elsewhere : (p : ℕ) → (to ≤ p → to + n ≤ p) → getD after p none ≡ getD before p none
+-- ---- events
+-- those from an index on
+abbrev pub waitingAt : List ℕ → ℕ → List Event
+waitingAt words cursor = eventsFrom words cursor (length words / 3 - cursor)
 
--- n frames from frame `from` of a list of `width` places a channel to frame `to` of a list of `width'` places a channel
-pub record PlacesCarried {A : Type 0} (none : A) (channels n width from : ℕ) (source : List A) (width' to : ℕ) (before after : List A) : Type 0 where
-  pub there : (c i : ℕ) → c < channels → i < n → getD after (c * width' + to + i) none ≡ getD source (c * width + from + i) none
-  pub elsewhere : (p : ℕ) → ((c : ℕ) → c < channels → c * width' + to ≤ p → c * width' + to + n ≤ p) → getD after p none ≡ getD before p none
-
--- samples
-abbrev pub Copied : ℕ → ℕ → List Float → ℕ → List Float → List Float → Type 0
-Copied n from source to before after = PlacesCopied nan n from source to before after
-
-abbrev pub Carried : ℕ → ℕ → ℕ → ℕ → List Float → ℕ → ℕ → List Float → List Float → Type 0
-Carried channels n width from source width' to before after = PlacesCarried nan channels n width from source width' to before after
-
--- ---- before a run
--- as the code hands it on: the cursor is the index of the first event that waits
+-- as the code hands them on: the cursor is the index of the first event that waits
 abbrev pub latchedAt : LatchedTo → List ℕ → Latched
-latchedAt r words = record { bank = r .bank; waiting = eventsFrom words (r .cursor) (length words / 3 - r .cursor) }
+latchedAt r words = record { bank = r .bank; waiting = waitingAt words (r .cursor) }
 
 -- latch, then step
 abbrev pub beforeRun : ℕ → ℕ → List Event → SmootherBank → Latched
@@ -58,42 +47,85 @@ pub record RunsReady (l : Limiter) (left : ℕ) (s : Stores) : Type 0 where
   pub order : Order.inOrder l (s .marks) (s .minima) (s .row) ≡ true
   pub room : l .env .keeper .frame + left ≤ mostFrames
 
--- n frames, from the frame `first` of a call's audio on, at a target; the run's own audio has 32 places for each of 8 channels
-pub record RunAsked (l : Limiter) (target : Float) (width first n : ℕ) (s : Stores) (audio run : List Float) : Type 0 where
+-- the call's audio, so many frames a channel; the run's own has 32 places for each of 8 channels
+pub record Lends (l : Limiter) (format : Format) (width : ℕ) (bytes : List ℕ) (run : List Float) : Type 0 where
+  pub short : width ≤ 65536
+  pub audio-fit : sizeOf format bytes ≡ l .channels * width
+  pub run-fit : length run ≡ 8 * runLength
+
+-- n frames, from the frame `first` of a call's audio on, at a target
+pub record RunAsked (l : Limiter) (format : Format) (target : Float) (width first n : ℕ) (s : Stores) (bytes : List ℕ) (run : List Float) : Type 0 where
   pub ready : RunsReady l n s
+  pub lends : Lends l format width bytes run
   pub unit : within Number.zero one target ≡ true
   pub some : 1 ≤ n
   pub short : n ≤ runLength
   pub inside : first + n ≤ width
-  pub audio-fit : length audio ≡ l .channels * width
-  pub run-fit : length run ≡ 8 * runLength
 
--- those frames are rendered, the outputs join the ones before them, and limiter and stores are as ready as they were
-pub record RunGiven (l : Limiter) (target : Float) (width first n : ℕ) (s : Stores) (audio : List Float) (after : Limiter) (stores : Stores) (audio' : List Float) : Type 0 where
-  pub limiter-is : after ≡ rendered presentRules l s target (framesAt width (l .channels) first n audio) .limiter
-  pub stores-are : stores ≡ rendered presentRules l s target (framesAt width (l .channels) first n audio) .stores
-  pub audio-is : (before : List Float) (outputs : List (List Float)) → length outputs ≡ first → length before ≡ l .channels * width → audio ≡ written width (l .channels) first before outputs
-      → audio' ≡ written width (l .channels) (first + n) before (outputs ++ outputsOf (rendered presentRules l s target (framesAt width (l .channels) first n audio) .frames))
+-- whatever outputs the frames before `first` have in the audio, those of the next n frames join them
+abbrev pub Joins : Format → ℕ → ℕ → ℕ → ℕ → List ℕ → List (List Float) → List ℕ → Type 0
+Joins format width channels first n bytes more after =
+    (before : List ℕ) (outputs : List (List Float)) → length outputs ≡ first → sizeOf format before ≡ channels * width
+    → bytes ≡ writtenBytes format width channels first before outputs → after ≡ writtenBytes format width channels (first + n) before (outputs ++ more)
+
+-- those frames are rendered, their outputs join the ones before them, and limiter and stores are as ready as they were
+pub record RunGiven (l : Limiter) (format : Format) (target : Float) (width first n : ℕ) (s : Stores) (bytes : List ℕ) (after : Limiter) (stores : Stores) (bytes' : List ℕ) : Type 0 where
+  pub limiter-is : after ≡ rendered (rulesOf (l .settings) format) l s target (framesAt nan width (l .channels) first n (samplesOf format bytes)) .limiter
+  pub stores-are : stores ≡ rendered (rulesOf (l .settings) format) l s target (framesAt nan width (l .channels) first n (samplesOf format bytes)) .stores
+  pub audio-is : Joins format width (l .channels) first n bytes (outputsOf (rendered (rulesOf (l .settings) format) l s target (framesAt nan width (l .channels) first n (samplesOf format bytes)) .frames)) bytes'
   pub still : (left : ℕ) → l .env .keeper .frame + (n + left) ≤ mostFrames → RunsReady after left stores
 
--- ---- the runs of a block
+-- ---- a turn of a block
+-- the frames that are left, and the absolute position of the first of them
+abbrev pub leftOf : Unfinished → ℕ
+leftOf b = b .frames - b .rendered
+
+abbrev pub standsAt : Unfinished → ℕ
+standsAt b = b .position + b .rendered
+
+-- machine and geometry judged, room for the frames left, and one of them at least
+pub record TurnAsked (m : Machine) (block : Unfinished) (format : Format) (words : List ℕ) (bytes : List ℕ) (run : List Float) : Type 0 where
+  pub ready : RunsReady (m .limiter) (leftOf block) (m .stores)
+  pub lends : Lends (m .limiter) format (block .frames) bytes run
+  pub far : block .position + block .frames ≤ farthest
+  pub more : block .rendered < block .frames
+  pub events-left : block .latched ≤ length words / 3
+
+-- the definition's turn, of the run that starts where the block stands
+abbrev pub turnAt : Format → Machine → Unfinished → List ℕ → List ℕ → Turn
+turnAt format m block words bytes =
+    turnOf (renderedIn format m) (standsAt block) (block .rendered) (waitingAt words (block .latched))
+    (framesAt nan (block .frames) (m .limiter .channels) (block .rendered) (runAt (standsAt block) (leftOf block)) (samplesOf format bytes)) m
+
+pub record TurnGiven (m : Machine) (block : Unfinished) (format : Format) (words : List ℕ) (bytes : List ℕ) (after : Machine) (next : Unfinished) (bytes' : List ℕ) : Type 0 where
+  pub machine-is : after ≡ turnAt format m block words bytes .machine
+  pub waiting-is : waitingAt words (next .latched) ≡ turnAt format m block words bytes .waiting
+  pub events-left : next .latched ≤ length words / 3
+  pub position-is : next .position ≡ block .position
+  pub frames-is : next .frames ≡ block .frames
+  pub rendered-is : next .rendered ≡ block .rendered + runAt (standsAt block) (leftOf block)
+  pub audio-is : Joins format (block .frames) (m .limiter .channels) (block .rendered) (runAt (standsAt block) (leftOf block)) bytes (outputsOf (turnAt format m block words bytes .frames)) bytes'
+  pub ready : RunsReady (after .limiter) (leftOf next) (after .stores)
+
+-- ---- the turns of a block
 -- machine and geometry judged, room for the frames
-pub record BlockAsked (m : Machine) (position frames : ℕ) (audio run : List Float) : Type 0 where
+pub record BlockAsked (m : Machine) (format : Format) (position frames : ℕ) (bytes : List ℕ) (run : List Float) : Type 0 where
   pub ready : RunsReady (m .limiter) frames (m .stores)
-  pub short : frames ≤ 65536
+  pub lends : Lends (m .limiter) format frames bytes run
   pub far : position + frames ≤ farthest
-  pub audio-fit : length audio ≡ m .limiter .channels * frames
-  pub run-fit : length run ≡ 8 * runLength
+
+-- what they leave
+abbrev pub driven : Format → Machine → ℕ → ℕ → List ℕ → List ℕ → Outcome
+driven format m position frames words bytes = blockDone (renderedIn format m) format m position frames (eventsOf words) bytes
 
 -- ---- the runs of a drain
 -- so many frames of silence at the kept target
-abbrev pub silent : Limiter → Stores → ℕ → Rendered
-silent l s n = rendered presentRules l s (l .target) (silence (l .channels) n)
+abbrev pub silent : Format → Limiter → Stores → ℕ → Rendered
+silent format l s n = rendered (rulesOf (l .settings) format) l s (l .target) (silence (l .channels) n)
 
 -- limiter and stores judged, with room for n frames, which lie in the tail and in the audio
-pub record DrainAsked (l : Limiter) (n width : ℕ) (s : Stores) (audio run : List Float) : Type 0 where
+pub record DrainAsked (l : Limiter) (format : Format) (n width : ℕ) (s : Stores) (bytes : List ℕ) (run : List Float) : Type 0 where
   pub ready : RunsReady l n s
+  pub lends : Lends l format width bytes run
   pub tail : l .drained + n ≤ l .env .keeper .look
   pub inside : n ≤ width
-  pub audio-fit : length audio ≡ l .channels * width
-  pub run-fit : length run ≡ 8 * runLength

@@ -1,4 +1,7 @@
-// What each call answers: a case for each refusal of document 01's table that can arise there.
+// What the calls answer: finished work, or one refusal of document 01's table.
+ghost use mathlib.Core.Path.{_≡_};
+ghost use lib.Dec.{eqb};
+ghost use Rattle.driver.specs.Answers.{answerReply};
 use crate::state::KernelProcessor;
 use bank::param::BankRefusal;
 use bank::smoother_bank::ParamSet;
@@ -16,9 +19,8 @@ pub struct SetUp {
     pub processor: KernelProcessor,
 }
 
-// A block: 18, 16, 19, 20, 21 with the event's index, 22.
-pub enum ProcessAnswer {
-    Finished,
+// Why a call on a limiter is refused: 18, 16, 19, 20, 21 with the event's index, 22.
+pub enum Refusal {
     NotSetUp,
     StoreLength,
     OutOfOrder,
@@ -27,19 +29,32 @@ pub enum ProcessAnswer {
     TooFar,
 }
 
-pub struct Processed {
-    pub answer: ProcessAnswer,
+// A block, a reset, and what judges a call: nothing is refused, or the first refusal that arises.
+pub enum Answer {
+    Finished,
+    Refused(Refusal),
+}
+
+impl Answer {
+    pub fn is_finished(self) -> bool
+        ensures { λ r. ⌜ r ≡ eqb (answerReply self .number) 0 ⌝ }
+    {
+        match self {
+            Answer::Finished => true,
+            Answer::Refused(_) => false,
+        }
+    }
+}
+
+pub struct Called {
+    pub answer: Answer,
     pub processor: KernelProcessor,
 }
 
-// A drain: 18, 16, 19, 20, 22; finished work tells the frames written, and whether the tail is done.
+// A drain: finished work tells the frames written, and whether the tail is done.
 pub enum FlushAnswer {
     Finished { written: usize, done: bool },
-    NotSetUp,
-    StoreLength,
-    OutOfOrder,
-    Geometry,
-    TooFar,
+    Refused(Refusal),
 }
 
 pub struct Flushed {
@@ -47,7 +62,7 @@ pub struct Flushed {
     pub processor: KernelProcessor,
 }
 
-// A gain step: 18, 16, 19, 22; a finished one tells the floor, the entries dropped and kept, the tally, the mean and the gain.
+// A gain step: a finished one tells the floor, the entries dropped and kept, the tally, the mean and the gain.
 pub enum GainAnswer {
     Finished {
         floor: f64,
@@ -57,10 +72,7 @@ pub enum GainAnswer {
         mean: f64,
         gain: f64,
     },
-    NotSetUp,
-    StoreLength,
-    OutOfOrder,
-    TooFar,
+    Refused(Refusal),
 }
 
 pub struct GainStepped {
@@ -71,17 +83,5 @@ pub struct GainStepped {
 // A parameter call: 18, 23 with the parameter's id and the offending value, 24.
 pub struct ParamCalled {
     pub answer: ParamSet,
-    pub processor: KernelProcessor,
-}
-
-// A reset: 18, then 16.
-pub enum ResetAnswer {
-    Finished,
-    NotSetUp,
-    StoreLength,
-}
-
-pub struct WasReset {
-    pub answer: ResetAnswer,
     pub processor: KernelProcessor,
 }

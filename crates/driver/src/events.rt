@@ -1,11 +1,12 @@
 // The events of a block: three words each, offset, id and the value's bits (driver.rs: latch_events).
 ghost use mathlib.Core.Path.{_≡_};
-ghost use Prim.Native.Nat.{_+_, _*_, _-_, _/_, _<_, _≤_};
+ghost use Prim.Native.Nat.{_+_, _*_, _/_, _<_, _≤_};
 ghost use lib.ListN.{length};
-ghost use Rattle.driver.specs.Answers.{processReply};
-ghost use Rattle.driver.specs.Events.{eventAt, eventsFrom, eventsOf, misplaced, eventsReply, latchedOne, latched, latchedAll};
-ghost use Rattle.driver.specs.Inner.{latchedAt};
-use crate::answers::ProcessAnswer;
+ghost use Rattle.driver.specs.Answers.{answerReply};
+ghost use Rattle.driver.specs.Events.{eventAt, eventsOf, misplaced, eventsReply, latchedOne, latched, latchedAll};
+ghost use Rattle.driver.specs.Inner.{waitingAt, latchedAt, beforeRun};
+use crate::answers::Answer;
+use crate::answers::Refusal;
 use arithmetic::number::is_finite;
 use arithmetic::pattern::from_bits;
 use bank::smoother::Change;
@@ -28,20 +29,20 @@ fn is_misplaced(events: &[u64], i: usize, frames: u64, before: u64) -> bool
 }
 
 // 21 with the first such event's index.
-pub fn check_events(events: &[u64], frames: u64) -> ProcessAnswer
-    ensures { λ r. ⌜ processReply r ≡ eventsReply frames 0 0 (eventsOf (now (events .entry))) ⌝ }
+pub fn check_events(events: &[u64], frames: u64) -> Answer
+    ensures { λ r. ⌜ answerReply r ≡ eventsReply frames 0 0 (eventsOf (now (events .entry))) ⌝ }
 {
     let n = events.len() / 3;
     let mut before: u64 = 0;
     let mut i: usize = 0;
     while i < n {
         if is_misplaced(events, i, frames, before) {
-            return ProcessAnswer::Event { index: i };
+            return Answer::Refused(Refusal::Event { index: i });
         }
         before = events[3 * i];
         i += 1;
     }
-    ProcessAnswer::Finished
+    Answer::Finished
 }
 
 // Event i latched; an unknown id is ignored.
@@ -61,7 +62,7 @@ fn latch_one(bank: SmootherBank, events: &[u64], i: usize) -> SmootherBank
 pub fn latch(bank: SmootherBank, events: &[u64], cursor: usize, first: u64) -> LatchedTo
     requires { ⌜ cursor ≤ length (now events) / 3 ⌝ }
     ensures { λ r. ⌜ r .cursor ≤ length (now (events .entry)) / 3 ⌝ }
-    ensures { λ r. ⌜ latchedAt r (now (events .entry)) ≡ latched first (eventsFrom (now (events .entry)) cursor (length (now (events .entry)) / 3 - cursor)) bank ⌝ }
+    ensures { λ r. ⌜ latchedAt r (now (events .entry)) ≡ latched first (waitingAt (now (events .entry)) cursor) bank ⌝ }
 {
     let n = events.len() / 3;
     let mut b = bank;
@@ -79,7 +80,7 @@ pub fn latch(bank: SmootherBank, events: &[u64], cursor: usize, first: u64) -> L
 // Latches every event from a cursor on.
 pub fn latch_rest(bank: SmootherBank, events: &[u64], cursor: usize) -> SmootherBank
     requires { ⌜ cursor ≤ length (now events) / 3 ⌝ }
-    ensures { λ r. ⌜ r ≡ latchedAll (eventsFrom (now (events .entry)) cursor (length (now (events .entry)) / 3 - cursor)) bank ⌝ }
+    ensures { λ r. ⌜ r ≡ latchedAll (waitingAt (now (events .entry)) cursor) bank ⌝ }
 {
     let n = events.len() / 3;
     let mut b = bank;
@@ -89,4 +90,30 @@ pub fn latch_rest(bank: SmootherBank, events: &[u64], cursor: usize) -> Smoother
         i += 1;
     }
     b
+}
+
+// Before a run: latch, then step the bank at a multiple of 32.
+pub fn before_run(
+    bank: SmootherBank,
+    events: &[u64],
+    cursor: usize,
+    position: u64,
+    first: u64,
+) -> LatchedTo
+    requires { ⌜ cursor ≤ length (now events) / 3 ⌝ }
+    ensures { λ r. ⌜ r .cursor ≤ length (now (events .entry)) / 3 ⌝ }
+    ensures { λ r. ⌜ latchedAt r (now (events .entry)) ≡ beforeRun position first (waitingAt (now (events .entry)) cursor) bank ⌝ }
+{
+    let l = latch(bank, events, cursor, first);
+    let b = l.bank;
+    if position % 32 == 0 {
+        return LatchedTo {
+            bank: b.apply_all(Change::Step),
+            cursor: l.cursor,
+        };
+    }
+    LatchedTo {
+        bank: b,
+        cursor: l.cursor,
+    }
 }

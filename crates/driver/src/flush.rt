@@ -2,39 +2,27 @@
 ghost use mathlib.Core.Path.{_≡_};
 ghost use mathlib.Core.Bool.{true};
 ghost use Prim.Native.Nat.{_+_, _≤_, min};
-ghost use Rattle.detector.specs.Run.{runLength};
-ghost use Rattle.frame.specs.Rules.{presentRules};
+ghost use Rattle.audio.specs.Format.{writtenBytes};
 ghost use Rattle.limiter.specs.Order.{prepared};
-ghost use Rattle.limiter.specs.Prepare.{numbered};
 ghost use Rattle.limiter.specs.Stores.{Stores, atEntry, atExit, atCall};
 ghost use Rattle.driver.specs.Machine.{machineAt};
-ghost use Rattle.driver.specs.Planar.{written};
-ghost use Rattle.driver.specs.Block.{outputsOf};
+ghost use Rattle.driver.specs.Block.{period, outputsOf};
 ghost use Rattle.driver.specs.Drain.{tailReply, drainReply, drainable, withDrained, drainOf};
 ghost use Rattle.driver.specs.Inner.{silent, DrainAsked};
-ghost use Rattle.driver.specs.Answers.{flushAnswerOf, flushedAt, seen};
+ghost use Rattle.driver.specs.Answers.{answerReply, flushedAt, seen};
+use crate::answers::Answer;
 use crate::answers::FlushAnswer;
 use crate::answers::Flushed;
-use crate::planar::carry;
-use crate::run::run_room;
+use crate::answers::Refusal;
 use crate::state::KernelProcessor;
+use crate::turn::run_room;
+use audio::format::Format;
+use audio::format::size_of;
+use audio::planar::scatter;
 use limiter::state::Limiter;
 
-// The case of 18, 16, 19, 20 and 22.
-pub fn answer_of(number: u32) -> FlushAnswer
-    ensures { λ r. ⌜ r ≡ flushAnswerOf number ⌝ }
-{
-    match number {
-        18 => FlushAnswer::NotSetUp,
-        16 => FlushAnswer::StoreLength,
-        19 => FlushAnswer::OutOfOrder,
-        20 => FlushAnswer::Geometry,
-        _ => FlushAnswer::TooFar,
-    }
-}
-
 // The frames of the tail that a drain writes.
-pub fn drainable(limiter: Limiter, frames: usize) -> usize
+fn drainable(limiter: Limiter, frames: usize) -> usize
     requires { ⌜ limiter .drained ≤ limiter .env .keeper .look ⌝ }
     ensures { λ r. ⌜ r ≡ drainable limiter frames ⌝ }
 {
@@ -43,8 +31,8 @@ pub fn drainable(limiter: Limiter, frames: usize) -> usize
 }
 
 // The frames of the next run of a tail.
-pub fn tail_run(left: usize) -> usize
-    ensures { λ r. ⌜ r ≡ min left runLength ⌝ }
+fn tail_run(left: usize) -> usize
+    ensures { λ r. ⌜ r ≡ min left period ⌝ }
 {
     if left < 32 { left } else { 32 }
 }
@@ -52,9 +40,10 @@ pub fn tail_run(left: usize) -> usize
 // Drains n frames of the tail, in runs.
 fn drain_frames(
     limiter: Limiter,
+    format: Format,
     n: usize,
     width: usize,
-    audio: &mut [f64],
+    audio: &mut [u8],
     run: &mut [f64],
     delay: &mut [f64],
     marks: &mut [u64],
@@ -63,48 +52,47 @@ fn drain_frames(
     row: &mut [f64],
     detector: &mut [f64],
 ) -> Limiter
-    requires { ⌜ DrainAsked limiter n width (atCall delay marks minima weights row detector) (now audio) (now run) ⌝ }
-    ensures { λ r. ⌜ r
-        ≡ withDrained (silent limiter (atEntry delay marks minima weights row detector) n .limiter) (limiter .drained + n) ⌝ }
-    ensures { λ _. ⌜ atExit delay marks minima weights row detector
-        ≡ silent limiter (atEntry delay marks minima weights row detector) n .stores ⌝ }
+    requires { ⌜ DrainAsked limiter format n width (atCall delay marks minima weights row detector) (now audio) (now run) ⌝ }
+    ensures { λ r. ⌜ r ≡ withDrained (silent format limiter (atEntry delay marks minima weights row detector) n .limiter) (limiter .drained + n) ⌝ }
+    ensures { λ _. ⌜ atExit delay marks minima weights row detector ≡ silent format limiter (atEntry delay marks minima weights row detector) n .stores ⌝ }
     ensures { λ _. ⌜ now (audio .exit)
-        ≡ written width (limiter .channels) n (now (audio .entry)) (outputsOf (silent limiter (atEntry delay marks minima weights row detector) n .frames)) ⌝ }
+        ≡ writtenBytes format width (limiter .channels) n (now (audio .entry))
+        (outputsOf (silent format limiter (atEntry delay marks minima weights row detector) n .frames)) ⌝ }
 {
     let channels = limiter.channels;
     let mut l = limiter;
     let mut first: usize = 0;
     while first < n {
         let len = tail_run(n - first);
-        l = l.drain(len, run, delay, marks, minima, weights, row, detector);
-        carry(channels, len, 32, 0, run, width, first, audio);
+        l = l.drain(format, len, run, delay, marks, minima, weights, row, detector);
+        scatter(format, channels, len, run, width, first, audio);
         first += len;
     }
     l
 }
 
 impl KernelProcessor {
-    // 20 or 22, for a limiter that is set up; 0 where neither arises. No store is read.
-    fn judge_tail(self, frames: usize, size: usize) -> u32
+    // 20, then 22, for a limiter that is set up. No store is read.
+    fn judge_tail(self, frames: usize, size: usize) -> Answer
         requires { ⌜ prepared (self .limiter) ≡ true ⌝ }
-        ensures { λ r. ⌜ ((s : Stores) → numbered r ≡ tailReply (machineAt self s) frames size) ⌝ }
+        ensures { λ r. ⌜ ((s : Stores) → answerReply r ≡ tailReply (machineAt self s) frames size) ⌝ }
     {
         let l = self.limiter;
         if frames > 65536 {
-            return 20;
+            return Answer::Refused(Refusal::Geometry);
         }
         if size != l.channels * frames {
-            return 20;
+            return Answer::Refused(Refusal::Geometry);
         }
         if l.env.keeper.frame <= 1099511627776 - frames as u64 {
-            0
+            Answer::Finished
         } else {
-            22
+            Answer::Refused(Refusal::TooFar)
         }
     }
 
-    // 18, 16, 19, 20 or 22, the first that arises; 0 where none does.
-    pub fn drain_refusal(
+    // What a drain answers, before anything is written.
+    fn judge_drain(
         self,
         frames: usize,
         size: usize,
@@ -114,13 +102,12 @@ impl KernelProcessor {
         weights: &[f64],
         row: &[f64],
         detector: &[f64],
-    ) -> u32
-        ensures { λ r. ⌜ numbered r
-            ≡ drainReply (machineAt self (atEntry delay marks minima weights row detector)) frames size ⌝ }
+    ) -> Answer
+        ensures { λ r. ⌜ answerReply r ≡ drainReply (machineAt self (atEntry delay marks minima weights row detector)) frames size ⌝ }
     {
-        let number = self.refusal(delay, marks, minima, weights, row, detector);
-        if number != 0 {
-            return number;
+        let answer = self.judge(delay, marks, minima, weights, row, detector);
+        if !answer.is_finished() {
+            return answer;
         }
         self.judge_tail(frames, size)
     }
@@ -129,8 +116,9 @@ impl KernelProcessor {
     // done. A refused one changes nothing.
     pub fn flush(
         self,
+        format: Format,
         frames: usize,
-        audio: &mut [f64],
+        audio: &mut [u8],
         delay: &mut [f64],
         marks: &mut [u64],
         minima: &mut [f64],
@@ -139,13 +127,13 @@ impl KernelProcessor {
         detector: &mut [f64],
     ) -> Flushed
         ensures { λ r. ⌜ flushedAt r (atExit delay marks minima weights row detector) (now (audio .exit))
-            ≡ seen (drainOf presentRules (machineAt self (atEntry delay marks minima weights row detector)) frames (now (audio .entry))) ⌝ }
+            ≡ seen (drainOf format (machineAt self (atEntry delay marks minima weights row detector)) frames (now (audio .entry))) ⌝ }
     {
-        let size = audio.len();
-        let number = self.drain_refusal(frames, size, delay, marks, minima, weights, row, detector);
-        if number != 0 {
+        let size = size_of(format, audio);
+        let answer = self.judge_drain(frames, size, delay, marks, minima, weights, row, detector);
+        if let Answer::Refused(why) = answer {
             return Flushed {
-                answer: answer_of(number),
+                answer: FlushAnswer::Refused(why),
                 processor: self,
             };
         }
@@ -155,17 +143,7 @@ impl KernelProcessor {
         let done = limiter.env.keeper.look <= limiter.drained + n;
         let mut run = run_room();
         let after = drain_frames(
-            limiter,
-            n,
-            frames,
-            audio,
-            &mut run,
-            delay,
-            marks,
-            minima,
-            weights,
-            row,
-            detector,
+            limiter, format, n, frames, audio, &mut run, delay, marks, minima, weights, row, detector,
         );
         Flushed {
             answer: FlushAnswer::Finished { written: n, done },

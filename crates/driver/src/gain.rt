@@ -4,13 +4,15 @@ ghost use mathlib.Core.List.{List};
 ghost use Prim.Native.Nat.{ℕ, _≤_};
 ghost use lib.Ieee.{Float};
 ghost use Rattle.envelope.specs.Step.{gainStepAt};
-ghost use Rattle.limiter.specs.Stores.{storesAt};
+ghost use Rattle.arithmetic.specs.Reply.{numbered};
 ghost use Rattle.limiter.specs.Run.{movedOn};
 ghost use Rattle.driver.specs.Machine.{machineAt};
-ghost use Rattle.driver.specs.Calls.{gainFits, gainReply, gainTold, gainStep};
-ghost use Rattle.driver.specs.Answers.{gainAnswerOf, gainReplyOf, gainSteppedAt};
+ghost use Rattle.driver.specs.Calls.{fourAtEntry, fourAtExit, gainFits, gainReply, gainTold, gainStep};
+ghost use Rattle.driver.specs.Answers.{answerReply, gainReplyOf, gainSteppedAt};
+use crate::answers::Answer;
 use crate::answers::GainAnswer;
 use crate::answers::GainStepped;
+use crate::answers::Refusal;
 use crate::ready::target_in_range;
 use crate::state::KernelProcessor;
 use envelope::env::Envelope;
@@ -21,23 +23,12 @@ use settings::memory::row_len;
 // 16 of the four stores that a gain step is lent.
 fn stores_fit(l: Limiter, marks: &[u64], minima: &[f64], weights: &[f64], row: &[f64]) -> bool
     requires { ⌜ l .env .keeper .look ≤ 4096 ⌝ }
-    ensures { λ r. ⌜ ((delay detector : List Float) → r ≡ gainFits l (storesAt delay (now (marks .entry)) (now (minima .entry)) (now (weights .entry)) (now (row .entry)) detector)) ⌝ }
+    ensures { λ r. ⌜ ((delay detector : List Float) → r
+        ≡ gainFits l (fourAtEntry delay marks minima weights row detector)) ⌝ }
 {
     let look = l.env.keeper.look;
     let n = row_len(look);
     (marks.len() == look + 1) & (minima.len() == look + 1) & (weights.len() == n) & (row.len() == n)
-}
-
-// The case of a number other than 0.
-fn answer_of(number: u32) -> GainAnswer
-    ensures { λ r. ⌜ r ≡ gainAnswerOf number ⌝ }
-{
-    match number {
-        18 => GainAnswer::NotSetUp,
-        16 => GainAnswer::StoreLength,
-        19 => GainAnswer::OutOfOrder,
-        _ => GainAnswer::TooFar,
-    }
 }
 
 // What a finished step tells.
@@ -65,26 +56,27 @@ fn with_env(l: Limiter, env: Envelope) -> Limiter
 }
 
 impl KernelProcessor {
-    // 18, 16, 19 or 22, the first that arises; 0 where none does.
-    fn gain_refusal(self, marks: &[u64], minima: &[f64], weights: &[f64], row: &[f64]) -> u32
-        ensures { λ r. ⌜ ((delay detector : List Float) → r ≡ gainReply (machineAt self (storesAt delay (now (marks .entry)) (now (minima .entry)) (now (weights .entry)) (now (row .entry)) detector))) ⌝ }
+    // 18, then 16, then 19, then 22.
+    fn judge_gain(self, marks: &[u64], minima: &[f64], weights: &[f64], row: &[f64]) -> Answer
+        ensures { λ r. ⌜ ((delay detector : List Float) → answerReply r
+            ≡ numbered (gainReply (machineAt self (fourAtEntry delay marks minima weights row detector)))) ⌝ }
     {
         if !self.is_prepared() {
-            return 18;
+            return Answer::Refused(Refusal::NotSetUp);
         }
         let l = self.limiter;
         let b = self.bank;
         if !stores_fit(l, marks, minima, weights, row) {
-            return 16;
+            return Answer::Refused(Refusal::StoreLength);
         }
         let kernel = l.in_order(marks, minima, row);
         if !(kernel & target_in_range(b)) {
-            return 19;
+            return Answer::Refused(Refusal::OutOfOrder);
         }
         if l.env.keeper.frame < 1099511627776 {
-            0
+            Answer::Finished
         } else {
-            22
+            Answer::Refused(Refusal::TooFar)
         }
     }
 
@@ -97,12 +89,13 @@ impl KernelProcessor {
         weights: &[f64],
         row: &mut [f64],
     ) -> GainStepped
-        ensures { λ r. ⌜ ((delay detector : List Float) → gainSteppedAt r (storesAt delay (now (marks .exit)) (now (minima .exit)) (now (weights .entry)) (now (row .exit)) detector) ≡ gainStep (machineAt self (storesAt delay (now (marks .entry)) (now (minima .entry)) (now (weights .entry)) (now (row .entry)) detector)) gain) ⌝ }
+        ensures { λ r. ⌜ ((delay detector : List Float) → gainSteppedAt r (fourAtExit delay marks minima weights row detector)
+            ≡ gainStep (machineAt self (fourAtEntry delay marks minima weights row detector)) gain) ⌝ }
     {
-        let number = self.gain_refusal(marks, minima, weights, row);
-        if number != 0 {
+        let judged = self.judge_gain(marks, minima, weights, row);
+        if let Answer::Refused(why) = judged {
             return GainStepped {
-                answer: answer_of(number),
+                answer: GainAnswer::Refused(why),
                 processor: self,
             };
         }

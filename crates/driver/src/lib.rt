@@ -14,13 +14,11 @@ pub mod reset;
 pub mod setup;
 // The lone gain step.
 pub mod gain;
-// Samples between a call's audio and a run's.
-mod planar;
 // Events: 21, and how they latch.
 pub mod events;
-// One run of a block.
-pub mod run;
-// The runs of a block.
+// One turn of a block.
+pub mod turn;
+// The turns of a block.
 mod drive;
 // A block.
 pub mod process;

@@ -1,15 +1,17 @@
 // 18, 16 and 19 of the whole machine, in the table's order.
 ghost use mathlib.Core.Path.{_≡_};
+ghost use Rattle.arithmetic.specs.Reply.{numbered};
 ghost use Rattle.limiter.specs.Stores.{atEntry};
 ghost use Rattle.bank.specs.Bank.{slotAt};
+ghost use Rattle.driver.specs.Answers.{answerReply};
 ghost use Rattle.driver.specs.Machine.{machineAt, isLinear, declares, prepared, targetInRange, readyRefusal, resetRefusal};
+use crate::answers::Answer;
+use crate::answers::Refusal;
 use crate::state::KernelProcessor;
 use arithmetic::pattern::same_value;
 use bank::param::Smoothing;
 use bank::smoother::Smoother;
 use bank::smoother_bank::SmootherBank;
-use limiter::prepare::StoreLengths;
-use limiter::prepare::lengths_fit;
 use settings::LimiterSettings;
 
 fn is_linear(shape: Smoothing) -> bool
@@ -65,8 +67,8 @@ impl KernelProcessor {
         kernel & (whole & ((b.count == 1) & ((b.rate == l.rate) & declared)))
     }
 
-    // 18, 16 or 19, the first that arises; 0 where none does.
-    pub fn refusal(
+    // 18, then 16, then 19.
+    pub fn judge(
         self,
         delay: &[f64],
         marks: &[u64],
@@ -74,23 +76,27 @@ impl KernelProcessor {
         weights: &[f64],
         row: &[f64],
         detector: &[f64],
-    ) -> u32
-        ensures { λ r. ⌜ r ≡ readyRefusal (machineAt self (atEntry delay marks minima weights row detector)) ⌝ }
+    ) -> Answer
+        ensures { λ r. ⌜ answerReply r ≡ numbered (readyRefusal (machineAt self (atEntry delay marks minima weights row detector))) ⌝ }
     {
         if !self.is_prepared() {
-            return 18;
+            return Answer::Refused(Refusal::NotSetUp);
         }
         let l = self.limiter;
         let b = self.bank;
-        let number = l.refusal(delay, marks, minima, weights, row, detector);
-        if number != 0 {
-            return number;
+        if !l.stores_fit(delay, marks, minima, weights, row, detector) {
+            return Answer::Refused(Refusal::StoreLength);
         }
-        if target_in_range(b) { 0 } else { 19 }
+        let kernel = l.in_order(marks, minima, row);
+        if kernel & target_in_range(b) {
+            Answer::Finished
+        } else {
+            Answer::Refused(Refusal::OutOfOrder)
+        }
     }
 
-    // 18 or 16; 0 where neither arises.
-    pub fn reset_refusal(
+    // 18, then 16.
+    pub fn judge_reset(
         self,
         delay: &[f64],
         marks: &[u64],
@@ -98,25 +104,17 @@ impl KernelProcessor {
         weights: &[f64],
         row: &[f64],
         detector: &[f64],
-    ) -> u32
-        ensures { λ r. ⌜ r ≡ resetRefusal (machineAt self (atEntry delay marks minima weights row detector)) ⌝ }
+    ) -> Answer
+        ensures { λ r. ⌜ answerReply r ≡ numbered (resetRefusal (machineAt self (atEntry delay marks minima weights row detector))) ⌝ }
     {
         if !self.is_prepared() {
-            return 18;
+            return Answer::Refused(Refusal::NotSetUp);
         }
         let l = self.limiter;
-        let n = StoreLengths {
-            delay: delay.len(),
-            marks: marks.len(),
-            minima: minima.len(),
-            weights: weights.len(),
-            row: row.len(),
-            detector: detector.len(),
-        };
-        if lengths_fit(l.channels, l.env.keeper.look, n) {
-            0
+        if l.stores_fit(delay, marks, minima, weights, row, detector) {
+            Answer::Finished
         } else {
-            16
+            Answer::Refused(Refusal::StoreLength)
         }
     }
 }

@@ -3,22 +3,11 @@ ghost use mathlib.Core.Path.{_≡_};
 ghost use Rattle.limiter.specs.Stores.{atEntry, atExit};
 ghost use Rattle.driver.specs.Machine.{machineAt};
 ghost use Rattle.driver.specs.Calls.{resetOf};
-ghost use Rattle.driver.specs.Answers.{resetAnswerOf, wasResetAt};
-use crate::answers::ResetAnswer;
-use crate::answers::WasReset;
+ghost use Rattle.driver.specs.Answers.{calledAt};
+use crate::answers::Answer;
+use crate::answers::Called;
 use crate::state::KernelProcessor;
 use bank::smoother::Change;
-
-// The case of a number.
-fn answer_of(number: u32) -> ResetAnswer
-    ensures { λ r. ⌜ r ≡ resetAnswerOf number ⌝ }
-{
-    match number {
-        18 => ResetAnswer::NotSetUp,
-        16 => ResetAnswer::StoreLength,
-        _ => ResetAnswer::Finished,
-    }
-}
 
 impl KernelProcessor {
     // Restores the starting values; marks and minima stay as they are, whatever they hold.
@@ -30,14 +19,14 @@ impl KernelProcessor {
         weights: &[f64],
         row: &mut [f64],
         detector: &mut [f64],
-    ) -> WasReset
-        ensures { λ r. ⌜ wasResetAt r (atExit delay marks minima weights row detector)
+    ) -> Called
+        ensures { λ r. ⌜ calledAt r (atExit delay marks minima weights row detector)
             ≡ resetOf (machineAt self (atEntry delay marks minima weights row detector)) ⌝ }
     {
-        let number = self.reset_refusal(delay, marks, minima, weights, row, detector);
-        if number != 0 {
-            return WasReset {
-                answer: answer_of(number),
+        let answer = self.judge_reset(delay, marks, minima, weights, row, detector);
+        if !answer.is_finished() {
+            return Called {
+                answer,
                 processor: self,
             };
         }
@@ -45,8 +34,8 @@ impl KernelProcessor {
         let b = self.bank;
         let limiter = l.reset_prepared(delay, row, detector);
         let bank = b.apply_all(Change::Reset);
-        WasReset {
-            answer: ResetAnswer::Finished,
+        Called {
+            answer: Answer::Finished,
             processor: KernelProcessor { limiter, bank },
         }
     }

@@ -9,7 +9,7 @@ ghost use Rattle.limiter.specs.Prepare.{prepareReply};
 ghost use Rattle.bank.specs.Bank;
 ghost use Rattle.bank.specs.Bank.{unset, setUpOf};
 ghost use Rattle.driver.specs.Machine.{machineOf, machineAt, thresholdParam};
-ghost use Rattle.driver.specs.Calls.{left, budgetReply, setupOf};
+ghost use Rattle.driver.specs.Calls.{left, budgetReply, withRest, setupOf};
 ghost use Rattle.driver.specs.Answers.{setupReply, setUpAt};
 use crate::answers::SetUp;
 use crate::answers::SetupAnswer;
@@ -22,6 +22,7 @@ use bank::smoother_bank::SmootherBank;
 use limiter::prepare::PrepareAnswer;
 use limiter::state::Limiter;
 use settings::LimiterSettings;
+use settings::ProcessSpec;
 use settings::memory::Cap;
 use settings::memory::fits_cap;
 use settings::memory::left_of;
@@ -86,6 +87,19 @@ fn refused(answer: SetupAnswer) -> SetUp
     SetUp { answer, processor }
 }
 
+// "The bank's bytes are taken first; the limiter's cap is the rest."
+fn with_rest(spec: ProcessSpec) -> ProcessSpec
+    ensures { λ r. ⌜ r ≡ withRest spec ⌝ }
+{
+    let cap = spec.cap;
+    ProcessSpec {
+        rate: spec.rate,
+        channels: spec.channels,
+        max_block: spec.max_block,
+        cap: left_of(80, cap),
+    }
+}
+
 impl KernelProcessor {
     // One that every call but setup refuses.
     pub fn not_set_up() -> KernelProcessor
@@ -99,10 +113,7 @@ impl KernelProcessor {
     // Sets a limiter up on lent stores: nothing is written unless nothing is refused.
     pub fn prepare(
         s: LimiterSettings,
-        rate: u32,
-        channels: usize,
-        max_block: usize,
-        cap: Cap,
+        spec: ProcessSpec,
         delay: &mut [f64],
         marks: &mut [u64],
         minima: &mut [f64],
@@ -111,9 +122,10 @@ impl KernelProcessor {
         detector: &mut [f64],
     ) -> SetUp
         ensures { λ r. ⌜ setUpAt r (atExit delay marks minima weights row detector)
-            ≡ setupOf s rate channels «max_block» cap (atEntry delay marks minima weights row detector) ⌝ }
+            ≡ setupOf s spec (atEntry delay marks minima weights row detector) ⌝ }
     {
-        let set = bank_of(s, rate);
+        let cap = spec.cap;
+        let set = bank_of(s, spec.rate);
         let first = set.answer;
         let whole = set.bank;
         if let BankAnswer::Refused(why) = first {
@@ -122,13 +134,9 @@ impl KernelProcessor {
         if !fits_cap(80, cap) {
             return refused(budget(cap));
         }
-        let left = left_of(80, cap);
         let p = Limiter::prepare(
             s,
-            rate,
-            channels,
-            max_block,
-            left,
+            with_rest(spec),
             delay,
             marks,
             minima,
