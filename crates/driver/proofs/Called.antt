@@ -6,21 +6,17 @@ use Prim.Native.Nat.{ℕ}
 use lib.Dec.{eqb, leb}
 use lib.Ieee.{Float}
 use lib.Ieee.Scale.{finite}
-use borrow.Author.Tests.{ne-eqb}
-use Rattle.arithmetic.specs.Reply.{Reply, finished, refused, count, float, unless}
+use borrow.Author.Tests.{eqb-true, not-true, not-false}
+use Rattle.arithmetic.specs.Reply.{Reply, finished, refused, numbered, count, float, andThen, must}
 use Rattle.limiter.specs.Stores.{Stores}
-use Rattle.limiter.specs.Prepare.{numbered}
 use Rattle.limiter.specs.Reset
 use Rattle.limiter.specs.declared.state.Limiter.{Limiter}
 use Rattle.bank.specs.Smoother.{immediateSet, resetOne}
 use Rattle.bank.specs.Bank
 use Rattle.bank.specs.Bank.{oneChanged, allChanged, callReply, callOf, setImmediateOf}
 use Rattle.bank.specs.declared.smoother_bank.SmootherBank.{SmootherBank}
-use Rattle.driver.specs.Machine.{Machine, machineOf, prepared, fits, resetRefusal}
-use Rattle.driver.specs.Block.{andThen, must}
+use Rattle.driver.specs.Machine.{Machine, machineOf, prepared, resetRefusal}
 use Rattle.driver.specs.Calls.{left, settled, parameterReply, parameterOf, resetOf}
-use Rattle.driver.specs.Answers.{resetReply, resetAnswerOf}
-use Rattle.driver.specs.declared.answers.ResetAnswer.{ResetAnswer}
 use Rattle.driver.proofs.Judged.{prepared-is, kept-first}
 
 -- ---- parameter call
@@ -55,25 +51,21 @@ module _ (m : Machine) (id : ℕ) (v : Float) where
         ∙ bank-settled (parameterReply m id v) (m .limiter) (oneChanged (immediateSet v) id (m .bank)) (m .bank) (m .stores)
 
 -- ---- reset
-module _ (m : Machine) (n : ℕ) (e : n ≡ resetRefusal m) where
-  -- each number's case replies with it
-  told : resetReply (resetAnswerOf (resetRefusal m)) ≡ numbered (resetRefusal m)
-  unfolding resetRefusal
-  told = go (prepared (m .limiter) (m .bank)) (fits m)
-    where
-      go : (p f : Bool) → resetReply (resetAnswerOf (unless p 18 (unless f 16 0))) ≡ numbered (unless p 18 (unless f 16 0))
-      go true true = refl
-      go true false = refl
-      go false f = refl
+module _ (m : Machine) (r : Reply) (R : r ≡ numbered (resetRefusal m)) (b : Bool) (B : b ≡ eqb (r .number) 0) where
+  number-is : r .number ≡ resetRefusal m
+  number-is = ap (λ (x : Reply). x .number) R
 
-  pub reset-refused : (n ≡ 0 → ⊥) → (a : ResetAnswer) → a ≡ resetAnswerOf n → left (resetReply a) m ≡ resetOf m
+  pub reset-refused : not b ≡ true → left r m ≡ resetOf m
   unfolding resetOf
-  reset-refused z a k = rw (k, e, ne-eqb (resetRefusal m) 0 (λ y. z (e ∙ y)), told) refl
+  reset-refused f = ap (λ (x : Reply). left x m) R ∙ rw (ap (λ (n : ℕ). eqb n 0) (sym number-is) ∙ sym B ∙ not-true b f) refl
 
-  pub reset-prepared : n ≡ 0 → prepared (m .limiter) (m .bank) ≡ true
+  none : not b ≡ false → resetRefusal m ≡ 0
+  none f = sym number-is ∙ eqb-true (r .number) 0 (sym B ∙ not-false b f)
+
+  pub reset-prepared : not b ≡ false → prepared (m .limiter) (m .bank) ≡ true
   unfolding resetRefusal
-  reset-prepared z = kept-first (prepared (m .limiter) (m .bank)) 17 _ (sym e ∙ z) .0
+  reset-prepared f = kept-first (prepared (m .limiter) (m .bank)) 17 _ (none f) .0
 
-  pub reset-done : n ≡ 0 → (r : Reset.Reset) → r ≡ Reset.resetOf (m .limiter) (m .stores) → (b : SmootherBank) → b ≡ allChanged resetOne (m .bank) → left (finished []) (machineOf (r .limiter) b (r .stores)) ≡ resetOf m
+  pub reset-done : not b ≡ false → (o : Reset.Reset) → o ≡ Reset.resetOf (m .limiter) (m .stores) → (bank : SmootherBank) → bank ≡ allChanged resetOne (m .bank) → left (finished []) (machineOf (o .limiter) bank (o .stores)) ≡ resetOf m
   unfolding resetOf
-  reset-done z r k b j = rw (k, j, sym e ∙ z) refl
+  reset-done f o k bank j = rw (k, j, none f) refl

@@ -4,22 +4,24 @@ use mathlib.Core.List.{List, [], _++_, append-assoc, append-nil, map-append}
 use Prim.Native.Nat.{ℕ, zero, suc, _+_, _-_, _*_, _/_, _≤_, _<_}
 use native.Mathlib.Omega.{arith}
 use lib.ListN.{length, take, drop, length-append, length-map}
-use lib.Ieee.{Float}
+use lib.Ieee.{Float, nan}
+use Rattle.audio.specs.Planar.{framesAt}
+use Rattle.audio.specs.Format.{sizeOf, samplesOf, writtenBytes}
+use Rattle.audio.specs.declared.format.Format.{Format}
+use Rattle.audio.proofs.Planes.{frames-take, frames-drop, frames-at-length}
+use Rattle.audio.proofs.Bytes.{written-size, bytes-none, samples-ahead}
 use Rattle.detector.specs.Run.{runLength}
-use Rattle.frame.specs.Rules.{presentRules}
+use Rattle.frame.specs.Rules.{rulesOf}
 use Rattle.frame.specs.Frame.{Framed}
-use Rattle.limiter.specs.Stores.{Stores}
 use Rattle.limiter.specs.declared.state.Limiter.{Limiter}
-use Rattle.settings.specs.Target.{targetOf}
-use Rattle.settings.proofs.Unit.{target-unit}
+use Rattle.settings.specs.declared.LimiterSettings.{LimiterSettings}
 use Rattle.bank.specs.declared.smoother_bank.SmootherBank.{SmootherBank}
-use Rattle.driver.specs.Machine.{Machine, machineOf, thresholdOf}
-use Rattle.driver.specs.Planar.{framesAt, written}
-use Rattle.driver.specs.Events.{Event, Latched, eventsFrom, eventsOf, latchedAll}
-use Rattle.driver.specs.Block.{Renderer, rendered, runAt, runsFrom, runsOf, Ran, runsThrough, outputsOf, blockDone}
-use Rattle.driver.specs.Inner.{beforeRun, RunsReady, RunAsked, RunGiven, BlockAsked}
-use Rattle.driver.proofs.Planes.{frames-take, frames-drop, frames-ahead, frames-at-length, written-length, written-none}
-use Rattle.driver.proofs.Rendering.{shown-many, channels-kept}
+use Rattle.driver.specs.Machine.{Machine, machineOf}
+use Rattle.driver.specs.Events.{Event, eventsOf, latchedAll}
+use Rattle.driver.specs.Block.{Renderer, rendered, renderedIn, runAt, runsFrom, runsOf, Turn, turnOf, Ran, runsThrough, outputsOf, blockDone}
+use Rattle.driver.specs.Inner.{waitingAt, RunsReady, Lends, leftOf, standsAt, turnAt, TurnAsked, TurnGiven, BlockAsked, driven}
+use Rattle.driver.specs.declared.turn.Unfinished.{Unfinished}
+use Rattle.driver.proofs.Rendering.{shown-many, channels-kept, settings-kept}
 
 -- frames shown before what later runs leave
 abbrev pub joined : List Framed → Ran → Ran
@@ -29,169 +31,197 @@ joined-joined : (a b : List Framed) (r : Ran) → joined a (joined b r) ≡ join
 joined-joined a b r = ap (λ (l : List Framed). record { machine = r .machine; frames = l }) (sym (append-assoc a b (r .frames)))
 
 -- ---- one run
-abbrev pub present : Renderer
-present = rendered presentRules
+module _ (render : Renderer) where
+  -- a turn and what follows it
+  runs-step : (position first most left n p l : ℕ) (events : List Event) (fs gs hs : List (List Float)) (m : Machine) (t : Turn)
+      → 1 ≤ left → left ≤ most → n ≡ runAt position left → p ≡ position + n → l ≡ left - n → gs ≡ take n fs → hs ≡ drop n fs → t ≡ turnOf render position first events gs m
+      → runsThrough render position first (runsFrom most position left) events fs m ≡ joined (t .frames) (runsThrough render p (first + n) (runsFrom (most - 1) p l) (t .waiting) hs (t .machine))
+  unfolding runsFrom runsThrough
+  runs-step position first zero left n p l events fs gs hs m t some enough N P L G H T = absurd (omega arith)
+  runs-step position first (suc most) zero n p l events fs gs hs m t some enough N P L G H T = absurd (omega arith)
+  runs-step position first (suc most) (suc left) n p l events fs gs hs m t some enough N P L G H T =
+      let f : suc most - 1 ≡ most = omega arith in
+      rw (f, T, H, G, P, L, N) refl
 
--- a run and what follows it, from what the code finds
-runs-step : (position first most left n p l : ℕ) (events : List Event) (fs gs hs : List (List Float)) (m : Machine) (b : Latched) (t : Float) (after : Limiter) (stores : Stores)
-    → 1 ≤ left → left ≤ most → n ≡ runAt position left → p ≡ position + n → l ≡ left - n → gs ≡ take n fs → hs ≡ drop n fs → b ≡ beforeRun position first events (m .bank)
-    → t ≡ targetOf (thresholdOf (b .bank) .cur) (m .limiter .settings .«true_peak_margin_db») → after ≡ present (m .limiter) (m .stores) t gs .limiter → stores ≡ present (m .limiter) (m .stores) t gs .stores
-    → runsThrough present position first (runsFrom most position left) events fs m
-    ≡ joined (present (m .limiter) (m .stores) t gs .frames) (runsThrough present p (first + n) (runsFrom (most - 1) p l) (b .waiting) hs (machineOf after (b .bank) stores))
-unfolding runsFrom runsThrough
-runs-step position first zero left n p l events fs gs hs m b t after stores some enough N P L G H B T A S = absurd (omega arith)
-runs-step position first (suc most) zero n p l events fs gs hs m b t after stores some enough N P L G H B T A S = absurd (omega arith)
-runs-step position first (suc most) (suc left) n p l events fs gs hs m b t after stores some enough N P L G H B T A S =
-    let f : suc most - 1 ≡ most = omega arith in
-    rw (f, A, S, T, B, H, G, P, L, N) refl
-
-runs-end : (position first most : ℕ) (events : List Event) (fs : List (List Float)) (m : Machine)
-    → runsThrough present position first (runsFrom most position 0) events fs m ≡ record { machine = machineOf (m .limiter) (latchedAll events (m .bank)) (m .stores); frames = [] }
-unfolding runsFrom runsThrough
-runs-end position first zero events fs m = refl
-runs-end position first (suc most) events fs m = refl
+  runs-end : (position first most : ℕ) (events : List Event) (fs : List (List Float)) (m : Machine)
+      → runsThrough render position first (runsFrom most position 0) events fs m ≡ record { machine = machineOf (m .limiter) (latchedAll events (m .bank)) (m .stores); frames = [] }
+  unfolding runsFrom runsThrough
+  runs-end position first zero events fs m = refl
+  runs-end position first (suc most) events fs m = refl
 
 -- ---- the turns
-module _ (position frames : ℕ) (words : List ℕ) (audio₀ : List Float) (m₀ : Machine) where
+module _ (format : Format) (position frames : ℕ) (words bytes₀ : List ℕ) (m₀ : Machine) where
   abbrev k : ℕ
   k = m₀ .limiter .channels
 
-  -- events from a cursor on
-  abbrev pub waitingAt : ℕ → List Event
-  waitingAt cursor = eventsFrom words cursor (length words / 3 - cursor)
+  abbrev render : Renderer
+  render = renderedIn format m₀
+
+  abbrev samples : List Float
+  samples = samplesOf format bytes₀
 
   -- all the runs
   abbrev pub whole : Ran
-  whole = runsThrough present position 0 (runsOf position frames) (eventsOf words) (framesAt frames k 0 frames audio₀) m₀
+  whole = runsThrough render position 0 (runsOf position frames) (eventsOf words) (framesAt nan frames k 0 frames samples) m₀
 
   -- the runs from a frame on
   abbrev pub rest : ℕ → ℕ → ℕ → Machine → Ran
-  rest most first cursor m = runsThrough present (position + first) first (runsFrom most (position + first) (frames - first)) (waitingAt cursor) (framesAt frames k first (frames - first) audio₀) m
+  rest most first cursor m = runsThrough render (position + first) first (runsFrom most (position + first) (frames - first)) (waitingAt words cursor) (framesAt nan frames k first (frames - first) samples) m
 
-  pub record Driven (first cursor : ℕ) (m : Machine) (audio run : List Float) : Type 0 where
+  pub record Driven (block : Unfinished) (m : Machine) (bytes : List ℕ) (run : List Float) : Type 0 where
+    pub position-is : block .position ≡ position
+    pub frames-is : block .frames ≡ frames
     -- what the frames so far showed
     pub shown : List Framed
-    pub many : length shown ≡ first
+    pub many : length shown ≡ block .rendered
     pub most : ℕ
-    pub enough : frames - first ≤ most
-    pub inside : first ≤ frames
-    pub events-left : cursor ≤ length words / 3
+    pub enough : frames - block .rendered ≤ most
+    pub inside : block .rendered ≤ frames
+    pub events-left : block .latched ≤ length words / 3
     pub channels-are : m .limiter .channels ≡ k
-    pub same : joined shown (rest most first cursor m) ≡ whole
-    pub audio-is : audio ≡ written frames k first audio₀ (outputsOf shown)
-    pub ready : RunsReady (m .limiter) (frames - first) (m .stores)
+    pub settings-are : m .limiter .settings ≡ m₀ .limiter .settings
+    pub same : joined shown (rest most (block .rendered) (block .latched) m) ≡ whole
+    pub audio-is : bytes ≡ writtenBytes format frames k (block .rendered) bytes₀ (outputsOf shown)
+    pub ready : RunsReady (m .limiter) (frames - block .rendered) (m .stores)
     pub run-fit : length run ≡ 8 * runLength
 
   -- ---- from the start
-  pub driven-start : (run : List Float) → BlockAsked m₀ position frames audio₀ run → Driven 0 0 m₀ audio₀ run
-  unfolding written
-  driven-start run a =
-      let e : position + 0 ≡ position = omega arith in
-      let f : frames - 0 ≡ frames = omega arith in
-      let g : length words / 3 - 0 ≡ length words / 3 = omega arith in
-      record {
-        shown = [];
-        many = refl;
-        most = frames;
-        enough = omega arith;
-        inside = omega arith;
-        events-left = omega arith;
-        channels-are = refl;
-        same = rw (e, f, g) refl;
-        audio-is = sym (written-none frames k audio₀);
-        ready = subst (λ (n : ℕ). RunsReady (m₀ .limiter) n (m₀ .stores)) (sym f) (a .ready);
-        run-fit = a .run-fit;
-      }
+  pub driven-start : (run : List Float) → BlockAsked m₀ format position frames bytes₀ run → (block : Unfinished) → block ≡ record { position = position; frames = frames; rendered = 0; latched = 0 } → Driven block m₀ bytes₀ run
+  driven-start run a block E = subst (λ (b : Unfinished). Driven b m₀ bytes₀ run) (sym E) start
+    where
+      start : Driven (record { position = position; frames = frames; rendered = 0; latched = 0 }) m₀ bytes₀ run
+      start =
+          let e : position + 0 ≡ position = omega arith in
+          let f : frames - 0 ≡ frames = omega arith in
+          let g : length words / 3 - 0 ≡ length words / 3 = omega arith in
+          record {
+            position-is = refl;
+            frames-is = refl;
+            shown = [];
+            many = refl;
+            most = frames;
+            enough = omega arith;
+            inside = omega arith;
+            events-left = omega arith;
+            channels-are = refl;
+            settings-are = refl;
+            same = rw (e, f, g) refl;
+            audio-is = sym (bytes-none format frames k bytes₀ (a .lends .short) (a .lends .audio-fit));
+            ready = subst (λ (n : ℕ). RunsReady (m₀ .limiter) n (m₀ .stores)) (sym f) (a .ready);
+            run-fit = a .lends .run-fit;
+          }
 
-  module _ (fit : length audio₀ ≡ k * frames) (first cursor n : ℕ) (m : Machine) (audio run : List Float) (d : Driven first cursor m audio run) (more : first < frames) (N : n ≡ runAt (position + first) (frames - first)) where
-    -- a run has a frame at least, and no more than are left
-    pub run-inside : (1 ≤ n) × (n ≤ runLength) × (first + n ≤ frames)
-    run-inside = (omega (arith, N, more), omega (arith, N, more), omega (arith, N, more))
+  module _ (run₀ : List Float) (asked : BlockAsked m₀ format position frames bytes₀ run₀) (block : Unfinished) (m : Machine) (bytes : List ℕ) (run : List Float) (d : Driven block m bytes run) (more : block .rendered < frames) where
+    abbrev first : ℕ
+    first = block .rendered
+
+    abbrev n : ℕ
+    n = runAt (standsAt block) (leftOf block)
 
     outputs-many : length (outputsOf (d .shown)) ≡ first
     outputs-many = length-map (d .shown) (λ (f : Framed). f .outputs) ∙ d .many
 
-    audio-length : length audio ≡ m .limiter .channels * frames
-    audio-length =
-        ap (λ (l : List Float). length l) (d .audio-is) ∙ written-length frames k first audio₀ (outputsOf (d .shown)) (d .inside) outputs-many (omega (arith, fit))
-        ∙ fit ∙ ap (λ (c : ℕ). c * frames) (sym (d .channels-are))
+    audio-size : sizeOf format bytes ≡ m .limiter .channels * block .frames
+    audio-size =
+        ap (sizeOf format) (d .audio-is)
+        ∙ written-size format frames k first bytes₀ (outputsOf (d .shown)) (d .inside) outputs-many (asked .lends .short) (asked .lends .audio-fit)
+        ∙ rw (d .channels-are, d .frames-is) refl
 
-    -- ---- a run is asked no more than it may be
-    pub driven-asks : (threshold margin target : Float) → target ≡ targetOf threshold margin → RunAsked (m .limiter) target frames first n (m .stores) audio run
-    driven-asks threshold margin target T = record {
-      ready = record { set-up = d .ready .set-up; lengths = d .ready .lengths; order = d .ready .order; room = omega (arith, d .ready .room, run-inside .2, more) };
-      unit = rw T (target-unit threshold margin);
-      some = run-inside .0;
-      short = run-inside .1;
-      inside = run-inside .2;
-      audio-fit = audio-length;
-      run-fit = d .run-fit;
+    -- ---- a turn is asked no more than it may be
+    pub driven-asks : TurnAsked m block format words bytes run
+    driven-asks = record {
+      ready = rw (d .frames-is) (d .ready);
+      lends = record { short = rw (d .frames-is) (asked .lends .short); audio-fit = audio-size; run-fit = d .run-fit };
+      far = rw (d .position-is, d .frames-is) (asked .far);
+      more = rw (d .frames-is) more;
+      events-left = d .events-left;
     }
 
     -- ---- and leaves the next
-    module _ (cursor' : ℕ) (bank : SmootherBank) (target : Float) (after : Limiter) (stores : Stores) (audio' run' : List Float) (told : cursor' ≤ length words / 3)
-        (B : record { bank = bank; waiting = waitingAt cursor' } ≡ beforeRun (position + first) first (waitingAt cursor) (m .bank))
-        (T : target ≡ targetOf (thresholdOf bank .cur) (m .limiter .settings .«true_peak_margin_db»)) (r : RunGiven (m .limiter) target frames first n (m .stores) audio after stores audio') (R : length run' ≡ length run) where
+    module _ (after : Machine) (next : Unfinished) (bytes' : List ℕ) (run' : List Float) (r : TurnGiven m block format words bytes after next bytes') (R : length run' ≡ length run) where
+      abbrev turn : Turn
+      turn = turnAt format m block words bytes
+
+      n-is : n ≡ runAt (position + first) (frames - first)
+      n-is = rw (d .position-is, d .frames-is) refl
+
+      run-inside : (1 ≤ n) × (n ≤ 32) × (first + n ≤ frames)
+      run-inside = (omega (arith, n-is, more), omega (arith, n-is, more), omega (arith, n-is, more))
+
       abbrev gs : List (List Float)
-      gs = framesAt frames (m .limiter .channels) first n audio
+      gs = framesAt nan (block .frames) (m .limiter .channels) first n (samplesOf format bytes)
 
       -- the frames of the audio now are those of the audio at the start
-      frames-now : gs ≡ take n (framesAt frames k first (frames - first) audio₀)
+      frames-now : gs ≡ take n (framesAt nan frames k first (frames - first) samples)
       frames-now =
-          ap (λ (c : ℕ). framesAt frames c first n audio) (d .channels-are)
-          ∙ ap (λ (l : List Float). framesAt frames k first n l) (d .audio-is)
-          ∙ frames-ahead frames k first n audio₀ (outputsOf (d .shown)) outputs-many (omega (arith, fit)) (run-inside .2)
-          ∙ sym (frames-take frames k first n (frames - first) audio₀ (omega (arith, run-inside .2)))
+          rw (d .frames-is, d .channels-are, d .audio-is)
+          (samples-ahead format frames k first n bytes₀ (outputsOf (d .shown)) outputs-many (asked .lends .short) (asked .lends .audio-fit) (run-inside .2)
+          ∙ sym (frames-take nan frames k first n (frames - first) samples (omega (arith, run-inside .2))))
 
-      frames-left : framesAt frames k (first + n) (frames - (first + n)) audio₀ ≡ drop n (framesAt frames k first (frames - first) audio₀)
+      frames-left : framesAt nan frames k (first + n) (frames - (first + n)) samples ≡ drop n (framesAt nan frames k first (frames - first) samples)
       frames-left =
           let e : frames - (first + n) ≡ frames - first - n = omega arith in
-          rw e (sym (frames-drop frames k first n (frames - first) audio₀ (omega (arith, run-inside .2))))
+          rw e (sym (frames-drop nan frames k first n (frames - first) samples (omega (arith, run-inside .2))))
 
-      abbrev more-shown : List Framed
-      more-shown = present (m .limiter) (m .stores) target gs .frames
+      turn-is : turn ≡ turnOf render (position + first) first (waitingAt words (block .latched)) gs m
+      turn-is = rw (d .settings-are, d .position-is) refl
 
-      step : rest (d .most) first cursor m ≡ joined more-shown (rest (d .most - 1) (first + n) cursor' (machineOf after bank stores))
+      step : rest (d .most) first (block .latched) m ≡ joined (turn .frames) (rest (d .most - 1) (first + n) (next .latched) after)
       step =
-          runs-step (position + first) first (d .most) (frames - first) n (position + (first + n)) (frames - (first + n)) (waitingAt cursor) (framesAt frames k first (frames - first) audio₀) gs
-          (framesAt frames k (first + n) (frames - (first + n)) audio₀) m (record { bank = bank; waiting = waitingAt cursor' }) target after stores (omega (arith, more)) (d .enough) N (omega arith) (omega arith) frames-now
-          frames-left B T (r .limiter-is) (r .stores-are)
+          runs-step render (position + first) first (d .most) (frames - first) n (position + (first + n)) (frames - (first + n)) (waitingAt words (block .latched)) (framesAt nan frames k first (frames - first) samples) gs
+          (framesAt nan frames k (first + n) (frames - (first + n)) samples) m turn (omega (arith, more)) (d .enough) n-is (omega arith) (omega arith) frames-now frames-left turn-is
+          ∙ rw (r .machine-is, r .waiting-is) refl
 
-      pub driven-more : Driven (first + n) cursor' (machineOf after bank stores) audio' run'
-      driven-more = record {
-        shown = d .shown ++ more-shown;
-        many = length-append (d .shown) more-shown ∙ rw (d .many, shown-many presentRules (m .limiter) target (m .stores) gs, frames-at-length frames (m .limiter .channels) first n audio) refl;
-        most = d .most - 1;
-        enough = omega (arith, d .enough, run-inside .0);
-        inside = run-inside .2;
-        events-left = told;
-        channels-are = channels-kept presentRules (m .limiter) target (m .stores) gs after (r .limiter-is) ∙ d .channels-are;
-        same = sym (joined-joined (d .shown) more-shown (rest (d .most - 1) (first + n) cursor' (machineOf after bank stores))) ∙ ap (joined (d .shown)) (sym step) ∙ d .same;
-        audio-is =
-            r .audio-is audio₀ (outputsOf (d .shown)) outputs-many (rw (d .channels-are) fit) (rw (d .channels-are) (d .audio-is))
-            ∙ ap (λ (c : ℕ). written frames c (first + n) audio₀ (outputsOf (d .shown) ++ outputsOf more-shown)) (d .channels-are)
-            ∙ ap (written frames k (first + n) audio₀) (sym (map-append (λ (f : Framed). f .outputs) (d .shown) more-shown));
-        ready = r .still (frames - (first + n)) (omega (arith, d .ready .room, run-inside .2));
-        run-fit = R ∙ d .run-fit;
-      }
+      pub driven-more : Driven next after bytes' run'
+      driven-more =
+          let e = r .rendered-is in
+          record {
+            position-is = r .position-is ∙ d .position-is;
+            frames-is = r .frames-is ∙ d .frames-is;
+            shown = d .shown ++ turn .frames;
+            many =
+                length-append (d .shown) (turn .frames)
+                ∙ rw (d .many, shown-many (rulesOf (m .limiter .settings) format) (m .limiter) _ (m .stores) gs, frames-at-length nan (block .frames) (m .limiter .channels) first n (samplesOf format bytes)) (sym e);
+            most = d .most - 1;
+            enough = rw e (omega (arith, d .enough, run-inside .0));
+            inside = rw e (run-inside .2);
+            events-left = r .events-left;
+            channels-are = channels-kept (rulesOf (m .limiter .settings) format) (m .limiter) _ (m .stores) gs (after .limiter) (ap (λ (z : Machine). z .limiter) (r .machine-is)) ∙ d .channels-are;
+            settings-are = settings-kept (rulesOf (m .limiter .settings) format) (m .limiter) _ (m .stores) gs (after .limiter) (ap (λ (z : Machine). z .limiter) (r .machine-is)) ∙ d .settings-are;
+            same =
+                rw e
+                (sym (joined-joined (d .shown) (turn .frames) (rest (d .most - 1) (first + n) (next .latched) after)) ∙ ap (joined (d .shown)) (sym step) ∙ d .same);
+            audio-is =
+                rw e
+                (r .audio-is bytes₀ (outputsOf (d .shown)) outputs-many (rw (d .channels-are, d .frames-is) (asked .lends .audio-fit)) (rw (d .channels-are, d .frames-is) (d .audio-is))
+                ∙ rw (d .channels-are, d .frames-is) (ap (writtenBytes format frames k (first + n) bytes₀) (sym (map-append (λ (f : Framed). f .outputs) (d .shown) (turn .frames)))));
+            ready = subst (λ (f : ℕ). RunsReady (after .limiter) (f - next .rendered) (after .stores)) (r .frames-is ∙ d .frames-is) (r .ready);
+            run-fit = R ∙ d .run-fit;
+          }
+
+      -- fewer are left
+      pub driven-less : frames - next .rendered < frames - block .rendered
+      driven-less = omega (arith, r .rendered-is, run-inside .0, run-inside .2)
 
   -- ---- to the end
-  module _ (first cursor : ℕ) (m : Machine) (audio run : List Float) (d : Driven first cursor m audio run) (done : frames ≤ first) (bank : SmootherBank) (B : bank ≡ latchedAll (waitingAt cursor) (m .bank)) where
-    over : first ≡ frames
+  module _ (block : Unfinished) (m : Machine) (bytes : List ℕ) (run : List Float) (d : Driven block m bytes run) (done : frames ≤ block .rendered) (bank : SmootherBank) (B : bank ≡ latchedAll (waitingAt words (block .latched)) (m .bank)) where
+    over : block .rendered ≡ frames
     over = omega (arith, done, d .inside)
 
     last : joined (d .shown) (record { machine = machineOf (m .limiter) bank (m .stores); frames = [] }) ≡ whole
     last =
+        let first = block .rendered in
+        let fs = framesAt nan frames k first (frames - first) samples in
         let e : frames - first ≡ 0 = omega (arith, done) in
         ap (λ (b : SmootherBank). joined (d .shown) (record { machine = machineOf (m .limiter) b (m .stores); frames = [] })) B
-        ∙ ap (joined (d .shown)) (sym (runs-end (position + first) first (d .most) (waitingAt cursor) (framesAt frames k first (frames - first) audio₀) m))
-        ∙ ap (λ (n : ℕ). joined (d .shown) (runsThrough present (position + first) first (runsFrom (d .most) (position + first) n) (waitingAt cursor) (framesAt frames k first (frames - first) audio₀) m)) (sym e)
+        ∙ ap (joined (d .shown)) (sym (runs-end render (position + first) first (d .most) (waitingAt words (block .latched)) fs m))
+        ∙ ap (λ (n : ℕ). joined (d .shown) (runsThrough render (position + first) first (runsFrom (d .most) (position + first) n) (waitingAt words (block .latched)) fs m)) (sym e)
         ∙ d .same
 
-    pub driven-machine : machineOf (m .limiter) bank (m .stores) ≡ blockDone present m₀ position frames (eventsOf words) audio₀ .machine
+    pub driven-machine : machineOf (m .limiter) bank (m .stores) ≡ driven format m₀ position frames words bytes₀ .machine
     driven-machine = ap (λ (r : Ran). r .machine) last
 
-    pub driven-audio : audio ≡ blockDone present m₀ position frames (eventsOf words) audio₀ .audio
+    pub driven-audio : bytes ≡ driven format m₀ position frames words bytes₀ .bytes
     driven-audio =
-        d .audio-is ∙ ap (λ (i : ℕ). written frames k i audio₀ (outputsOf (d .shown))) over
-        ∙ ap (λ (l : List Framed). written frames k frames audio₀ (outputsOf l)) (sym (append-nil (d .shown)) ∙ ap (λ (r : Ran). r .frames) last)
+        d .audio-is ∙ ap (λ (i : ℕ). writtenBytes format frames k i bytes₀ (outputsOf (d .shown))) over
+        ∙ ap (λ (l : List Framed). writtenBytes format frames k frames bytes₀ (outputsOf l)) (sym (append-nil (d .shown)) ∙ ap (λ (r : Ran). r .frames) last)

@@ -6,9 +6,9 @@ use Prim.Native.Nat.{ℕ, suc}
 use native.Mathlib.Omega.{arith}
 use lib.Dec.{eqb}
 use lib.ListN.{length, getD}
-use borrow.Author.Tests.{eqb-true, eq-eqb, ne-eqb}
+use borrow.Author.Tests.{eqb-true}
 use Rattle.arithmetic.proofs.Order.{and-true}
-use Rattle.arithmetic.specs.Reply.{unless}
+use Rattle.arithmetic.specs.Reply.{numbered, unless, must}
 use Rattle.limiter.specs.Order
 use Rattle.limiter.specs.declared.state.Limiter.{Limiter}
 use Rattle.bank.specs.Bank
@@ -48,34 +48,27 @@ kept-first true k rest z = (refl, z)
 kept-first false k rest z = absurd (omega (arith, z))
 
 module _ (m : Machine) where
-  pub not-set-up : prepared (m .limiter) (m .bank) ≡ false → 18 ≡ readyRefusal m
+  pub not-set-up : prepared (m .limiter) (m .bank) ≡ false → numbered 18 ≡ numbered (readyRefusal m)
   unfolding readyRefusal
   not-set-up h = rw h refl
 
-  -- the kernel's number stands where it has one, else the bank's share of 19 is left
-  joined : (f k t : Bool) → unless f 16 (unless (k && t) 19 0) ≡ unless (eqb (unless f 16 (unless k 19 0)) 0) (unless f 16 (unless k 19 0)) (unless t 19 0)
-  joined true true t = refl
-  joined true false t = refl
-  joined false k t = refl
+  module _ (h : prepared (m .limiter) (m .bank) ≡ true) where
+    pub wrong-length : fits m ≡ false → numbered 16 ≡ numbered (readyRefusal m)
+    unfolding readyRefusal
+    wrong-length f = rw (h, f) refl
 
-  module _ (h : prepared (m .limiter) (m .bank) ≡ true) (n : ℕ) (e : n ≡ Order.readyRefusal (m .limiter) (m .stores)) where
-    whole : readyRefusal m ≡ unless (eqb n 0) n (unless (targetInRange (m .bank)) 19 0)
+    pub order-judged : fits m ≡ true → (k t : Bool) → k ≡ Order.inOrder (m .limiter) (m .stores .marks) (m .stores .minima) (m .stores .row) → t ≡ targetInRange (m .bank) → (o : Bool) → k && t ≡ o
+        → must o 19 ≡ numbered (readyRefusal m)
     unfolding readyRefusal inOrder
-    whole =
-        rw (h, e, prepared-is (m .limiter) (m .bank) h .kernel)
-        (joined (fits m) (Order.inOrder (m .limiter) (m .stores .marks) (m .stores .minima) (m .stores .row)) (targetInRange (m .bank)))
-
-    pub kernel-refused : (n ≡ 0 → ⊥) → n ≡ readyRefusal m
-    kernel-refused z = rw (whole, ne-eqb n 0 z) refl
-
-    pub kernel-passed : n ≡ 0 → (t : Bool) → targetInRange (m .bank) ≡ t → unless t 19 0 ≡ readyRefusal m
-    kernel-passed z t k = rw (whole, eq-eqb n 0 z, k) refl
+    order-judged f k t K T true e = rw (h, f, ← K, ← T, e) refl
+    order-judged f k t K T false e = rw (h, f, ← K, ← T, e) refl
 
   -- ---- 18, then 16
-  pub reset-not-set-up : prepared (m .limiter) (m .bank) ≡ false → 18 ≡ resetRefusal m
+  pub reset-not-set-up : prepared (m .limiter) (m .bank) ≡ false → numbered 18 ≡ numbered (resetRefusal m)
   unfolding resetRefusal
   reset-not-set-up h = rw h refl
 
-  pub reset-lengths : prepared (m .limiter) (m .bank) ≡ true → (f : Bool) → fits m ≡ f → unless f 16 0 ≡ resetRefusal m
+  pub reset-lengths : prepared (m .limiter) (m .bank) ≡ true → (f : Bool) → fits m ≡ f → must f 16 ≡ numbered (resetRefusal m)
   unfolding resetRefusal
-  reset-lengths h f k = rw (h, k) refl
+  reset-lengths h true k = rw (h, k) refl
+  reset-lengths h false k = rw (h, k) refl

@@ -3,8 +3,6 @@ pub mod Judged
 pub mod Called
 pub mod Started
 pub mod Stepped
-pub mod Carry
-pub mod Planes
 pub mod Latching
 pub mod Rendering
 pub mod Driving

@@ -1,5 +1,5 @@
 -- What a block or a drain refuses, from what the code finds; and what it may do where nothing is refused.
-use mathlib.Core.Path.{_≡_, refl, sym, ap, subst, _∙_}
+use mathlib.Core.Path.{_≡_, refl, sym, ap, _∙_}
 use mathlib.Core.Bool.{Bool, true, false, not, _&&_}
 use mathlib.Core.List.{List, []}
 use Prim.Native.Nat.{ℕ, suc, _+_, _-_, _*_, _≤_, _<_}
@@ -9,25 +9,25 @@ use lib.Dec.{eqb, leb}
 use lib.ListN.{length}
 use lib.Ieee.{Float}
 use borrow.Author.Tests.{eqb-true, eqb-false, eq-eqb, ne-eqb, leb-true, leb-false, le-leb, lt-leb, not-true, not-false}
-use Rattle.arithmetic.specs.Reply.{Reply, finished, unless}
+use Rattle.arithmetic.specs.Reply.{Reply, finished, numbered, unless, andThen, must}
 use Rattle.arithmetic.proofs.Order.{and-true}
+use Rattle.audio.specs.Format.{sizeOf, writtenBytes}
+use Rattle.audio.specs.declared.format.Format.{Format}
 use Rattle.detector.specs.Run.{runLength}
 use Rattle.keeper.specs.InOrder.{mostFrames}
-use Rattle.frame.specs.Rules.{presentRules}
 use Rattle.limiter.specs.Order
-use Rattle.limiter.specs.Prepare.{numbered}
 use Rattle.limiter.specs.Stores.{Stores}
 use Rattle.limiter.specs.declared.state.Limiter.{Limiter}
 use Rattle.limiter.proofs.Frames.{bounds-of, order-is}
 use Rattle.limiter.proofs.Ready
 use Rattle.driver.specs.Machine.{Machine, machineOf, prepared, fits, inOrder, targetInRange, readyRefusal}
 use Rattle.driver.specs.Events.{Event, eventsReply}
-use Rattle.driver.specs.Block.{outputsOf, sized, hasRoom, reaches, farthest, andThen, must, callReply, blockReply, rendered, blockDone, blockBy, blockOf}
+use Rattle.driver.specs.Block.{outputsOf, sized, hasRoom, reaches, farthest, callReply, blockReply, renderedIn, blockDone, blockBy, blockOf}
 use Rattle.driver.specs.Drain.{longestDrain, tailReply, drainReply, drainable, withDrained, drainBy, drainOf}
-use Rattle.driver.specs.Planar.{written}
-use Rattle.driver.specs.Inner.{RunsReady, BlockAsked, silent, DrainAsked}
-use Rattle.driver.specs.Answers.{processReply, processAnswerOf, flushReply, flushAnswerOf, seen}
-use Rattle.driver.specs.declared.answers.ProcessAnswer.{ProcessAnswer}
+use Rattle.driver.specs.Inner.{RunsReady, Lends, BlockAsked, silent, DrainAsked}
+use Rattle.driver.specs.Answers.{refusedBy, answerReply, flushReply, seen}
+use Rattle.driver.specs.declared.answers.Refusal.{Refusal}
+use Rattle.driver.specs.declared.answers.Answer.{Answer}
 use Rattle.driver.specs.declared.answers.FlushAnswer.{FlushAnswer}
 use Rattle.driver.proofs.Judged.{prepared-is}
 
@@ -39,23 +39,23 @@ both-finished r next z = go (eqb (r .number) 0) refl
     go true e = (eqb-true (r .number) 0 e, rw e at z)
     go false e = absurd (eqb-false (r .number) 0 e (rw e at z))
 
+-- a first reply that is refused stands, and one that is finished gives way
+module _ (r first next : Reply) (R : r ≡ first) (b : Bool) (B : b ≡ eqb (r .number) 0) where
+  pub first-refused : not b ≡ true → r ≡ andThen first next
+  first-refused f = R ∙ rw (ap (λ (x : Reply). eqb (x .number) 0) (sym R) ∙ sym B ∙ not-true b f) refl
+
+  pub first-passed : not b ≡ false → (s : Reply) → s ≡ next → s ≡ andThen first next
+  first-passed f s S = S ∙ rw (ap (λ (x : Reply). eqb (x .number) 0) (sym R) ∙ sym B ∙ not-false b f) refl
+
+  pub first-finished : not b ≡ false → first .number ≡ 0
+  first-finished f = sym (ap (λ (x : Reply). x .number) R) ∙ eqb-true (r .number) 0 (sym B ∙ not-false b f)
+
 pub must-passed : (b : Bool) (n : ℕ) → must b (suc n) .number ≡ 0 → b ≡ true
 must-passed true n z = refl
 must-passed false n z = absurd (omega (arith, z))
 
 -- ---- 18, 16 and 19
 module _ (m : Machine) where
-  -- the case of the number replies with it
-  pub ready-told : (n : ℕ) → n ≡ readyRefusal m → (n ≡ 0 → ⊥) → processReply (processAnswerOf n) ≡ numbered n
-  unfolding readyRefusal
-  ready-told n e z = rw e (go (prepared (m .limiter) (m .bank)) (fits m) (inOrder m) (λ h. z (e ∙ h)))
-    where
-      go : (p f o : Bool) → (unless p 18 (unless f 16 (unless o 19 0)) ≡ 0 → ⊥) → processReply (processAnswerOf (unless p 18 (unless f 16 (unless o 19 0)))) ≡ numbered (unless p 18 (unless f 16 (unless o 19 0)))
-      go true true true y = absurd (y refl)
-      go true true false y = refl
-      go true false o y = refl
-      go false f o y = refl
-
   -- what they say
   pub ready-is : readyRefusal m ≡ 0 → (left : ℕ) → m .limiter .env .keeper .frame + left ≤ mostFrames → RunsReady (m .limiter) left (m .stores)
   unfolding readyRefusal inOrder
@@ -68,9 +68,9 @@ module _ (m : Machine) where
       go true false o t P F O y = absurd (omega (arith, y))
       go false f o t P F O y = absurd (omega (arith, y))
 
-  pub ready-kernel : (n : ℕ) → n ≡ readyRefusal m → n ≡ 0 → Order.prepared (m .limiter) ≡ true
+  pub ready-kernel : readyRefusal m ≡ 0 → Order.prepared (m .limiter) ≡ true
   unfolding readyRefusal
-  ready-kernel n e z = go (prepared (m .limiter) (m .bank)) refl (sym e ∙ z)
+  ready-kernel z = go (prepared (m .limiter) (m .bank)) refl z
     where
       go : (p : Bool) → prepared (m .limiter) (m .bank) ≡ p → unless p 18 (unless (fits m) 16 (unless (inOrder m) 19 0)) ≡ 0 → Order.prepared (m .limiter) ≡ true
       go true P y = prepared-is (m .limiter) (m .bank) P .kernel
@@ -115,30 +115,22 @@ module _ (m : Machine) (position frames : ℕ) (events : List Event) (size : ℕ
           let y = less-room (m .limiter .env .keeper .frame) frames mostFrames (omega (arith, few, h)) in
           rw (le-leb frames (m .limiter .«max_block») h, eq-eqb size (m .limiter .channels * frames) e, ← R, sym B ∙ not-false b f, ← T, x, y) refl
 
--- ---- a block's reply
-module _ (m : Machine) (position frames : ℕ) (events : List Event) (size : ℕ) where
-  pub block-refused : (n : ℕ) (r : ProcessAnswer) → n ≡ readyRefusal m → (n ≡ 0 → ⊥) → r ≡ processAnswerOf n → processReply r ≡ blockReply m position frames events size
-  unfolding blockReply
-  block-refused n r e z R = ap processReply R ∙ ready-told m n e z ∙ rw (← e, ne-eqb n 0 z) refl
-
-  pub block-judged : (n : ℕ) (r : Reply) → n ≡ readyRefusal m → n ≡ 0 → r ≡ callReply m position frames events size → r ≡ blockReply m position frames events size
-  unfolding blockReply
-  block-judged n r e z R = R ∙ rw (eq-eqb (readyRefusal m) 0 (sym e ∙ z)) refl
-
 -- ---- what a block leaves
-module _ (m : Machine) (position frames : ℕ) (events : List Event) (audio : List Float) (r : Reply) (R : r ≡ blockReply m position frames events (length audio)) (b : Bool) (B : b ≡ eqb (r .number) 0) where
+module _ (format : Format) (m : Machine) (position frames : ℕ) (events : List Event) (bytes : List ℕ) (size : ℕ) (S : size ≡ sizeOf format bytes) (r : Reply) (R : r ≡ blockReply m position frames events size) (b : Bool) (B : b ≡ eqb (r .number) 0) where
   passed : not b ≡ false → eqb (r .number) 0 ≡ true
   passed f = sym B ∙ not-false b f
 
-  pub block-left : not b ≡ true → record { reply = r; machine = m; audio = audio } ≡ seen (blockOf presentRules m position frames events audio)
+  reply-is : blockReply m position frames events (sizeOf format bytes) ≡ r
+  reply-is = ap (blockReply m position frames events) (sym S) ∙ sym R
+
+  pub block-left : not b ≡ true → record { reply = r; machine = m; bytes = bytes } ≡ seen (blockOf format m position frames events bytes)
   unfolding blockBy
-  block-left f = rw (← R, sym B ∙ not-true b f) refl
+  block-left f = rw (reply-is, sym B ∙ not-true b f) refl
 
   -- where nothing is refused
-  pub block-asks : (run : List Float) → length run ≡ 8 * runLength → not b ≡ false → BlockAsked m position frames audio run
+  pub block-asks : (run : List Float) → length run ≡ 8 * runLength → not b ≡ false → BlockAsked m format position frames bytes run
   unfolding blockReply
   block-asks run fit f =
-      let size = length audio in
       let z = ap (λ (x : Reply). x .number) (sym R) ∙ eqb-true (r .number) 0 (passed f) in
       let l = m .limiter in
       let geometry = must (sized m (l .«max_block») frames size) 20 in
@@ -151,16 +143,14 @@ module _ (m : Machine) (position frames : ℕ) (events : List Event) (audio : Li
       let few = leb-true frames (l .«max_block») (g .0) in
       record {
         ready = ready-is m (a .0) frames (leb-true (l .env .keeper .frame + frames) mostFrames (o .1));
-        short = omega (arith, few, block-most l (ready-kernel m (readyRefusal m) refl (a .0)));
+        lends = record { short = omega (arith, few, block-most l (ready-kernel m (a .0))); audio-fit = sym S ∙ eqb-true size (l .channels * frames) (g .1); run-fit = fit };
         far = leb-true (position + frames) farthest (o .0);
-        audio-fit = eqb-true size (l .channels * frames) (g .1);
-        run-fit = fit;
       }
 
-  pub block-finished : (m' : Machine) (audio' : List Float) → not b ≡ false → (let o = blockDone (rendered presentRules) m position frames events audio in m' ≡ o .machine → audio' ≡ o .audio
-      → record { reply = finished []; machine = m'; audio = audio' } ≡ seen (blockOf presentRules m position frames events audio))
+  pub block-finished : (m' : Machine) (bytes' : List ℕ) → not b ≡ false → (let o = blockDone (renderedIn format m) format m position frames events bytes in m' ≡ o .machine → bytes' ≡ o .bytes
+      → record { reply = finished []; machine = m'; bytes = bytes' } ≡ seen (blockOf format m position frames events bytes))
   unfolding blockBy
-  block-finished m' audio' f M A = rw (← R, passed f, M, A) refl
+  block-finished m' bytes' f M A = rw (reply-is, passed f, M, A) refl
 
 -- ---- 20 and 22 of a drain
 module _ (m : Machine) (frames size : ℕ) where
@@ -175,87 +165,71 @@ module _ (m : Machine) (frames size : ℕ) where
     tail-size n = rw (le-leb frames longestDrain h, ne-eqb size (kernel .channels * frames) n) refl
 
     module _ (e : size ≡ kernel .channels * frames) where
-      pub tail-passed : kernel .env .keeper .frame ≤ mostFrames - frames → numbered 0 ≡ tailReply m frames size
+      pub tail-passed : kernel .env .keeper .frame ≤ mostFrames - frames → finished [] ≡ tailReply m frames size
       tail-passed f = rw (le-leb frames longestDrain h, eq-eqb size (kernel .channels * frames) e, le-leb (kernel .env .keeper .frame + frames) mostFrames (omega (arith, f, h))) refl
 
       pub tail-far : mostFrames - frames < kernel .env .keeper .frame → numbered 22 ≡ tailReply m frames size
       tail-far f = rw (le-leb frames longestDrain h, eq-eqb size (kernel .channels * frames) e, lt-leb (kernel .env .keeper .frame + frames) mostFrames (omega (arith, f, h))) refl
 
--- ---- a drain's reply
-module _ (m : Machine) (frames size : ℕ) where
-  pub drain-refused : (n : ℕ) → n ≡ readyRefusal m → (n ≡ 0 → ⊥) → numbered n ≡ drainReply m frames size
-  unfolding drainReply
-  drain-refused n e z = rw (← e, ne-eqb n 0 z) refl
-
-  pub drain-judged : (n k : ℕ) → n ≡ readyRefusal m → n ≡ 0 → numbered k ≡ tailReply m frames size → numbered k ≡ drainReply m frames size
-  unfolding drainReply
-  drain-judged n k e z R = R ∙ rw (eq-eqb (readyRefusal m) 0 (sym e ∙ z)) refl
-
 -- ---- what a drain leaves
-module _ (m : Machine) (frames : ℕ) (audio : List Float) (n : ℕ) (N : numbered n ≡ drainReply m frames (length audio)) where
+-- no refusal is finished work
+pub refused-some : (why : Refusal) → eqb (refusedBy why .number) 0 ≡ false
+refused-some Refusal.NotSetUp = refl
+refused-some Refusal.StoreLength = refl
+refused-some Refusal.OutOfOrder = refl
+refused-some Refusal.Geometry = refl
+refused-some (Refusal.Event i) = refl
+refused-some Refusal.TooFar = refl
+
+module _ (format : Format) (m : Machine) (frames : ℕ) (bytes : List ℕ) (size : ℕ) (S : size ≡ sizeOf format bytes) (r : Answer) (N : answerReply r ≡ drainReply m frames size) where
   abbrev l : Limiter
   l = m .limiter
 
-  -- the case of the number replies with it
-  pub told : (n ≡ 0 → ⊥) → flushReply (flushAnswerOf n) ≡ numbered n
-  unfolding drainReply readyRefusal
-  told z = subst (λ (k : ℕ). flushReply (flushAnswerOf k) ≡ numbered k) (sym number-is) (go (prepared l (m .bank)) (fits m) (inOrder m) (sized m longestDrain frames (length audio)) (hasRoom m frames) (λ h. z (number-is ∙ h)))
-    where
-      number-is : n ≡ drainReply m frames (length audio) .number
-      number-is = ap (λ (x : Reply). x .number) N
+  reply-is : drainReply m frames (sizeOf format bytes) ≡ answerReply r
+  reply-is = ap (drainReply m frames) (sym S) ∙ sym N
 
-      go : (p f o g h : Bool) → (andThen (numbered (unless p 18 (unless f 16 (unless o 19 0)))) (andThen (must g 20) (must h 22)) .number ≡ 0 → ⊥)
-          → (let k = andThen (numbered (unless p 18 (unless f 16 (unless o 19 0)))) (andThen (must g 20) (must h 22)) .number in flushReply (flushAnswerOf k) ≡ numbered k)
-      go true true true true true y = absurd (y refl)
-      go true true true true false y = refl
-      go true true true false h y = refl
-      go true true false g h y = refl
-      go true false o g h y = refl
-      go false f o g h y = refl
-
-  pub drain-left : (r : FlushAnswer) → r ≡ flushAnswerOf n → (n ≡ 0 → ⊥) → record { reply = flushReply r; machine = m; audio = audio } ≡ seen (drainOf presentRules m frames audio)
+  pub drain-left : (why : Refusal) → r ≡ Answer.Refused why → record { reply = flushReply (FlushAnswer.Refused why); machine = m; bytes = bytes } ≡ seen (drainOf format m frames bytes)
   unfolding drainBy
-  drain-left r R z = ap (λ (x : Reply). record { reply = x; machine = m; audio = audio }) (ap flushReply R ∙ told z) ∙ rw (← N, ne-eqb n 0 z) refl
+  drain-left why W = rw (reply-is, W, refused-some why) refl
 
   -- where nothing is refused
-  pub record Drainable : Type 0 where
-    pub ready : RunsReady l frames (m .stores)
-    pub short : frames ≤ longestDrain
-    pub audio-fit : length audio ≡ l .channels * frames
-    pub drained-most : l .drained ≤ l .env .keeper .look
-    pub look-most : l .env .keeper .look ≤ 4096
+  module _ (F : r ≡ Answer.Finished) where
+    pub record Drainable : Type 0 where
+      pub ready : RunsReady l frames (m .stores)
+      pub short : frames ≤ longestDrain
+      pub audio-fit : sizeOf format bytes ≡ l .channels * frames
+      pub drained-most : l .drained ≤ l .env .keeper .look
+      pub look-most : l .env .keeper .look ≤ 4096
 
-  pub drain-may : n ≡ 0 → Drainable
-  unfolding drainReply
-  drain-may z =
-      let size = length audio in
-      let geometry = must (sized m longestDrain frames size) 20 in
-      let far = must (hasRoom m frames) 22 in
-      let a = both-finished (numbered (readyRefusal m)) (andThen geometry far) (ap (λ (x : Reply). x .number) (sym N) ∙ z) in
-      let b = both-finished geometry far (a .1) in
-      let g = and-true (leb frames longestDrain) (eqb size (l .channels * frames)) (must-passed (sized m longestDrain frames size) 19 (b .0)) in
-      let r = ready-is m (a .0) frames (leb-true (l .env .keeper .frame + frames) mostFrames (must-passed (hasRoom m frames) 21 (b .1))) in
-      record {
-        ready = r;
-        short = leb-true frames longestDrain (g .0);
-        audio-fit = eqb-true size (l .channels * frames) (g .1);
-        drained-most = order-is l (m .stores .marks) (m .stores .minima) (m .stores .row) (r .order) .drained-most;
-        look-most = bounds-of l (r .set-up) .look-most;
-      }
+    pub drain-may : Drainable
+    unfolding drainReply
+    drain-may =
+        let geometry = must (sized m longestDrain frames size) 20 in
+        let far = must (hasRoom m frames) 22 in
+        let a = both-finished (numbered (readyRefusal m)) (andThen geometry far) (ap (λ (x : Reply). x .number) (sym N ∙ ap answerReply F)) in
+        let b = both-finished geometry far (a .1) in
+        let g = and-true (leb frames longestDrain) (eqb size (l .channels * frames)) (must-passed (sized m longestDrain frames size) 19 (b .0)) in
+        let r = ready-is m (a .0) frames (leb-true (l .env .keeper .frame + frames) mostFrames (must-passed (hasRoom m frames) 21 (b .1))) in
+        record {
+          ready = r;
+          short = leb-true frames longestDrain (g .0);
+          audio-fit = sym S ∙ eqb-true size (l .channels * frames) (g .1);
+          drained-most = order-is l (m .stores .marks) (m .stores .minima) (m .stores .row) (r .order) .drained-most;
+          look-most = bounds-of l (r .set-up) .look-most;
+        }
 
-  pub drain-asked : (k : ℕ) (run : List Float) → n ≡ 0 → k ≡ drainable l frames → length run ≡ 8 * runLength → DrainAsked l k frames (m .stores) audio run
-  drain-asked k run z K fit =
-      let a = drain-may z in
-      record {
-        ready = record { set-up = a .ready .set-up; lengths = a .ready .lengths; order = a .ready .order; room = omega (arith, a .ready .room, K) };
-        tail = omega (arith, K, a .drained-most);
-        inside = omega (arith, K);
-        audio-fit = a .audio-fit;
-        run-fit = fit;
-      }
+    pub drain-asked : (k : ℕ) (run : List Float) → k ≡ drainable l frames → length run ≡ 8 * runLength → DrainAsked l format k frames (m .stores) bytes run
+    drain-asked k run K fit =
+        let a = drain-may in
+        record {
+          ready = record { set-up = a .ready .set-up; lengths = a .ready .lengths; order = a .ready .order; room = omega (arith, a .ready .room, K) };
+          lends = record { short = a .short; audio-fit = a .audio-fit; run-fit = fit };
+          tail = omega (arith, K, a .drained-most);
+          inside = omega (arith, K);
+        }
 
-  pub drain-finished : (k : ℕ) (done : Bool) (after : Limiter) (stores : Stores) (audio' : List Float) → n ≡ 0 → k ≡ drainable l frames → done ≡ leb (l .env .keeper .look) (l .drained + k)
-      → (let r = silent l (m .stores) k in after ≡ withDrained (r .limiter) (l .drained + k) → stores ≡ r .stores → audio' ≡ written frames (l .channels) k audio (outputsOf (r .frames))
-      → record { reply = flushReply (FlushAnswer.Finished k done); machine = machineOf after (m .bank) stores; audio = audio' } ≡ seen (drainOf presentRules m frames audio))
-  unfolding drainBy
-  drain-finished k done after stores audio' z K D A S W = rw (← N, z, A, S, W, D, K) refl
+    pub drain-finished : (k : ℕ) (done : Bool) (after : Limiter) (stores : Stores) (bytes' : List ℕ) → k ≡ drainable l frames → done ≡ leb (l .env .keeper .look) (l .drained + k)
+        → (let o = silent format l (m .stores) k in after ≡ withDrained (o .limiter) (l .drained + k) → stores ≡ o .stores → bytes' ≡ writtenBytes format frames (l .channels) k bytes (outputsOf (o .frames))
+        → record { reply = flushReply (FlushAnswer.Finished k done); machine = machineOf after (m .bank) stores; bytes = bytes' } ≡ seen (drainOf format m frames bytes))
+    unfolding drainBy
+    drain-finished k done after stores bytes' K D A T W = rw (reply-is, F, A, T, W, D, K) refl

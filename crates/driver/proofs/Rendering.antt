@@ -5,15 +5,19 @@ use mathlib.Core.List.{List, _++_}
 use Prim.Native.Nat.{ℕ, _+_, _*_, _≤_}
 use native.Mathlib.Omega.{arith}
 use lib.ListN.{length, length-map}
-use lib.Ieee.{Float}
+use lib.Ieee.{Float, nan}
 use Rattle.arithmetic.specs.Number
 use Rattle.arithmetic.specs.Number.{one, within}
+use Rattle.audio.specs.Planar.{framesAt}
+use Rattle.audio.specs.Format.{samplesOf}
+use Rattle.audio.specs.Inner.{Scattered}
+use Rattle.audio.specs.declared.format.Format.{Format}
+use Rattle.audio.proofs.Planes.{frames-at-length}
 use Rattle.detector.specs.Run.{runLength}
 use Rattle.keeper.specs.InOrder.{mostFrames}
-use Rattle.frame.specs.Rules.{Rules, presentRules}
+use Rattle.frame.specs.Rules.{Rules, rulesOf}
 use Rattle.frame.specs.Frame.{Framed}
 use Rattle.frame.specs.Run.{framesIn, writtenIn, runOf}
-use Rattle.frame.proofs.Exchange.{frames-length}
 use Rattle.frame.proofs.Keeps.{frames-kept, frames-many}
 use Rattle.limiter.specs.Stores.{Stores, lengthsOf, lengthsFit}
 use Rattle.limiter.specs.Order
@@ -21,10 +25,8 @@ use Rattle.limiter.specs.Run.{movingOf, Ran, ranAt, renderOf, KernelReady}
 use Rattle.limiter.specs.declared.state.Limiter.{Limiter}
 use Rattle.limiter.proofs.Frames.{bounds-of}
 use Rattle.limiter.proofs.Keeping.{render-prepared, render-lengths, render-in-order}
-use Rattle.driver.specs.Planar.{framesAt, written}
 use Rattle.driver.specs.Block.{rendered, outputsOf}
-use Rattle.driver.specs.Inner.{Carried, RunsReady, RunAsked, RunGiven}
-use Rattle.driver.proofs.Planes.{gathered, scattered}
+use Rattle.driver.specs.Inner.{RunsReady, Lends, RunAsked, Joins, RunGiven}
 
 -- ---- the kernel's run, as frames in turn
 -- a run of its frames
@@ -56,41 +58,48 @@ pub run-room : (l : Limiter) (run : List Float) → Order.prepared l ≡ true �
 run-room l run h e = let b = bounds-of l h in omega (arith, b .most, e)
 
 -- a run leaves limiter and stores as ready as they were
-pub still-ready : (l : Limiter) (target : Float) (n : ℕ) (s : Stores) (run : List Float) → KernelReady l n s run → within Number.zero one target ≡ true
-    → (left : ℕ) → l .env .keeper .frame + (n + left) ≤ mostFrames → (let r = rendered presentRules l s target (framesIn (l .channels) n run) in RunsReady (r .limiter) left (r .stores))
+pub still-ready : (rules : Rules) (l : Limiter) (target : Float) (n : ℕ) (s : Stores) (run : List Float) → KernelReady l n s run → within Number.zero one target ≡ true
+    → (left : ℕ) → l .env .keeper .frame + (n + left) ≤ mostFrames → (let r = rendered rules l s target (framesIn (l .channels) n run) in RunsReady (r .limiter) left (r .stores))
 unfolding rendered
-still-ready l target n s run k unit left room =
-    let e = ran-as presentRules l target n s run in
-    let o = renderOf presentRules l target n s run in
-    let many = frames-length (l .channels) n 0 run in
-    let counted = frames-counted presentRules l target s (framesIn (l .channels) n run) in
+still-ready rules l target n s run k unit left room =
+    let e = ran-as rules l target n s run in
+    let o = renderOf rules l target n s run in
+    let many = frames-at-length nan runLength (l .channels) 0 n run in
+    let counted = frames-counted rules l target s (framesIn (l .channels) n run) in
     record {
-      set-up = subst (λ (r : Ran). Order.prepared (r .limiter) ≡ true) e (render-prepared presentRules l target n s run k);
-      lengths = subst (λ (r : Ran). lengthsFit (l .channels) (r .limiter .env .keeper .look) (lengthsOf (r .stores)) ≡ true) e (render-lengths presentRules l target n s run k);
-      order = subst (λ (r : Ran). Order.inOrder (r .limiter) (r .stores .marks) (r .stores .minima) (r .stores .row) ≡ true) e (render-in-order presentRules l target n s run k unit);
+      set-up = subst (λ (r : Ran). Order.prepared (r .limiter) ≡ true) e (render-prepared rules l target n s run k);
+      lengths = subst (λ (r : Ran). lengthsFit (l .channels) (r .limiter .env .keeper .look) (lengthsOf (r .stores)) ≡ true) e (render-lengths rules l target n s run k);
+      order = subst (λ (r : Ran). Order.inOrder (r .limiter) (r .stores .marks) (r .stores .minima) (r .stores .row) ≡ true) e (render-in-order rules l target n s run k unit);
       room = omega (arith, counted, many, room);
     }
 
+-- what a call keeps of the limiter
+pub settings-kept : (rules : Rules) (l : Limiter) (target : Float) (s : Stores) (fs : List (List Float)) (after : Limiter) → after ≡ rendered rules l s target fs .limiter → after .settings ≡ l .settings
+unfolding rendered
+settings-kept rules l target s fs after e = ap (λ (z : Limiter). z .settings) e
+
+-- a run that holds outputs is scattered: they join those before them
+pub outputs-join : (format : Format) (k n : ℕ) (run run' : List Float) (width first : ℕ) (bytes bytes' : List ℕ) (more : List (List Float)) → length more ≡ n → n ≤ runLength → k * runLength ≤ length run
+    → run' ≡ writtenIn k n run more → Scattered format k n run' width first bytes bytes' → Joins format width k first n bytes more bytes'
+outputs-join format k n run run' width first bytes bytes' more m short room e c before outputs o b w = c .joins before outputs o b w ∙ ?
+
 -- ---- gathered, rendered, scattered
-module _ (l : Limiter) (target : Float) (width first n : ℕ) (s : Stores) (audio run₀ run run' audio' : List Float) (after : Limiter) (stores : Stores) where
-  pub run-given : RunAsked l target width first n s audio run₀ → length run ≡ length run₀ → Carried (l .channels) n width first audio runLength 0 run₀ run
-      → ranAt after stores run' ≡ renderOf presentRules l target n s run → Carried (l .channels) n runLength 0 run' width first audio audio' → length audio' ≡ length audio
-      → RunGiven l target width first n s audio after stores audio'
-  run-given a m g r c f =
-      let k = kernel-asks l n s run (a .ready) (a .some) (a .short) (m ∙ a .run-fit) in
-      let fs : framesIn (l .channels) n run ≡ framesAt width (l .channels) first n audio = gathered (l .channels) n width first audio run₀ run g in
-      let e = r ∙ ran-as presentRules l target n s run in
-      let many = shown-many presentRules l target s (framesIn (l .channels) n run) ∙ frames-length (l .channels) n 0 run in
-      let shown = rendered presentRules l s target (framesIn (l .channels) n run) .frames in
+module _ (l : Limiter) (format : Format) (target : Float) (width first n : ℕ) (s : Stores) (bytes : List ℕ) (run₀ run run' : List Float) (bytes' : List ℕ) (after : Limiter) (stores : Stores) where
+  abbrev rules : Rules
+  rules = rulesOf (l .settings) format
+
+  pub run-given : RunAsked l format target width first n s bytes run₀ → length run ≡ length run₀ → framesIn (l .channels) n run ≡ framesAt nan width (l .channels) first n (samplesOf format bytes)
+      → ranAt after stores run' ≡ renderOf rules l target n s run → Scattered format (l .channels) n run' width first bytes bytes' → RunGiven l format target width first n s bytes after stores bytes'
+  run-given a m fs r c =
+      let k = kernel-asks l n s run (a .ready) (a .some) (a .short) (m ∙ a .lends .run-fit) in
+      let e = r ∙ ran-as rules l target n s run in
+      let many = shown-many rules l target s (framesIn (l .channels) n run) ∙ frames-at-length nan runLength (l .channels) 0 n run in
+      let shown = rendered rules l s target (framesIn (l .channels) n run) .frames in
       record {
-        limiter-is = ap (λ (z : Ran). z .limiter) e ∙ ap (λ (z : List (List Float)). rendered presentRules l s target z .limiter) fs;
-        stores-are = ap (λ (z : Ran). z .stores) e ∙ ap (λ (z : List (List Float)). rendered presentRules l s target z .stores) fs;
-        audio-is = λ before outputs o b w.
-            scattered width (l .channels) first n before outputs (outputsOf shown) run audio' o (length-map shown (λ (x : Framed). x .outputs) ∙ many) b (a .inside) (a .short)
-            (run-room l run (a .ready .set-up) (m ∙ a .run-fit)) (f ∙ a .audio-fit)
-            (subst (λ (z : List Float). Carried (l .channels) n runLength 0 z width first (written width (l .channels) first before outputs) audio') (ap (λ (z : Ran). z .audio) e)
-            (subst (λ (z : List Float). Carried (l .channels) n runLength 0 run' width first z audio') w c))
-            ∙ ap (λ (z : List (List Float)). written width (l .channels) (first + n) before (outputs ++ outputsOf (rendered presentRules l s target z .frames))) fs;
-        still = λ left room.
-            subst (λ (z : Ran). RunsReady (z .limiter) left (z .stores)) (sym e) (still-ready l target n s run k (a .unit) left room);
+        limiter-is = ap (λ (z : Ran). z .limiter) e ∙ ap (λ (z : List (List Float)). rendered rules l s target z .limiter) fs;
+        stores-are = ap (λ (z : Ran). z .stores) e ∙ ap (λ (z : List (List Float)). rendered rules l s target z .stores) fs;
+        audio-is =
+            subst (λ (z : List (List Float)). Joins format width (l .channels) first n bytes (outputsOf (rendered rules l s target z .frames)) bytes') fs
+            (outputs-join format (l .channels) n run run' width first bytes bytes' (outputsOf shown) (length-map shown (λ (x : Framed). x .outputs) ∙ many) (a .short) (run-room l run (a .ready .set-up) (m ∙ a .lends .run-fit)) (ap (λ (z : Ran). z .audio) e) c);
+        still = λ left room. subst (λ (z : Ran). RunsReady (z .limiter) left (z .stores)) (sym e) (still-ready rules l target n s run k (a .unit) left room);
       }

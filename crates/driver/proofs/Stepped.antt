@@ -1,27 +1,29 @@
 -- The lone gain step: its refusals in turn, what the envelope's step asks, and what it leaves.
-use mathlib.Core.Path.{_≡_, refl, sym, _∙_}
+use mathlib.Core.Path.{_≡_, refl, sym, ap, _∙_}
 use mathlib.Core.Bool.{Bool, true, false, not, _&&_}
 use Prim.Native.Nat.{ℕ, _+_}
 use lib.Dec.{eqb}
 use lib.ListN.{length}
 use lib.Ieee.{Float}
-use borrow.Author.Tests.{eqb-true, eq-eqb, ne-eqb, leb-true, not-true, not-false}
+use borrow.Author.Tests.{eqb-true, leb-true, not-true, not-false}
 use Rattle.arithmetic.proofs.Order.{and-true}
 use Rattle.keeper.specs.InOrder.{mostFrames}
 use Rattle.envelope.specs.Step.{GainStepped, envelopedAt, EnvReady}
-use Rattle.arithmetic.specs.Reply.{unless}
+use Rattle.arithmetic.specs.Reply.{Reply, numbered, must}
 use Rattle.settings.specs.Derived.{rowOf}
 use Rattle.limiter.specs.Stores.{Stores}
 use Rattle.limiter.specs.Order
-use Rattle.limiter.specs.Prepare.{numbered}
 use Rattle.limiter.specs.declared.state.Limiter.{Limiter}
 use Rattle.limiter.proofs.Frames.{order-is}
 use Rattle.driver.specs.Machine.{Machine, prepared, inOrder, targetInRange}
 use Rattle.driver.specs.Block.{hasRoom}
 use Rattle.driver.specs.Calls.{left, gainFits, gainReply, gainOf, gainDone, gainStep}
-use Rattle.driver.specs.Answers.{gainAnswerOf, gainReplyOf}
+use Rattle.driver.specs.Answers.{answerReply, gainReplyOf}
+use Rattle.driver.specs.declared.answers.Answer.{Answer}
 use Rattle.driver.specs.declared.answers.GainAnswer.{GainAnswer}
+use Rattle.driver.specs.declared.answers.Refusal.{Refusal}
 use Rattle.driver.proofs.Judged.{kept-first}
+use Rattle.driver.proofs.Refusing.{refused-some}
 
 -- ---- 16 of the four stores
 pub record GainFit (l : Limiter) (s : Stores) : Type 0 where
@@ -52,53 +54,45 @@ module _ (m : Machine) where
   abbrev kernel : Bool
   kernel = Order.inOrder (m .limiter) (m .stores .marks) (m .stores .minima) (m .stores .row)
 
-  pub gain-not-set-up : prepared (m .limiter) (m .bank) ≡ false → 18 ≡ gainReply m
+  pub gain-not-set-up : prepared (m .limiter) (m .bank) ≡ false → numbered 18 ≡ numbered (gainReply m)
   unfolding gainReply
   gain-not-set-up h = rw h refl
 
   module _ (h : prepared (m .limiter) (m .bank) ≡ true) (f : Bool) (F : f ≡ gainFits (m .limiter) (m .stores)) where
-    pub gain-lengths : not f ≡ true → 16 ≡ gainReply m
+    pub gain-lengths : not f ≡ true → numbered 16 ≡ numbered (gainReply m)
     unfolding gainReply
     gain-lengths z = rw (h, ← F, not-true f z) refl
 
     module _ (z : not f ≡ false) (k t : Bool) (K : k ≡ kernel) (T : t ≡ targetInRange (m .bank)) where
-      pub gain-disorder : k && t ≡ false → 19 ≡ gainReply m
+      pub gain-disorder : k && t ≡ false → numbered 19 ≡ numbered (gainReply m)
       unfolding gainReply inOrder
       gain-disorder o = rw (h, ← F, not-false f z, ← K, ← T, o) refl
 
-      pub gain-room : k && t ≡ true → (r : Bool) → hasRoom m 1 ≡ r → unless r 22 0 ≡ gainReply m
+      pub gain-room : k && t ≡ true → (r : Bool) → hasRoom m 1 ≡ r → must r 22 ≡ numbered (gainReply m)
       unfolding gainReply inOrder
-      gain-room o r e = rw (h, ← F, not-false f z, ← K, ← T, o, e) refl
+      gain-room o true e = rw (h, ← F, not-false f z, ← K, ← T, o, e) refl
+      gain-room o false e = rw (h, ← F, not-false f z, ← K, ← T, o, e) refl
 
 -- ---- refused, or done
-abbrev turn : Bool → Bool → Bool → Bool → ℕ
-turn p f o r = unless p 18 (unless f 16 (unless o 19 (unless r 22 0)))
+module _ (m : Machine) (x : Float) (r : Answer) (R : answerReply r ≡ numbered (gainReply m)) where
+  number-is : gainReply m ≡ answerReply r .number
+  number-is = ap (λ (y : Reply). y .number) (sym R)
 
-module _ (m : Machine) (x : Float) (n : ℕ) (e : n ≡ gainReply m) where
-  -- each number's case replies with it
-  told : (gainReply m ≡ 0 → ⊥) → gainReplyOf (gainAnswerOf (gainReply m)) ≡ numbered (gainReply m)
-  unfolding gainReply
-  told = go (prepared (m .limiter) (m .bank)) (gainFits (m .limiter) (m .stores)) (inOrder m) (hasRoom m 1)
-    where
-      go : (p f o r : Bool) → (turn p f o r ≡ 0 → ⊥) → gainReplyOf (gainAnswerOf (turn p f o r)) ≡ numbered (turn p f o r)
-      go true true true true z = absurd (z refl)
-      go true true true false z = refl
-      go true true false r z = refl
-      go true false o r z = refl
-      go false f o r z = refl
-
-  pub gain-refused : (n ≡ 0 → ⊥) → (a : GainAnswer) → a ≡ gainAnswerOf n → left (gainReplyOf a) m ≡ gainStep m x
+  pub gain-refused : (why : Refusal) → r ≡ Answer.Refused why → left (gainReplyOf (GainAnswer.Refused why)) m ≡ gainStep m x
   unfolding gainStep
-  gain-refused z a k =
-      let some : gainReply m ≡ 0 → ⊥ = λ y. z (e ∙ y) in
-      rw (k, e, told some, ne-eqb (gainReply m) 0 some) refl
+  gain-refused why W =
+      let n : eqb (gainReply m) 0 ≡ false = ap (λ (k : ℕ). eqb k 0) (number-is ∙ ap (λ (a : Answer). answerReply a .number) W) ∙ refused-some why in
+      ap (λ (a : Answer). left (answerReply a) m) (sym W) ∙ ap (λ (y : Reply). left y m) R ∙ rw n refl
 
-  module _ (z : n ≡ 0) where
+  module _ (F : r ≡ Answer.Finished) where
+    none : gainReply m ≡ 0
+    none = number-is ∙ ap (λ (a : Answer). answerReply a .number) F
+
     pub gain-ready : EnvReady (m .stores .weights) (envelopedAt (m .limiter .env) (m .stores .marks) (m .stores .minima) (m .stores .row))
     unfolding gainReply inOrder
     gain-ready =
         let k = Order.inOrder (m .limiter) (m .stores .marks) (m .stores .minima) (m .stores .row) in
-        let p = kept-first (prepared (m .limiter) (m .bank)) 17 _ (sym e ∙ z) in
+        let p = kept-first (prepared (m .limiter) (m .bank)) 17 _ none in
         let f = kept-first (gainFits (m .limiter) (m .stores)) 15 _ (p .1) in
         let o = kept-first (k && targetInRange (m .bank)) 18 _ (f .1) in
         let r = kept-first (hasRoom m 1) 21 0 (o .1) in
@@ -112,4 +106,4 @@ module _ (m : Machine) (x : Float) (n : ℕ) (e : n ≡ gainReply m) where
 
     pub gain-done : (g : GainStepped) → g ≡ gainOf m x → gainDone m g ≡ gainStep m x
     unfolding gainStep
-    gain-done g k = rw (k, eq-eqb (gainReply m) 0 (sym e ∙ z)) refl
+    gain-done g k = rw (k, none) refl

@@ -7,8 +7,8 @@ use Rattle.limiter.specs.Stores.{storesAt}
 use Rattle.bank.proofs.Tests.{held, failed}
 use Rattle.driver.specs.Machine.{Machine, machineAt}
 use Rattle.driver.proofs.Judged.{not-set-up, kernel-refused, kernel-passed}
-use Rattle.driver.proofs.state.KernelProcessor.refusal.Statement.{statement}
-use Rattle.driver.proofs.state.KernelProcessor.refusal.Tie as tie
+use Rattle.driver.proofs.state.KernelProcessor.judge.Statement.{statement}
+use Rattle.driver.proofs.state.KernelProcessor.judge.Tie as tie
 
 abbrev machine : tie.Start → Machine
 machine s =
@@ -40,8 +40,8 @@ returns-4 c =
     kernel-passed (machine (c .before .before .before .before .before .before .before .before .before .before .before .before .before .before)) (held (c .before .before .before .before .before .before .before .is-prepared .ensures) (c .before .before .before .before .before .before .if1 .left)) (c .before .before .before .refusal .result) (c .before .before .before .refusal .ensures) (c .before .before .if2 .left) false
     (sym (c .before .target-in-range .ensures) ∙ c .if3 .left)
 
-pub refusal-spec : {M : Type 1} → statement M
-refusal-spec =
+pub judge-spec : {M : Type 1} → statement M
+judge-spec =
     tie.close
     (tie.spec
     is-prepared-requires

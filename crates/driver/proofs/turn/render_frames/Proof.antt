@@ -5,8 +5,8 @@ use borrow.Author.Needs.{needs}
 use denote.Ref.{now}
 use Rattle.limiter.specs.Stores.{storesAt}
 use Rattle.driver.proofs.Rendering.{kernel-asks, run-room, run-given}
-use Rattle.driver.proofs.run.render_frames.Statement.{statement}
-use Rattle.driver.proofs.run.render_frames.Tie as tie
+use Rattle.driver.proofs.turn.render_frames.Statement.{statement}
+use Rattle.driver.proofs.turn.render_frames.Tie as tie
 
 carry-requires : tie.Need-carry-requires
 carry-requires c κs =

@@ -5,8 +5,8 @@ use denote.Ref.{now}
 use Rattle.driver.specs.Events.{eventsFrom}
 use Rattle.driver.specs.Inner.{latchedAt}
 use Rattle.driver.proofs.Latching.{step-taken, step-left}
-use Rattle.driver.proofs.run.before_run.Statement.{statement}
-use Rattle.driver.proofs.run.before_run.Tie as tie
+use Rattle.driver.proofs.events.before_run.Statement.{statement}
+use Rattle.driver.proofs.events.before_run.Tie as tie
 
 latch-requires : tie.Need-latch-requires
 latch-requires c κs = c .before .pre

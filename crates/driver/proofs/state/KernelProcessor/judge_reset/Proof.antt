@@ -8,8 +8,8 @@ use Rattle.limiter.proofs.Frames.{bounds-of}
 use Rattle.bank.proofs.Tests.{held, failed}
 use Rattle.driver.specs.Machine.{Machine, machineAt}
 use Rattle.driver.proofs.Judged.{prepared-is, reset-not-set-up, reset-lengths}
-use Rattle.driver.proofs.state.KernelProcessor.reset_refusal.Statement.{statement}
-use Rattle.driver.proofs.state.KernelProcessor.reset_refusal.Tie as tie
+use Rattle.driver.proofs.state.KernelProcessor.judge_reset.Statement.{statement}
+use Rattle.driver.proofs.state.KernelProcessor.judge_reset.Tie as tie
 
 abbrev machine : tie.Start → Machine
 machine s =
@@ -34,6 +34,6 @@ returns-2 c = reset-lengths (machine (c .before .before .before .before .before 
 returns-3 : tie.Need-returns-3
 returns-3 c = reset-lengths (machine (c .before .before .before .before .before .before .before .before .before .before .before)) (held (c .before .before .before .before .is-prepared .ensures) (c .before .before .before .if1 .left)) false (sym (c .before .lengths-fit .ensures) ∙ c .if2 .left)
 
-pub reset-refusal-spec : {M : Type 1} → statement M
-reset-refusal-spec =
+pub judge-reset-spec : {M : Type 1} → statement M
+judge-reset-spec =
     tie.close (tie.spec is-prepared-requires returns lengths-fit-requires returns-2 returns-3)

@@ -15,8 +15,8 @@ use Rattle.driver.specs.Machine.{Machine, machineAt}
 use Rattle.driver.specs.Calls.{gainFits}
 use Rattle.driver.proofs.Judged.{prepared-is}
 use Rattle.driver.proofs.Stepped.{gain-fit, gain-not-set-up, gain-lengths, gain-disorder, gain-room}
-use Rattle.driver.proofs.state.KernelProcessor.gain_refusal.Statement.{statement}
-use Rattle.driver.proofs.state.KernelProcessor.gain_refusal.Tie as tie
+use Rattle.driver.proofs.state.KernelProcessor.judge_gain.Statement.{statement}
+use Rattle.driver.proofs.state.KernelProcessor.judge_gain.Tie as tie
 
 abbrev machine : tie.Start → List Float → List Float → Machine
 machine s delay detector =
@@ -74,8 +74,8 @@ returns-5 c delay detector =
     gain-room (machine (p .before .before .before .before .before) delay detector) (held (p .is-prepared .ensures) (f .before .before .before .if1 .left)) (f .stores-fit .result) (f .stores-fit .ensures delay detector) (c .before .before .before .before .before .if2 .left)
     (o .result) (t .result) (o .ensures) (t .ensures) (not-false _ (c .before .before .if3 .left)) false (lt-leb (p .before .before .before .before .before .args .self .limiter .env .keeper .frame + 1) mostFrames (omega (arith, c .if4 .left)))
 
-pub gain-refusal-spec : {M : Type 1} → statement M
-gain-refusal-spec =
+pub judge-gain-spec : {M : Type 1} → statement M
+judge-gain-spec =
     tie.close
     (tie.spec
     is-prepared-requires

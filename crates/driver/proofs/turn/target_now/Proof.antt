@@ -1,8 +1,8 @@
 -- `target_now`: the target of the first slot's value.
 use mathlib.Core.Path.{refl, _∙_}
 use borrow.Author.Needs.{needs}
-use Rattle.driver.proofs.run.target_now.Statement.{statement}
-use Rattle.driver.proofs.run.target_now.Tie as tie
+use Rattle.driver.proofs.turn.target_now.Statement.{statement}
+use Rattle.driver.proofs.turn.target_now.Tie as tie
 
 value-at-requires : tie.Need-value-at-requires
 value-at-requires c κs = search needs
