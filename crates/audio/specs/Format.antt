@@ -1,10 +1,10 @@
 -- The sample type of a call: how many bytes a sample has, what it is worth, and what bytes an output becomes.
 use Prim.Native.Nat.{ℕ, _/_, _%_}
 use mathlib.Core.Bool.{cond}
-use mathlib.Core.List.{List, [], map}
+use mathlib.Core.List.{List, map}
 use lib.Dec.{eqb}
 use lib.ListN.{length}
-use lib.Ieee.{Float, binary64, toBits}
+use lib.Ieee.{Float, nan, binary64, toBits}
 use Rattle.arithmetic.specs.Number.{bits, largest}
 use Rattle.audio.specs.Bytes.{wordOf, bytesOf, cut, joined}
 use Rattle.audio.specs.Planar.{written}
@@ -35,7 +35,7 @@ placesOf format bytes = cut (sampleBytes format) (length bytes / sampleBytes for
 abbrev pub samplesOf : Format → List ℕ → List Float
 samplesOf format bytes = map (sampleOf format) (placesOf format bytes)
 
--- the bytes with the outputs of the first n frames in their samples' places, and every other byte as it was
+-- the bytes with the outputs of the first n frames in their samples' places, and every other byte as it was; an output that is missing is a NaN
 unfoldable pub writtenBytes : Format → ℕ → ℕ → ℕ → List ℕ → List (List Float) → List ℕ
 writtenBytes format width channels n bytes outputs =
-    joined (written [] width channels n (placesOf format bytes) (map (map (bytesFor format)) outputs))
+    joined (written (bytesFor format nan) width channels n (placesOf format bytes) (map (map (bytesFor format)) outputs))

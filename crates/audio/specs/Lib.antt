@@ -2,3 +2,4 @@
 pub mod Bytes
 pub mod Planar
 pub mod Format
+pub mod Inner

@@ -1,4 +1,4 @@
--- Laws of the detector that belong to no one function. `Store` and `Peak` are what the layers above cite; the others are the steps of the functions' own proofs.
+-- Laws of the detector that belong to no one function.
 pub mod Store
 pub mod Peak
 pub mod Sum

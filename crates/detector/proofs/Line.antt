@@ -11,9 +11,9 @@ use lib.Ieee.{Float}
 use borrow.Author.Tests.{eq-eqb, ne-eqb, le-leb, lt-leb}
 use Rattle.arithmetic.specs.Sanitize.{finiteOrZero}
 use Rattle.detector.specs.Oversample.{remembered, shifted, sumsOf, largestOf, detected}
-use Rattle.detector.specs.Run.{runLength, pushesOf, peaksAbsOf, answersIn}
+use Rattle.detector.specs.Run.{runLength, pushesAt, pushesOf, peaksAbsOf, answersIn}
 use Rattle.detector.proofs.Copy.{copied-more}
-use Rattle.detector.proofs.Store.{shifted-length, push-shifts}
+use Rattle.detector.proofs.Store.{shifted-length, push-shifts, run-pushes}
 
 -- ---- `window`
 pub window-more : (l line : List Float) (at i : ℕ) (d : Float) → i < length l → at + i < length line → take i l ≡ take i (drop at line)
@@ -118,21 +118,25 @@ module _ (phases : List (List Float)) where
       ∙ drop-at (take n z) (take remembered store ++ drop (n + remembered) z) n (length-take-le n z p)
       ∙ ap (λ (l : List Float). l ++ drop (n + remembered) z) (take-all remembered store (omega arith))
 
-  module _ (store run : List Float) where
+  module _ (store run old : List Float) where
     -- what the calls of `peaks_abs` add up to
-    pub ran : (z behind line answers newest left : List Float) → length store ≡ remembered → length run ≤ runLength → runLength ≤ length z
-        → behind ≡ paste z (length run) store remembered → line ≡ reverseAux (map finiteOrZero run) (drop (length run) behind) → answers ≡ answersIn phases line (length run)
-        → newest ≡ take remembered line → left ≡ newest → record { peaks = answers; store = left } ≡ peaksAbsOf phases store run
-    unfolding peaksAbsOf
-    ran z behind line answers newest left n p q e0 e1 e2 e3 e4 =
+    pub ran : (z behind line answers newest left : List Float) → length run ≤ runLength → length store ≡ remembered → length old ≡ length run → runLength ≤ length z
+        → behind ≡ paste z (length run) store remembered → line ≡ reverseAux (map finiteOrZero run) (drop (length run) behind) → answers ≡ answersIn phases line (length old)
+        → newest ≡ take remembered line → left ≡ newest → pushesAt answers left ≡ peaksAbsOf phases store run old
+    ran z behind line answers newest left p n m q e0 e1 e2 e3 e4 =
         let rest = drop (length run + remembered) z in
         let e : line ≡ lined run (store ++ rest) = e1 ∙ ap (lined run) (ap (drop (length run)) e0 ∙ laid z store (length run) (omega arith) n) in
-        rw (eq-eqb (length store) remembered n, le-leb (length run) runLength p, e4, e3, e2, e, answers-pushes run store rest n, store-pushes run store rest n)
+        rw (run-pushes phases store run old p n m, e4, e3, e2, m, e, answers-pushes run store rest n, store-pushes run store rest n)
 
-    pub store-alone : (length store ≡ remembered → ⊥) → record { peaks = run; store = store } ≡ peaksAbsOf phases store run
+    -- where a test fails, answers and store stay
+    pub run-alone : runLength < length run → pushesAt old store ≡ peaksAbsOf phases store run old
     unfolding peaksAbsOf
-    store-alone n = rw (ne-eqb (length store) remembered n)
+    run-alone p = rw (lt-leb (length run) runLength p)
 
-    pub run-alone : length store ≡ remembered → runLength < length run → record { peaks = run; store = store } ≡ peaksAbsOf phases store run
+    pub store-alone : length run ≤ runLength → (length store ≡ remembered → ⊥) → pushesAt old store ≡ peaksAbsOf phases store run old
     unfolding peaksAbsOf
-    run-alone n p = rw (eq-eqb (length store) remembered n, lt-leb (length run) runLength p)
+    store-alone p n = rw (le-leb (length run) runLength p, ne-eqb (length store) remembered n)
+
+    pub answers-alone : length run ≤ runLength → length store ≡ remembered → (length old ≡ length run → ⊥) → pushesAt old store ≡ peaksAbsOf phases store run old
+    unfolding peaksAbsOf
+    answers-alone p n m = rw (le-leb (length run) runLength p, eq-eqb (length store) remembered n, ne-eqb (length old) (length run) m)

@@ -1,15 +1,13 @@
--- The largest magnitude: two tests find it as well as a magnitude and one test, and it is a number that is not below 0.
-use mathlib.Core.Path.{_≡_, refl, sym, _∙_}
+-- The larger magnitude: two tests find it as well as a magnitude and one test, and it is not below 0.
+use mathlib.Core.Path.{_≡_, refl}
 use mathlib.Core.Bool.{Bool, true, false, cond}
-use mathlib.Core.List.{List, [], _∷_}
 use Prim.Native.Nat.{_*_}
 use native.Mathlib.Omega.{arith}
 use borrow.Author.Tests.{le-ltb}
-use lib.Ieee.{Float, nan, inf, fin, up, down, lt, neg, isNan}
+use lib.Ieee.{Float, nan, inf, fin, up, down, lt, neg}
 use Rattle.arithmetic.specs.Number.{zero, absOf, withSign}
 use Rattle.arithmetic.proofs.Order.{clash, not-lt→le, le→not-lt, le-then-le}
-use Rattle.detector.specs.Oversample.{Outcome, shifted, sumsOf, larger, largestFrom, largestOf, detected, peakAbsOf}
-use Rattle.detector.proofs.Store.{push-cases}
+use Rattle.detector.specs.Oversample.{larger}
 
 -- ---- the two tests
 
@@ -84,33 +82,3 @@ larger-not-below p s h = go (lt p (absOf s)) refl
 -- what `larger_of` promises of a result that equals the larger one
 pub both-ways : {r : Float} (p s : Float) → lt p zero ≡ false → r ≡ larger p s → (r ≡ larger p s) × (lt r zero ≡ false)
 both-ways p s h e = (e, rw e (larger-not-below p s h))
-
--- a test that passed compared numbers
-above-not-nan : (p a : Float) → lt p a ≡ true → isNan a ≡ false
-unfolding lt isNan
-above-not-nan p nan h = clash false (sym (no-nan-above p) ∙ h) refl
-above-not-nan p (inf s) h = refl
-above-not-nan p (fin s m e) h = refl
-
-pub larger-not-nan : (p s : Float) → isNan p ≡ false → isNan (larger p s) ≡ false
-unfolding larger
-larger-not-nan p s h = go (lt p (absOf s)) refl
-  where
-    go : (b : Bool) → lt p (absOf s) ≡ b → isNan (larger p s) ≡ false
-    go true e = rw e (above-not-nan p (absOf s) e)
-    go false e = rw e h
-
-largest-from : (p : Float) (sums : List Float) → lt p zero ≡ false → isNan p ≡ false → (lt (largestFrom p sums) zero ≡ false) × (isNan (largestFrom p sums) ≡ false)
-unfolding largestFrom
-largest-from p [] h k = (h, k)
-largest-from p (s ∷ ss) h k = largest-from (larger p s) ss (larger-not-below p s h) (larger-not-nan p s k)
-
-pub largest-number : (sums : List Float) → (lt (largestOf sums) zero ≡ false) × (isNan (largestOf sums) ≡ false)
-unfolding largestOf lt isNan
-largest-number sums = largest-from zero sums refl refl
-
--- whatever the store holds, a push answers a number that is not below 0
-pub push-number : (phases : List (List Float)) (store : List Float) (x : Float) → (lt (peakAbsOf phases store x .peak) zero ≡ false) × (isNan (peakAbsOf phases store x .peak) ≡ false)
-unfolding detected lt isNan
-push-number phases store x =
-    push-cases phases store x (λ (o : Outcome). (lt (o .peak) zero ≡ false) × (isNan (o .peak) ≡ false)) (λ n. largest-number (sumsOf phases (shifted store x))) (refl, refl)

@@ -7,7 +7,6 @@ use lib.ListN.{length, take}
 use lib.Ieee.{Float, binary64, add, mul, lt}
 use Rattle.arithmetic.specs.Number.{zero, absOf}
 use Rattle.arithmetic.specs.Sanitize.{finiteOrZero}
-use Rattle.detector.specs.declared.oversample.Peak.{Peak}
 
 -- how many samples a channel's store remembers
 abbrev pub remembered : ℕ
@@ -44,18 +43,18 @@ largestFrom peak (s ∷ ss) = largestFrom (larger peak s) ss
 unfoldable pub largestOf : List Float → Float
 largestOf sums = largestFrom zero sums
 
--- what a call gives: its answer, and the store afterwards
-pub record Outcome : Type 0 where
+-- what a push gives: its answer, and the store afterwards
+pub record Pushed : Type 0 where
   pub peak : Float
   pub store : List Float
 
-abbrev pub outcomeAt : Peak → List Float → Outcome
-outcomeAt answer store = record { peak = answer .peak; store = store }
+abbrev pub pushedAt : Float → List Float → Pushed
+pushedAt peak store = record { peak = peak; store = store }
 
 -- the answer for the samples that a store now holds
-unfoldable pub detected : List (List Float) → List Float → Outcome
-detected phases store = record { peak = largestOf (sumsOf phases store); store = store }
+unfoldable pub detected : List (List Float) → List Float → Pushed
+detected phases store = pushedAt (largestOf (sumsOf phases store)) store
 
 -- One push. A store that does not hold 12 samples is left alone, and the answer is 0.0.
-unfoldable pub peakAbsOf : List (List Float) → List Float → Float → Outcome
-peakAbsOf phases store x = cond (eqb (length store) remembered) (detected phases (shifted store x)) (record { peak = zero; store = store })
+unfoldable pub peakAbsOf : List (List Float) → List Float → Float → Pushed
+peakAbsOf phases store x = cond (eqb (length store) remembered) (detected phases (shifted store x)) (pushedAt zero store)

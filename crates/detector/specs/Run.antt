@@ -5,32 +5,33 @@ use mathlib.Core.List.{List, [], _∷_}
 use lib.Dec.{eqb, leb}
 use lib.ListN.{length, take, drop}
 use lib.Ieee.{Float}
-use Rattle.detector.specs.Oversample.{Outcome, remembered, sumsOf, largestOf, peakAbsOf}
+use Rattle.detector.specs.Oversample.{Pushed, remembered, sumsOf, largestOf, peakAbsOf}
 
 -- how many frames a run has at most
 abbrev pub runLength : ℕ
 runLength = 32
 
--- the answers, one for each sample, the first pushed first; and the store afterwards
-pub record RunOutcome : Type 0 where
+-- what pushes give: the answers, one for each sample, the first pushed first; and the store afterwards
+pub record Pushes : Type 0 where
   pub peaks : List Float
   pub store : List Float
 
-abbrev pub runOutcomeAt : List Float → List Float → RunOutcome
-runOutcomeAt peaks store = record { peaks = peaks; store = store }
+abbrev pub pushesAt : List Float → List Float → Pushes
+pushesAt peaks store = record { peaks = peaks; store = store }
 
--- a push, and what the later ones come to
-abbrev pub followed : Outcome → RunOutcome → RunOutcome
-followed o later = record { peaks = o .peak ∷ later .peaks; store = later .store }
+-- a push, and then what the later ones come to
+abbrev pub pushFirst : Pushed → Pushes → Pushes
+pushFirst o later = pushesAt (o .peak ∷ later .peaks) (later .store)
 
 -- the pushes of a list of samples, the first of the list first
-unfoldable pub pushesOf : List (List Float) → List Float → List Float → RunOutcome
-pushesOf phases store [] = record { peaks = []; store = store }
-pushesOf phases store (x ∷ xs) = followed (peakAbsOf phases store x) (pushesOf phases (peakAbsOf phases store x .store) xs)
+unfoldable pub pushesOf : List (List Float) → List Float → List Float → Pushes
+pushesOf phases store [] = pushesAt [] store
+pushesOf phases store (x ∷ xs) = pushFirst (peakAbsOf phases store x) (pushesOf phases (peakAbsOf phases store x .store) xs)
 
--- Where the run has more than 32 samples or the store does not hold 12, both are left alone.
-unfoldable pub peaksAbsOf : List (List Float) → List Float → List Float → RunOutcome
-peaksAbsOf phases store run = cond (eqb (length store) remembered && leb (length run) runLength) (pushesOf phases store run) (record { peaks = run; store = store })
+-- Where the run has more than 32 samples, the store does not hold 12, or there is not a place of an answer for each sample, answers and store are left alone.
+unfoldable pub peaksAbsOf : List (List Float) → List Float → List Float → List Float → Pushes
+peaksAbsOf phases store samples answers =
+    cond (leb (length samples) runLength && (eqb (length store) remembered && eqb (length answers) (length samples))) (pushesOf phases store samples) (pushesAt answers store)
 
 -- ---- how the code goes about it: a line of samples, the newest first
 

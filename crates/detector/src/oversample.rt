@@ -9,8 +9,8 @@ ghost use lib.Ieee.{lt};
 ghost use Rattle.arithmetic.specs.Number.{zero};
 ghost use Rattle.arithmetic.specs.Sanitize.{finiteOrZero};
 ghost use Rattle.detector.specs.Taps.{taps};
-ghost use Rattle.detector.specs.Oversample.{remembered, shifted, sumOf, sumsOf, larger, largestOf, outcomeAt, peakAbsOf};
-ghost use Rattle.detector.specs.Run.{runLength, lineLength, answersIn, runOutcomeAt, peaksAbsOf};
+ghost use Rattle.detector.specs.Oversample.{remembered, shifted, sumOf, sumsOf, larger, largestOf, pushedAt, peakAbsOf};
+ghost use Rattle.detector.specs.Run.{runLength, lineLength, answersIn, pushesAt, peaksAbsOf};
 use crate::taps::PHASE_0;
 use crate::taps::PHASE_1;
 use crate::taps::PHASE_2;
@@ -90,7 +90,7 @@ fn write_back(store: &mut [f64], samples: &[f64; 12])
 // Push one input sample of a channel and answer the largest magnitude among the four interpolated
 // outputs. A store that is not twelve samples long is left alone, and the answer is 0.0.
 pub fn peak_abs(store: &mut [f64], x: f64) -> Peak
-    ensures { λ r. ⌜ outcomeAt r (now (store .exit)) ≡ peakAbsOf taps (now (store .entry)) x ⌝ }
+    ensures { λ r. ⌜ pushedAt (r .peak) (now (store .exit)) ≡ peakAbsOf taps (now (store .entry)) x ⌝ }
 {
     if store.len() != 12 {
         return Peak { peak: 0.0 };
@@ -132,7 +132,8 @@ fn lay_store(store: &[f64], line: &mut [f64; 44], at: usize)
 fn lay_run(run: &[f64], line: &mut [f64; 44])
     requires { ⌜ length (now run) ≤ runLength ⌝ }
     requires { ⌜ length (now line) ≡ lineLength ⌝ }
-    ensures { λ _. ⌜ now (line .exit) ≡ reverseAux (map finiteOrZero (now (run .entry))) (drop (length (now (run .entry))) (now (line .entry))) ⌝ }
+    ensures { λ _. ⌜ now (line .exit)
+        ≡ reverseAux (map finiteOrZero (now (run .entry))) (drop (length (now (run .entry))) (now (line .entry))) ⌝ }
     ensures { λ _. ⌜ length (now (line .exit)) ≡ lineLength ⌝ }
 {
     let n = run.len();
@@ -141,38 +142,43 @@ fn lay_run(run: &[f64], line: &mut [f64; 44])
     }
 }
 
-// The answer for each sample of a run, the oldest first, in the run's place. The turns are
-// independent of each other, so they can be computed side by side.
-fn answer_run(line: &[f64; 44], run: &mut [f64])
+// The answer for each sample of a run, the oldest first. The turns are independent of each other, so
+// they can be computed side by side.
+fn answer_run(line: &[f64; 44], answers: &mut [f64])
     requires { ⌜ length (now line) ≡ lineLength ⌝ }
-    requires { ⌜ length (now run) ≤ runLength ⌝ }
-    ensures { λ _. ⌜ now (run .exit) ≡ answersIn taps (now (line .entry)) (length (now (run .entry))) ⌝ }
+    requires { ⌜ length (now answers) ≤ runLength ⌝ }
+    ensures { λ _. ⌜ now (answers .exit) ≡ answersIn taps (now (line .entry)) (length (now (answers .entry))) ⌝ }
 {
-    let n = run.len();
+    let n = answers.len();
     for i in 0..n {
         let samples = window(line, n - 1 - i);
-        run[i] = peak_of(&samples);
+        answers[i] = peak_of(&samples);
     }
 }
 
-// Push a run of up to 32 samples of a channel: each sample gives way to what `peak_abs` would answer
-// for it, and the store is left as the single pushes would leave it, in less than half their time.
-// Where the run is longer or the store is not twelve samples long, both are left alone.
-pub fn peaks_abs(store: &mut [f64], run: &mut [f64])
-    ensures { λ _. ⌜ runOutcomeAt (now (run .exit)) (now (store .exit)) ≡ peaksAbsOf taps (now (store .entry)) (now (run .entry)) ⌝ }
+// Push a run of up to 32 samples of a channel: `answers` gets what `peak_abs` would answer for each,
+// and the store is left as the single pushes would leave it, in less than half their time. Where the
+// run is longer, the store is not twelve samples long or the answers are not as many as the samples,
+// both are left alone.
+pub fn peaks_abs(store: &mut [f64], samples: &[f64], answers: &mut [f64])
+    ensures { λ _. ⌜ pushesAt (now (answers .exit)) (now (store .exit))
+        ≡ peaksAbsOf taps (now (store .entry)) (now (samples .entry)) (now (answers .entry)) ⌝ }
 {
-    let n = run.len();
+    let n = samples.len();
+    if n > 32 {
+        return;
+    }
     if store.len() != 12 {
         return;
     }
-    if n > 32 {
+    if answers.len() != n {
         return;
     }
     // The newest sample of the run first, and behind the oldest what the store remembers.
     let mut line = [0.0; 44];
     lay_store(store, &mut line, n);
-    lay_run(run, &mut line);
-    answer_run(&line, run);
+    lay_run(samples, &mut line);
+    answer_run(&line, answers);
     let newest = window(&line, 0);
     write_back(store, &newest);
 }

@@ -10,10 +10,11 @@ use lib.ListN.{length, take, drop, length-append, length-drop, take-append-drop,
 use lib.Seq.{length-take-le, drop-append-le, drop-drop, take-at, drop-at}
 use lib.Ieee.{Float}
 use Rattle.detector.specs.Oversample.{remembered}
-use Rattle.detector.specs.Run.{runLength, RunOutcome, runOutcomeAt, pushesOf, peaksAbsOf}
+use Rattle.detector.specs.Run.{runLength, Pushes, pushesAt, pushesOf, peaksAbsOf}
 use Rattle.detector.specs.Taps.{taps}
 use Rattle.detector.proofs.Store.{run-pushes}
-use Rattle.frame.specs.Rules.{Rules, presentRules}
+use Rattle.settings.specs.declared.LimiterSettings.{LimiterSettings}
+use Rattle.frame.specs.Rules.{Linking, tapsOf, countsIn, linkingOf}
 use Rattle.frame.specs.Passes.{heardAll, Peaks, peaksAt, channelPeaks, peaksPass, Outputs, outputsAt, Written, writtenAt, posAfter, channelOutputs, outputsPass}
 
 -- ---- one channel's places in a flat store: w of them, from c × w on
@@ -66,43 +67,42 @@ module _ (l ys : List Float) (a w m : ℕ) (h : a + w ≤ length l) (fits : m �
 
 -- ---- peaks
 -- the stores of the channels passed, and what the rest comes to
-abbrev pub peaksSince : Rules → ℕ → ℕ → ℕ → List Float → List Float → List Float → Peaks
-peaksSince rules channels n c peaks detector audio =
-    let later = peaksPass rules c (channels - c) n peaks (drop (c * remembered) detector) (drop (c * runLength) audio) in
+abbrev pub peaksSince : Linking → ℕ → ℕ → ℕ → List Float → List Float → List Float → Peaks
+peaksSince linking channels n c peaks detector audio =
+    let later = peaksPass linking c (channels - c) n peaks (drop (c * remembered) detector) (drop (c * runLength) audio) in
     peaksAt (later .peaks) (take (c * remembered) detector ++ later .detector)
 
-pub peaks-start : (rules : Rules) (channels n : ℕ) (peaks detector audio : List Float) → peaksSince rules channels n 0 peaks detector audio ≡ peaksPass rules 0 channels n peaks detector audio
-peaks-start rules channels n peaks detector audio =
+pub peaks-start : (linking : Linking) (channels n : ℕ) (peaks detector audio : List Float) → peaksSince linking channels n 0 peaks detector audio ≡ peaksPass linking 0 channels n peaks detector audio
+peaks-start linking channels n peaks detector audio =
     let e : channels - 0 ≡ channels = omega arith in
     rw (e, zero-mul remembered, zero-mul runLength) refl
 
-pub peaks-done : (rules : Rules) (channels n c : ℕ) (peaks detector audio : List Float) → channels ≤ c → peaksAt peaks detector ≡ peaksSince rules channels n c peaks detector audio
+pub peaks-done : (linking : Linking) (channels n c : ℕ) (peaks detector audio : List Float) → channels ≤ c → peaksAt peaks detector ≡ peaksSince linking channels n c peaks detector audio
 unfolding peaksPass
-peaks-done rules channels n c peaks detector audio h =
+peaks-done linking channels n c peaks detector audio h =
     let e : channels - c ≡ 0 = omega arith in
     rw (e, take-append-drop (c * remembered) detector) refl
 
-module _ (rules : Rules) (channels n c : ℕ) (peaks l audio : List Float) where
-  peaks-next : (o : Peaks) (l' : List Float) → c < channels → o ≡ channelPeaks rules c peaks (take remembered (drop (c * remembered) l)) (take n (drop (c * runLength) audio))
+module _ (linking : Linking) (channels n c : ℕ) (peaks l audio : List Float) where
+  peaks-next : (o : Peaks) (l' : List Float) → c < channels → o ≡ channelPeaks linking c peaks (take remembered (drop (c * remembered) l)) (take n (drop (c * runLength) audio))
       → take ((c + 1) * remembered) l' ≡ take (c * remembered) l ++ o .detector → drop ((c + 1) * remembered) l' ≡ drop remembered (drop (c * remembered) l)
       → drop ((c + 1) * runLength) audio ≡ drop runLength (drop (c * runLength) audio)
-      → peaksSince rules channels n (c + 1) (o .peaks) l' audio ≡ peaksSince rules channels n c peaks l audio
+      → peaksSince linking channels n (c + 1) (o .peaks) l' audio ≡ peaksSince linking channels n c peaks l audio
   unfolding peaksPass
   peaks-next o l' h e t d s =
       let k = channels - (c + 1) in
       let b : channels - c ≡ suc k = omega arith in
-      let later = peaksPass rules (c + 1) k n (o .peaks) (drop remembered (drop (c * remembered) l)) (drop runLength (drop (c * runLength) audio)) in
-      let x : peaksSince rules channels n (c + 1) (o .peaks) l' audio ≡ peaksAt (later .peaks) (take (c * remembered) l ++ (o .detector ++ later .detector)) =
+      let later = peaksPass linking (c + 1) k n (o .peaks) (drop remembered (drop (c * remembered) l)) (drop runLength (drop (c * runLength) audio)) in
+      let x : peaksSince linking channels n (c + 1) (o .peaks) l' audio ≡ peaksAt (later .peaks) (take (c * remembered) l ++ (o .detector ++ later .detector)) =
       rw (d, s, t) (ap (peaksAt (later .peaks)) (append-assoc (take (c * remembered) l) (o .detector) (later .detector)))
       in
       x ∙ rw (b, e) refl
 
--- the same from what the code finds; every channel counts, so that no channel's number is asked
-pub peaks-more : (channels n c k1 k2 : ℕ) (peaks l audio peaks' ys : List Float) → c < channels → length l ≡ channels * remembered → k1 ≡ remembered → k2 ≡ n
-    → length ys ≡ length (take k1 (drop (c * remembered) l)) → peaksAt peaks' ys ≡ channelPeaks presentRules 0 peaks (take k1 (drop (c * remembered) l)) (take k2 (drop (c * runLength) audio))
-    → peaksSince presentRules channels n (c + 1) peaks' (take (c * remembered) l ++ (ys ++ drop k1 (drop (c * remembered) l))) audio ≡ peaksSince presentRules channels n c peaks l audio
-unfolding channelPeaks
-peaks-more channels n c k1 k2 peaks l audio peaks' ys h f e1 e2 m o =
+-- the same from what the code finds
+pub peaks-more : (linking : Linking) (channels n c k1 k2 : ℕ) (peaks l audio peaks' ys : List Float) → c < channels → length l ≡ channels * remembered → k1 ≡ remembered → k2 ≡ n
+    → length ys ≡ length (take k1 (drop (c * remembered) l)) → peaksAt peaks' ys ≡ channelPeaks linking c peaks (take k1 (drop (c * remembered) l)) (take k2 (drop (c * runLength) audio))
+    → peaksSince linking channels n (c + 1) peaks' (take (c * remembered) l ++ (ys ++ drop k1 (drop (c * remembered) l))) audio ≡ peaksSince linking channels n c peaks l audio
+peaks-more linking channels n c k1 k2 peaks l audio peaks' ys h f e1 e2 m o =
     let a = c * remembered in
     let within : a + remembered ≤ length l = rw f (places-end c channels remembered h) in
     let many : length ys ≡ remembered = m ∙ part-length l a remembered k1 within e1 in
@@ -112,41 +112,41 @@ peaks-more channels n c k1 k2 peaks l audio peaks' ys h f e1 e2 m o =
     in
     let d : drop ((c + 1) * remembered) l' ≡ drop remembered (drop a l) = rw (one-more c remembered, e1) (put-ahead l ys a remembered remembered within (omega arith) many) in
     let s : drop ((c + 1) * runLength) audio ≡ drop runLength (drop (c * runLength) audio) = rw (one-more c runLength) (sym (drop-drop runLength (c * runLength) audio)) in
-    peaks-next presentRules channels n c peaks l audio (peaksAt peaks' ys) l' h (rw (e1, e2) at o) t d s
+    peaks-next linking channels n c peaks l audio (peaksAt peaks' ys) l' h (rw (e1, e2) at o) t d s
 
 -- ---- outputs
-abbrev pub outputsSince : Rules → ℕ → ℕ → List Float → ℕ → ℕ → ℕ → List Float → List Float → Written
-outputsSince rules look pos gains channels n c delay audio =
-    let later = outputsPass rules look pos gains (channels - c) n (drop (c * look) delay) (drop (c * runLength) audio) in
+abbrev pub outputsSince : (Float → Float) → ℕ → ℕ → List Float → ℕ → ℕ → ℕ → List Float → List Float → Written
+outputsSince leaves look pos gains channels n c delay audio =
+    let later = outputsPass leaves look pos gains (channels - c) n (drop (c * look) delay) (drop (c * runLength) audio) in
     writtenAt (take (c * runLength) audio ++ later .audio) (take (c * look) delay ++ later .delay)
 
-module _ (rules : Rules) (look pos : ℕ) (gains : List Float) (channels n : ℕ) where
-  pub outputs-start : (delay audio : List Float) → outputsSince rules look pos gains channels n 0 delay audio ≡ outputsPass rules look pos gains channels n delay audio
+module _ (leaves : Float → Float) (look pos : ℕ) (gains : List Float) (channels n : ℕ) where
+  pub outputs-start : (delay audio : List Float) → outputsSince leaves look pos gains channels n 0 delay audio ≡ outputsPass leaves look pos gains channels n delay audio
   outputs-start delay audio =
       let e : channels - 0 ≡ channels = omega arith in
       rw (e, zero-mul look) refl
 
-  pub outputs-end : (c : ℕ) (delay audio : List Float) → channels ≤ c → writtenAt audio delay ≡ outputsSince rules look pos gains channels n c delay audio
+  pub outputs-end : (c : ℕ) (delay audio : List Float) → channels ≤ c → writtenAt audio delay ≡ outputsSince leaves look pos gains channels n c delay audio
   unfolding outputsPass
   outputs-end c delay audio h =
       let e : channels - c ≡ 0 = omega arith in
       rw (e, take-append-drop (c * look) delay, take-append-drop (c * runLength) audio) refl
 
   outputs-next : (c : ℕ) (delay audio : List Float) (o : Outputs) (d' a' : List Float) → c < channels
-      → o ≡ channelOutputs rules look pos gains (take look (drop (c * look) delay)) (take n (drop (c * runLength) audio))
+      → o ≡ channelOutputs leaves look pos gains (take look (drop (c * look) delay)) (take n (drop (c * runLength) audio))
       → take ((c + 1) * look) d' ≡ take (c * look) delay ++ o .line → drop ((c + 1) * look) d' ≡ drop look (drop (c * look) delay)
       → take ((c + 1) * runLength) a' ≡ take (c * runLength) audio ++ (o .outputs ++ drop n (take runLength (drop (c * runLength) audio))) → drop ((c + 1) * runLength) a' ≡ drop runLength (drop (c * runLength) audio)
-      → outputsSince rules look pos gains channels n (c + 1) d' a' ≡ outputsSince rules look pos gains channels n c delay audio
+      → outputsSince leaves look pos gains channels n (c + 1) d' a' ≡ outputsSince leaves look pos gains channels n c delay audio
   unfolding outputsPass
   outputs-next c delay audio o d' a' h e dt dd at ad =
       let k = channels - (c + 1) in
       let b : channels - c ≡ suc k = omega arith in
       let left = drop n (take runLength (drop (c * runLength) audio)) in
-      let later = outputsPass rules look pos gains k n (drop look (drop (c * look) delay)) (drop runLength (drop (c * runLength) audio)) in
+      let later = outputsPass leaves look pos gains k n (drop look (drop (c * look) delay)) (drop runLength (drop (c * runLength) audio)) in
       let au : take (c * runLength) audio ++ (o .outputs ++ left) ++ later .audio ≡ take (c * runLength) audio ++ (o .outputs ++ (left ++ later .audio)) =
       append-assoc (take (c * runLength) audio) (o .outputs ++ left) (later .audio) ∙ ap (λ (z : List Float). take (c * runLength) audio ++ z) (append-assoc (o .outputs) left (later .audio))
       in
-      let x : outputsSince rules look pos gains channels n (c + 1) d' a' ≡ writtenAt (take (c * runLength) audio ++ (o .outputs ++ (left ++ later .audio))) (take (c * look) delay ++ (o .line ++ later .delay)) =
+      let x : outputsSince leaves look pos gains channels n (c + 1) d' a' ≡ writtenAt (take (c * runLength) audio ++ (o .outputs ++ (left ++ later .audio))) (take (c * look) delay ++ (o .line ++ later .delay)) =
       rw (dd, ad, dt, at, au, append-assoc (take (c * look) delay) (o .line) (later .delay)) refl
       in
       x ∙ rw (b, e) refl
@@ -154,9 +154,9 @@ module _ (rules : Rules) (look pos : ℕ) (gains : List Float) (channels n : ℕ
   -- the same from what the code finds
   pub outputs-turn : (c k1 k2 : ℕ) (delay audio line ys : List Float) → c < channels → length delay ≡ channels * look → c * runLength + runLength ≤ length audio → n ≤ runLength → k1 ≡ look → k2 ≡ n
       → length line ≡ length (take k1 (drop (c * look) delay)) → length ys ≡ length (take k2 (drop (c * runLength) audio))
-      → outputsAt ys line ≡ channelOutputs rules (length (take k1 (drop (c * look) delay))) pos gains (take k1 (drop (c * look) delay)) (take k2 (drop (c * runLength) audio))
-      → outputsSince rules look pos gains channels n (c + 1) (take (c * look) delay ++ (line ++ drop k1 (drop (c * look) delay))) (take (c * runLength) audio ++ (ys ++ drop k2 (drop (c * runLength) audio)))
-      ≡ outputsSince rules look pos gains channels n c delay audio
+      → outputsAt ys line ≡ channelOutputs leaves (length (take k1 (drop (c * look) delay))) pos gains (take k1 (drop (c * look) delay)) (take k2 (drop (c * runLength) audio))
+      → outputsSince leaves look pos gains channels n (c + 1) (take (c * look) delay ++ (line ++ drop k1 (drop (c * look) delay))) (take (c * runLength) audio ++ (ys ++ drop k2 (drop (c * runLength) audio)))
+      ≡ outputsSince leaves look pos gains channels n c delay audio
   outputs-turn c k1 k2 delay audio line ys h f g p e1 e2 m1 m2 o =
       let a = c * look in
       let b = c * runLength in
@@ -178,13 +178,13 @@ pub pos-turn : (look pos channels n c k1 k2 : ℕ) (delay audio : List Float) (n
 pos-turn look pos channels n c k1 k2 delay audio next h f g e1 e2 o =
     rw (part-length delay (c * look) look k1 (rw f (places-end c channels look h)) e1, part-length audio (c * runLength) n k2 g e2) at o
 
--- ---- one channel's peaks, from what the calls find
-pub channel-heard : (store samples peaks run heardPeaks answers left : List Float) → length store ≡ remembered → length samples ≤ runLength → run ≡ samples
-    → runOutcomeAt answers left ≡ peaksAbsOf taps store run → heardPeaks ≡ heardAll true peaks samples answers
-    → (peaksAt heardPeaks left ≡ channelPeaks presentRules 0 peaks store samples) × (answers ≡ pushesOf taps store samples .peaks)
-unfolding channelPeaks
-channel-heard store samples peaks run heardPeaks answers left n s e o h =
-    let p : runOutcomeAt answers left ≡ pushesOf taps store samples = o ∙ rw e (run-pushes taps store samples n s) in
-    let a : answers ≡ pushesOf taps store samples .peaks = ap (λ (r : RunOutcome). r .peaks) p in
-    let l : left ≡ pushesOf taps store samples .store = ap (λ (r : RunOutcome). r .store) p in
+-- ---- one channel's peaks, from what the calls find: the table is `taps`, and every channel counts
+pub channel-heard : (settings : LimiterSettings) (c : ℕ) (store samples peaks old heardPeaks answers left : List Float) → length store ≡ remembered → length samples ≤ runLength → length old ≡ length samples
+    → pushesAt answers left ≡ peaksAbsOf taps store samples old → heardPeaks ≡ heardAll true peaks samples answers
+    → (peaksAt heardPeaks left ≡ channelPeaks (linkingOf settings) c peaks store samples) × (answers ≡ pushesOf (tapsOf settings) store samples .peaks)
+unfolding channelPeaks tapsOf countsIn
+channel-heard settings c store samples peaks old heardPeaks answers left n s m o h =
+    let p : pushesAt answers left ≡ pushesOf taps store samples = o ∙ run-pushes taps store samples old s n m in
+    let a : answers ≡ pushesOf taps store samples .peaks = ap (λ (r : Pushes). r .peaks) p in
+    let l : left ≡ pushesOf taps store samples .store = ap (λ (r : Pushes). r .store) p in
     (rw (h, a, l) refl, a)

@@ -7,23 +7,24 @@ use native.Mathlib.Nat.{suc-mul, suc-inj}
 use native.Mathlib.Omega.{arith}
 use lib.ListN.{length, set, take, drop, replicate, length-set, length-drop, length-map, length-replicate, take-append-drop}
 use lib.Seq.{take-at, drop-at, length-take-le}
-use lib.Ieee.{Float}
+use lib.Ieee.{Float, nan}
 use Rattle.arithmetic.specs.Number
 use Rattle.arithmetic.specs.Sanitize.{finiteOrZero}
+use Rattle.audio.specs.Planar.{frameAt, framesAt, firstOf, othersOf, written}
 use Rattle.detector.specs.Oversample.{remembered, peakAbsOf}
 use Rattle.detector.specs.Run.{runLength, pushesOf}
 use Rattle.detector.proofs.Store.{push-length, pushes-length}
 use Rattle.envelope.specs.Row.{nextPos}
 use Rattle.envelope.specs.Step.{Enveloped, gainStepOf}
-use Rattle.frame.specs.Rules.{Rules}
+use Rattle.frame.specs.Rules.{Linking, Rules}
 use Rattle.frame.specs.Frame.{heard, linkedFrom, requiredGain, delayedFrom, Moving, Framed, frameOf}
-use Rattle.frame.specs.Run.{Frames, framesOf, frameIn, framesFrom, framesIn, firstOf, othersOf, writtenIn, RunDone, runOf, gainsOfFrames}
+use Rattle.frame.specs.Run.{Frames, framesOf, framesIn, writtenIn, RunDone, runOf, gainsOfFrames}
 use Rattle.frame.proofs.Turns.{split}
 use Rattle.frame.specs.Passes.{heardAll, Peaks, peaksAt, channelPeaks, peaksPass, Gains, gainsOf, posAfter, channelOutputs, Written, writtenAt, outputsPass}
 
 -- ---- the frames of a run, channel by channel
-pub frames-length : (k n i : ℕ) (audio : List Float) → length (framesFrom k i n audio) ≡ n
-unfolding framesFrom
+pub frames-length : (k n i : ℕ) (audio : List Float) → length (framesAt nan runLength k i n audio) ≡ n
+unfolding framesAt
 frames-length k zero i audio = refl
 frames-length k (suc n) i audio = ap suc (frames-length k n (i + 1) audio)
 
@@ -33,13 +34,13 @@ before [] frames = []
 before (x ∷ xs) [] = []
 before (x ∷ xs) (f ∷ fs) = (x ∷ f) ∷ before xs fs
 
-frames-beside : (k n i : ℕ) (audio : List Float) → i + n ≤ length audio → framesFrom (suc k) i n audio ≡ before (take n (drop i audio)) (framesFrom k i n (drop runLength audio))
-unfolding framesFrom frameIn before
+frames-beside : (k n i : ℕ) (audio : List Float) → i + n ≤ length audio → framesAt nan runLength (suc k) i n audio ≡ before (take n (drop i audio)) (framesAt nan runLength k i n (drop runLength audio))
+unfolding framesAt frameAt before
 frames-beside k zero i audio h = refl
 frames-beside k (suc n) i audio h = rw (split audio i (omega arith), frames-beside k n (i + 1) audio (omega arith)) refl
 
-frames-none : (n i : ℕ) (audio : List Float) → framesFrom 0 i n audio ≡ replicate n []
-unfolding framesFrom frameIn
+frames-none : (n i : ℕ) (audio : List Float) → framesAt nan runLength 0 i n audio ≡ replicate n []
+unfolding framesAt frameAt
 frames-none zero i audio = refl
 frames-none (suc n) i audio = ap (λ (l : List (List Float)). [] ∷ l) (frames-none n (i + 1) audio)
 
@@ -59,30 +60,30 @@ heard-length counts (p ∷ ps) (x ∷ xs) [] h k = absurd (omega arith)
 heard-length counts (p ∷ ps) (x ∷ xs) (a ∷ later) h k = ap suc (heard-length counts ps xs later (omega arith) (omega arith))
 
 -- ---- the peaks of a list of frames, frame by frame
-unfoldable linkedAll : Rules → ℕ → List Float → List Float → List (List Float) → Peaks
-linkedAll rules c [] detector fs = peaksAt [] detector
-linkedAll rules c (p ∷ ps) detector [] = peaksAt [] detector
-linkedAll rules c (p ∷ ps) detector (f ∷ fs) =
-    let o = linkedFrom rules c p detector f in
-    let later = linkedAll rules c ps (o .detector) fs in
+unfoldable linkedAll : Linking → ℕ → List Float → List Float → List (List Float) → Peaks
+linkedAll linking c [] detector fs = peaksAt [] detector
+linkedAll linking c (p ∷ ps) detector [] = peaksAt [] detector
+linkedAll linking c (p ∷ ps) detector (f ∷ fs) =
+    let o = linkedFrom linking c p detector f in
+    let later = linkedAll linking c ps (o .detector) fs in
     peaksAt (o .peak ∷ later .peaks) (later .detector)
 
-module _ (rules : Rules) where
+module _ (linking : Linking) where
   -- a channel and then the others
   abbrev channelThen : ℕ → List Float → List Float → List Float → List Float → List (List Float) → Peaks
   channelThen c ps s r xs fs =
-      let o = channelPeaks rules c ps s xs in
-      let later = linkedAll rules (c + 1) (o .peaks) r fs in
+      let o = channelPeaks linking c ps s xs in
+      let later = linkedAll linking (c + 1) (o .peaks) r fs in
       peaksAt (later .peaks) (o .detector ++ later .detector)
 
   -- one frame: its first channel, and then the others
   first-heard : (c : ℕ) (p x : Float) (f s r : List Float) → length s ≡ remembered
-      → linkedFrom rules c p (s ++ r) (x ∷ f) ≡ (let q = peakAbsOf (rules .taps) s x in let l = linkedFrom rules (c + 1) (heard (rules .counts c) p x (q .peak)) r f in record { peak = l .peak; detector = q .store ++ l .detector })
+      → linkedFrom linking c p (s ++ r) (x ∷ f) ≡ (let q = peakAbsOf (linking .taps) s x in let l = linkedFrom linking (c + 1) (heard (linking .counts c) p x (q .peak)) r f in record { peak = l .peak; detector = q .store ++ l .detector })
   unfolding linkedFrom
   first-heard c p x f s r n = rw (take-at s r remembered n, drop-at s r remembered n) refl
 
   channel-first : (c : ℕ) (ps xs : List Float) (fs : List (List Float)) (s r : List Float) → length s ≡ remembered → length xs ≡ length ps → length fs ≡ length ps
-      → linkedAll rules c ps (s ++ r) (before xs fs) ≡ channelThen c ps s r xs fs
+      → linkedAll linking c ps (s ++ r) (before xs fs) ≡ channelThen c ps s r xs fs
   unfolding linkedAll before channelPeaks heardAll pushesOf
   channel-first c [] [] [] s r n h k = refl
   channel-first c [] (x ∷ xs) fs s r n h k = absurd (omega arith)
@@ -90,23 +91,23 @@ module _ (rules : Rules) where
   channel-first c (p ∷ ps) [] fs s r n h k = absurd (omega arith)
   channel-first c (p ∷ ps) (x ∷ xs) [] s r n h k = absurd (omega arith)
   channel-first c (p ∷ ps) (x ∷ xs) (f ∷ fs) s r n h k =
-      let q = peakAbsOf (rules .taps) s x in
-      let l = linkedFrom rules (c + 1) (heard (rules .counts c) p x (q .peak)) r f in
-      rw (first-heard c p x f s r n, channel-first c ps xs fs (q .store) (l .detector) (push-length (rules .taps) s x ∙ n) (suc-inj h) (suc-inj k)) refl
+      let q = peakAbsOf (linking .taps) s x in
+      let l = linkedFrom linking (c + 1) (heard (linking .counts c) p x (q .peak)) r f in
+      rw (first-heard c p x f s r n, channel-first c ps xs fs (q .store) (l .detector) (push-length (linking .taps) s x ∙ n) (suc-inj h) (suc-inj k)) refl
 
   -- no channel: nothing is heard
-  none-heard : (c : ℕ) (ps detector : List Float) → linkedAll rules c ps detector (replicate (length ps) []) ≡ peaksAt ps detector
+  none-heard : (c : ℕ) (ps detector : List Float) → linkedAll linking c ps detector (replicate (length ps) []) ≡ peaksAt ps detector
   unfolding linkedAll linkedFrom
   none-heard c [] detector = refl
   none-heard c (p ∷ ps) detector = rw (none-heard c ps detector) refl
 
-  heard-enough : (c : ℕ) (ps s xs : List Float) → length xs ≡ length ps → length (channelPeaks rules c ps s xs .peaks) ≡ length ps
+  heard-enough : (c : ℕ) (ps s xs : List Float) → length xs ≡ length ps → length (channelPeaks linking c ps s xs .peaks) ≡ length ps
   unfolding channelPeaks
-  heard-enough c ps s xs h = heard-length (rules .counts c) ps xs (pushesOf (rules .taps) s xs .peaks) h (pushes-length (rules .taps) s xs ∙ h)
+  heard-enough c ps s xs h = heard-length (linking .counts c) ps xs (pushesOf (linking .taps) s xs .peaks) h (pushes-length (linking .taps) s xs ∙ h)
 
   -- channel by channel
   pass-linked : (k c n : ℕ) (ps detector audio : List Float) → n ≤ runLength → length ps ≡ n → length detector ≡ k * remembered → k * runLength ≤ length audio
-      → linkedAll rules c ps detector (framesIn k n audio) ≡ peaksPass rules c k n ps detector audio
+      → linkedAll linking c ps detector (framesIn k n audio) ≡ peaksPass linking c k n ps detector audio
   unfolding peaksPass
   pass-linked zero c n ps detector audio short m d a = rw (frames-none n 0 audio, ← m) (none-heard c ps detector)
   pass-linked (suc k) c n ps detector audio short m d a =
@@ -117,10 +118,10 @@ module _ (rules : Rules) where
       let w = suc-mul k remembered in
       let xn = length-take-le n audio (samples-fit n short k audio a) in
       let fn = frames-length k n 0 (drop runLength audio) in
-      let o = channelPeaks rules c ps s xs in
+      let o = channelPeaks linking c ps s xs in
       let i = pass-linked k (c + 1) n (o .peaks) r (drop runLength audio) short (heard-enough c ps s xs (xn ∙ sym m) ∙ m) (rw (length-drop remembered detector) (omega arith)) (others-fit n short k audio a) in
-      ap (linkedAll rules c ps detector) (frames-beside k n 0 audio (omega (arith, samples-fit n short k audio a)))
-      ∙ ap (λ (l : List Float). linkedAll rules c ps l (before xs fs)) (sym (take-append-drop remembered detector))
+      ap (linkedAll linking c ps detector) (frames-beside k n 0 audio (omega (arith, samples-fit n short k audio a)))
+      ∙ ap (λ (l : List Float). linkedAll linking c ps l (before xs fs)) (sym (take-append-drop remembered detector))
       ∙ channel-first c ps xs fs s r (length-take-le remembered detector (omega arith)) (xn ∙ sym m) (fn ∙ sym m)
       ∙ ap (λ (later : Peaks). peaksAt (later .peaks) (o .detector ++ later .detector)) i
 
@@ -129,24 +130,24 @@ record AllDelayed : Type 0 where
   outputs : List (List Float)
   delay : List Float
 
-unfoldable delayedAll : Rules → ℕ → ℕ → List Float → List Float → List (List Float) → AllDelayed
-delayedAll rules look pos [] delay fs = record { outputs = []; delay = delay }
-delayedAll rules look pos (g ∷ gs) delay [] = record { outputs = []; delay = delay }
-delayedAll rules look pos (g ∷ gs) delay (f ∷ fs) =
-    let o = delayedFrom rules look pos g delay f in
-    let later = delayedAll rules look (nextPos look pos) gs (o .delay) fs in
+unfoldable delayedAll : (Float → Float) → ℕ → ℕ → List Float → List Float → List (List Float) → AllDelayed
+delayedAll leaves look pos [] delay fs = record { outputs = []; delay = delay }
+delayedAll leaves look pos (g ∷ gs) delay [] = record { outputs = []; delay = delay }
+delayedAll leaves look pos (g ∷ gs) delay (f ∷ fs) =
+    let o = delayedFrom leaves look pos g delay f in
+    let later = delayedAll leaves look (nextPos look pos) gs (o .delay) fs in
     record { outputs = o .outputs ∷ later .outputs; delay = later .delay }
 
-module _ (rules : Rules) (look : ℕ) where
+module _ (leaves : Float → Float) (look : ℕ) where
   -- a channel and the others beside it
   abbrev channelBeside : ℕ → List Float → List Float → List Float → List Float → List (List Float) → AllDelayed
   channelBeside pos gs s r xs fs =
-      let o = channelOutputs rules look pos gs s xs in
-      let others = delayedAll rules look pos gs r fs in
+      let o = channelOutputs leaves look pos gs s xs in
+      let others = delayedAll leaves look pos gs r fs in
       record { outputs = before (o .outputs) (others .outputs); delay = o .line ++ others .delay }
 
   channel-beside : (pos : ℕ) (gs xs : List Float) (fs : List (List Float)) (s r : List Float) → length s ≡ look → length xs ≡ length gs → length fs ≡ length gs
-      → delayedAll rules look pos gs (s ++ r) (before xs fs) ≡ channelBeside pos gs s r xs fs
+      → delayedAll leaves look pos gs (s ++ r) (before xs fs) ≡ channelBeside pos gs s r xs fs
   unfolding delayedAll before channelOutputs delayedFrom
   channel-beside pos [] [] [] s r n h k = refl
   channel-beside pos [] (x ∷ xs) fs s r n h k = absurd (omega arith)
@@ -154,30 +155,30 @@ module _ (rules : Rules) (look : ℕ) where
   channel-beside pos (g ∷ gs) [] fs s r n h k = absurd (omega arith)
   channel-beside pos (g ∷ gs) (x ∷ xs) [] s r n h k = absurd (omega arith)
   channel-beside pos (g ∷ gs) (x ∷ xs) (f ∷ fs) s r n h k =
-      let l = delayedFrom rules look pos g r f in
+      let l = delayedFrom leaves look pos g r f in
       let y = finiteOrZero x in
       rw (take-at s r look n, drop-at s r look n, channel-beside (nextPos look pos) gs xs fs (set s pos y) (l .delay) (length-set s pos y ∙ n) (suc-inj h) (suc-inj k)) refl
 
   -- no channel: nothing moves
-  none-moved : (pos : ℕ) (gs delay : List Float) → delayedAll rules look pos gs delay (replicate (length gs) []) .delay ≡ delay
+  none-moved : (pos : ℕ) (gs delay : List Float) → delayedAll leaves look pos gs delay (replicate (length gs) []) .delay ≡ delay
   unfolding delayedAll delayedFrom
   none-moved pos [] delay = refl
   none-moved pos (g ∷ gs) delay = none-moved (nextPos look pos) gs delay
 
-  outputs-many : (pos : ℕ) (gs s xs : List Float) → length xs ≡ length gs → length (channelOutputs rules look pos gs s xs .outputs) ≡ length gs
+  outputs-many : (pos : ℕ) (gs s xs : List Float) → length xs ≡ length gs → length (channelOutputs leaves look pos gs s xs .outputs) ≡ length gs
   unfolding channelOutputs
   outputs-many pos [] s xs h = refl
   outputs-many pos (g ∷ gs) s [] h = absurd (omega arith)
   outputs-many pos (g ∷ gs) s (x ∷ xs) h = ap suc (outputs-many (nextPos look pos) gs (set s pos (finiteOrZero x)) xs (suc-inj h))
 
-  delayed-many : (pos : ℕ) (gs delay : List Float) (fs : List (List Float)) → length fs ≡ length gs → length (delayedAll rules look pos gs delay fs .outputs) ≡ length gs
+  delayed-many : (pos : ℕ) (gs delay : List Float) (fs : List (List Float)) → length fs ≡ length gs → length (delayedAll leaves look pos gs delay fs .outputs) ≡ length gs
   unfolding delayedAll
   delayed-many pos [] delay fs h = refl
   delayed-many pos (g ∷ gs) delay [] h = absurd (omega arith)
-  delayed-many pos (g ∷ gs) delay (f ∷ fs) h = ap suc (delayed-many (nextPos look pos) gs (delayedFrom rules look pos g delay f .delay) fs (suc-inj h))
+  delayed-many pos (g ∷ gs) delay (f ∷ fs) h = ap suc (delayed-many (nextPos look pos) gs (delayedFrom leaves look pos g delay f .delay) fs (suc-inj h))
 
 -- the outputs of a channel stand first, and the others' after them
-firsts : (xs : List Float) (fs : List (List Float)) → length xs ≡ length fs → map (λ (f : List Float). firstOf f) (before xs fs) ≡ xs
+firsts : (xs : List Float) (fs : List (List Float)) → length xs ≡ length fs → map (λ (f : List Float). firstOf nan f) (before xs fs) ≡ xs
 unfolding before
 firsts [] fs h = refl
 firsts (x ∷ xs) [] h = absurd (omega arith)
@@ -190,15 +191,15 @@ others [] (f ∷ fs) h = absurd (omega arith)
 others (x ∷ xs) [] h = absurd (omega arith)
 others (x ∷ xs) (f ∷ fs) h = ap (λ (l : List (List Float)). f ∷ l) (others xs fs (suc-inj h))
 
-module _ (rules : Rules) (look pos : ℕ) (gs : List Float) where
-  abbrev written : ℕ → ℕ → List Float → List Float → AllDelayed → Written
-  written k n audio delay d = writtenAt (writtenIn k n audio (d .outputs)) (d .delay)
+module _ (leaves : Float → Float) (look pos : ℕ) (gs : List Float) where
+  abbrev allWritten : ℕ → ℕ → List Float → List Float → AllDelayed → Written
+  allWritten k n audio delay d = writtenAt (writtenIn k n audio (d .outputs)) (d .delay)
 
   -- channel by channel
   pass-delayed : (k n : ℕ) (delay audio : List Float) → n ≤ runLength → length gs ≡ n → length delay ≡ k * look → k * runLength ≤ length audio
-      → written k n audio delay (delayedAll rules look pos gs delay (framesIn k n audio)) ≡ outputsPass rules look pos gs k n delay audio
-  unfolding outputsPass writtenIn
-  pass-delayed zero n delay audio short m d a = rw (frames-none n 0 audio, ← m) (ap (writtenAt audio) (none-moved rules look pos gs delay))
+      → allWritten k n audio delay (delayedAll leaves look pos gs delay (framesIn k n audio)) ≡ outputsPass leaves look pos gs k n delay audio
+  unfolding outputsPass written
+  pass-delayed zero n delay audio short m d a = rw (frames-none n 0 audio, ← m) (ap (writtenAt audio) (none-moved leaves look pos gs delay))
   pass-delayed (suc k) n delay audio short m d a =
       let s = take look delay in
       let r = drop look delay in
@@ -207,13 +208,13 @@ module _ (rules : Rules) (look pos : ℕ) (gs : List Float) where
       let w = suc-mul k look in
       let xn = length-take-le n audio (samples-fit n short k audio a) in
       let fn = frames-length k n 0 (drop runLength audio) in
-      let o = channelOutputs rules look pos gs s xs in
-      let later = delayedAll rules look pos gs r fs in
+      let o = channelOutputs leaves look pos gs s xs in
+      let later = delayedAll leaves look pos gs r fs in
       let i = pass-delayed k n r (drop runLength audio) short m (rw (length-drop look delay) (omega arith)) (others-fit n short k audio a) in
-      let many = outputs-many rules look pos gs s xs (xn ∙ sym m) ∙ sym (delayed-many rules look pos gs r fs (fn ∙ sym m)) in
-      let e = ap (delayedAll rules look pos gs delay) (frames-beside k n 0 audio (omega (arith, samples-fit n short k audio a))) ∙ ap (λ (l : List Float). delayedAll rules look pos gs l (before xs fs)) (sym (take-append-drop look delay)) ∙ channel-beside rules look pos gs xs fs s r (length-take-le look delay (omega arith)) (xn ∙ sym m) (fn ∙ sym m) in
+      let many = outputs-many leaves look pos gs s xs (xn ∙ sym m) ∙ sym (delayed-many leaves look pos gs r fs (fn ∙ sym m)) in
+      let e = ap (delayedAll leaves look pos gs delay) (frames-beside k n 0 audio (omega (arith, samples-fit n short k audio a))) ∙ ap (λ (l : List Float). delayedAll leaves look pos gs l (before xs fs)) (sym (take-append-drop look delay)) ∙ channel-beside leaves look pos gs xs fs s r (length-take-le look delay (omega arith)) (xn ∙ sym m) (fn ∙ sym m) in
       let left = drop n (take runLength audio) in
-      ap (written (suc k) n audio delay) e
+      ap (allWritten (suc k) n audio delay) e
       ∙ rw (firsts (o .outputs) (later .outputs) many, others (o .outputs) (later .outputs) many) refl
       ∙ ap (λ (v : Written). writtenAt (o .outputs ++ (left ++ v .audio)) (o .line ++ v .delay)) i
 
@@ -226,13 +227,13 @@ module _ (rules : Rules) (weights : List Float) (coeff : Float) (look : ℕ) (ta
   outputsOf fs = map (λ (f : Framed). f .outputs) fs
 
   abbrev peaksOf : Moving → List (List Float) → Peaks
-  peaksOf m fs = linkedAll rules 0 (replicate (length fs) Number.zero) (m .detector) fs
+  peaksOf m fs = linkedAll (rules .linking) 0 (replicate (length fs) Number.zero) (m .detector) fs
 
   abbrev stepsOf : Moving → List (List Float) → Gains
   stepsOf m fs = gainsOf weights coeff (m .env) (required (peaksOf m fs .peaks))
 
   abbrev delaysOf : Moving → List (List Float) → AllDelayed
-  delaysOf m fs = delayedAll rules look (m .pos) (stepsOf m fs .gains) (m .delay) fs
+  delaysOf m fs = delayedAll (rules .leaves) look (m .pos) (stepsOf m fs .gains) (m .delay) fs
 
   record Apart (m : Moving) (fs : List (List Float)) (r : Frames) : Type 0 where
     gains : gainsOfFrames (r .frames) ≡ stepsOf m fs .gains
@@ -251,11 +252,11 @@ module _ (rules : Rules) (weights : List Float) (coeff : Float) (look : ℕ) (ta
       record { gains = ap (λ (l : List Float). x .gain ∷ l) (i .gains); outs = ap (λ (l : List (List Float)). x .outputs ∷ l) (i .outs); env = i .env; delay = i .delay; pos = i .pos; detector = i .detector }
 
   -- ---- a run in passes
-  linked-many : (c : ℕ) (ps detector : List Float) (fs : List (List Float)) → length fs ≡ length ps → length (linkedAll rules c ps detector fs .peaks) ≡ length ps
+  linked-many : (c : ℕ) (ps detector : List Float) (fs : List (List Float)) → length fs ≡ length ps → length (linkedAll (rules .linking) c ps detector fs .peaks) ≡ length ps
   unfolding linkedAll
   linked-many c [] detector fs h = refl
   linked-many c (p ∷ ps) detector [] h = absurd (omega arith)
-  linked-many c (p ∷ ps) detector (f ∷ fs) h = ap suc (linked-many c ps (linkedFrom rules c p detector f .detector) fs (suc-inj h))
+  linked-many c (p ∷ ps) detector (f ∷ fs) h = ap suc (linked-many c ps (linkedFrom (rules .linking) c p detector f .detector) fs (suc-inj h))
 
   gains-many : (e : Enveloped) (xs : List Float) → length (gainsOf weights coeff e xs .gains) ≡ length xs
   unfolding gainsOf
@@ -276,15 +277,15 @@ module _ (rules : Rules) (weights : List Float) (coeff : Float) (look : ℕ) (ta
     so-many = frames-length channels n 0 audio
 
     -- the passes as the code makes them: from peaks that start at 0.0 to the outputs
-    module _ (zs : List Float) (P : Peaks) (rg : List Float) (G : Gains) (ze : zs ≡ replicate n Number.zero) (pe : P ≡ peaksPass rules 0 channels n zs (m .detector) audio) (re : rg ≡ required (P .peaks)) (ge : G ≡ gainsOf weights coeff (m .env) rg) where
+    module _ (zs : List Float) (P : Peaks) (rg : List Float) (G : Gains) (ze : zs ≡ replicate n Number.zero) (pe : P ≡ peaksPass (rules .linking) 0 channels n zs (m .detector) audio) (re : rg ≡ required (P .peaks)) (ge : G ≡ gainsOf weights coeff (m .env) rg) where
       zeros : length zs ≡ n
       zeros = ap (λ (l : List Float). length l) ze ∙ length-replicate n Number.zero
 
-      counted : peaksOf m fs ≡ linkedAll rules 0 zs (m .detector) fs
-      counted = ap (λ (l : List Float). linkedAll rules 0 l (m .detector) fs) (ap (λ (k : ℕ). replicate k Number.zero) so-many ∙ sym ze)
+      counted : peaksOf m fs ≡ linkedAll (rules .linking) 0 zs (m .detector) fs
+      counted = ap (λ (l : List Float). linkedAll (rules .linking) 0 l (m .detector) fs) (ap (λ (k : ℕ). replicate k Number.zero) so-many ∙ sym ze)
 
       peaks-are : peaksOf m fs ≡ P
-      peaks-are = counted ∙ pass-linked rules channels 0 n zs (m .detector) audio short zeros detectors enough ∙ sym pe
+      peaks-are = counted ∙ pass-linked (rules .linking) channels 0 n zs (m .detector) audio short zeros detectors enough ∙ sym pe
 
       steps-are : stepsOf m fs ≡ G
       steps-are = ap (λ (q : Peaks). gainsOf weights coeff (m .env) (required (q .peaks))) peaks-are ∙ sym (ge ∙ ap (gainsOf weights coeff (m .env)) re)
@@ -301,15 +302,15 @@ module _ (rules : Rules) (weights : List Float) (coeff : Float) (look : ℕ) (ta
       run-gains : G .gains ≡ gainsOfFrames (framesOf rules weights coeff look target m fs .frames)
       run-gains = sym (apart m fs .gains ∙ ap (λ (q : Gains). q .gains) steps-are)
 
-      run-passes : (W : Written) (p : ℕ) → W ≡ outputsPass rules look (m .pos) (G .gains) channels n (m .delay) audio → p ≡ posAfter look (m .pos) n
+      run-passes : (W : Written) (p : ℕ) → W ≡ outputsPass (rules .leaves) look (m .pos) (G .gains) channels n (m .delay) audio → p ≡ posAfter look (m .pos) n
           → runDone (G .env) (W .delay) p (P .detector) (W .audio) ≡ runOf rules weights coeff look target channels n m audio
       unfolding runOf
       run-passes W p we pos =
           let i = apart m fs in
           let gs = stepsOf m fs .gains in
-          let written-is : written rules look (m .pos) gs channels n audio (m .delay) (delaysOf m fs) ≡ W =
-          pass-delayed rules look (m .pos) gs channels n (m .delay) audio short gains-so-many delays enough
-          ∙ ap (λ (q : Gains). outputsPass rules look (m .pos) (q .gains) channels n (m .delay) audio) steps-are
+          let written-is : allWritten (rules .leaves) look (m .pos) gs channels n audio (m .delay) (delaysOf m fs) ≡ W =
+          pass-delayed (rules .leaves) look (m .pos) gs channels n (m .delay) audio short gains-so-many delays enough
+          ∙ ap (λ (q : Gains). outputsPass (rules .leaves) look (m .pos) (q .gains) channels n (m .delay) audio) steps-are
           ∙ sym we
           in
           let r = framesOf rules weights coeff look target m fs in
@@ -321,6 +322,6 @@ module _ (rules : Rules) (weights : List Float) (coeff : Float) (look : ℕ) (ta
           (sym (ap (writtenIn channels n audio) (i .outs) ∙ ap (λ (q : Written). q .audio) written-is))
 
       -- what the passes add up to
-      pub run-done : (W : Written) (p : ℕ) → W ≡ outputsPass rules look (m .pos) (G .gains) channels n (m .delay) audio → p ≡ posAfter look (m .pos) n
+      pub run-done : (W : Written) (p : ℕ) → W ≡ outputsPass (rules .leaves) look (m .pos) (G .gains) channels n (m .delay) audio → p ≡ posAfter look (m .pos) n
           → (runDone (G .env) (W .delay) p (P .detector) (W .audio) ≡ runOf rules weights coeff look target channels n m audio) × (G .gains ≡ gainsOfFrames (framesOf rules weights coeff look target m fs .frames))
       run-done W p we pos = (run-passes W p we pos, run-gains)

@@ -1,23 +1,19 @@
 -- The turns of the loops over a run's frames: what stands in the places passed, and what the rest comes to, stay the whole.
 use mathlib.Core.Path.{_≡_, refl, sym, ap, _∙_}
-use mathlib.Core.Bool.{Bool, true, false}
+use mathlib.Core.Bool.{Bool}
 use mathlib.Core.List.{List, [], _∷_, _++_, map, append-nil}
-use Prim.Native.Nat.{ℕ, zero, suc, _+_, _-_, _%_, _≤_, _<_}
+use Prim.Native.Nat.{ℕ, zero, suc, _+_, _-_, _≤_, _<_}
 use native.Mathlib.Numerals.{add-one}
-use native.Mathlib.Nat.{add-zero, zero-add, mod-eq-of-lt, add-mod-left}
 use native.Mathlib.Omega.{arith}
-use lib.Dec.{eqb}
 use lib.ListN.{length, getD, set, take, drop, replicate, drop-of-length-le}
 use lib.Seq.{take-suc-set, append-snoc, drop-cons, drop-set-lt, take-all}
 use lib.Ieee.{Float, nan}
-use borrow.Author.Tests.{eqb-true}
 use Rattle.arithmetic.specs.Sanitize.{finiteOrZero}
 use Rattle.keeper.specs.InOrder.{mostFrames}
 use Rattle.keeper.specs.Keeper.{steppedOf}
 use Rattle.envelope.specs.Row.{nextPos}
 use Rattle.envelope.specs.Step.{Enveloped, GainStepped, gainStepOf, EnvReady}
-use Rattle.envelope.proofs.Gain.{env-after, next-inside}
-use Rattle.frame.specs.Rules.{Rules}
+use Rattle.envelope.proofs.Gain.{env-after}
 use Rattle.frame.specs.Frame.{heard, givenOut}
 use Rattle.frame.specs.Passes.{heardAll, Gains, gainsOf, posAfter, Outputs, outputsAt, channelOutputs}
 
@@ -96,23 +92,23 @@ module _ (weights : List Float) (coeff : Float) (e : Enveloped) (i : ℕ) (l : L
 
 -- ---- outputs
 -- the outputs passed, and what the rest comes to
-abbrev pub outputsFrom : Rules → ℕ → ℕ → List Float → List Float → ℕ → List Float → Outputs
-outputsFrom rules look pos gains line i l =
-    let later = channelOutputs rules look pos (drop i gains) line (drop i l) in
+abbrev pub outputsFrom : (Float → Float) → ℕ → ℕ → List Float → List Float → ℕ → List Float → Outputs
+outputsFrom leaves look pos gains line i l =
+    let later = channelOutputs leaves look pos (drop i gains) line (drop i l) in
     outputsAt (take i l ++ later .outputs) (later .line)
 
-module _ (rules : Rules) (look : ℕ) (pos : ℕ) (gains line : List Float) (i : ℕ) (l : List Float) where
-  pub outputs-more : (x y : Float) (next : ℕ) → i < length l → i < length gains → x ≡ finiteOrZero (getD l i nan) → y ≡ givenOut rules (getD line pos nan) (getD gains i nan) → next ≡ nextPos look pos
-      → outputsFrom rules look next gains (set line pos x) (i + 1) (set l i y) ≡ outputsFrom rules look pos gains line i l
+module _ (leaves : Float → Float) (look : ℕ) (pos : ℕ) (gains line : List Float) (i : ℕ) (l : List Float) where
+  pub outputs-more : (x y : Float) (next : ℕ) → i < length l → i < length gains → x ≡ finiteOrZero (getD l i nan) → y ≡ givenOut leaves (getD line pos nan) (getD gains i nan) → next ≡ nextPos look pos
+      → outputsFrom leaves look next gains (set line pos x) (i + 1) (set l i y) ≡ outputsFrom leaves look pos gains line i l
   unfolding channelOutputs
   outputs-more x y next h k e f n =
-      let later = channelOutputs rules look next (drop (i + 1) gains) (set line pos x) (drop (i + 1) l) in
-      let a : outputsFrom rules look next gains (set line pos x) (i + 1) (set l i y) ≡ outputsAt (take i l ++ (y ∷ later .outputs)) (later .line) =
+      let later = channelOutputs leaves look next (drop (i + 1) gains) (set line pos x) (drop (i + 1) l) in
+      let a : outputsFrom leaves look next gains (set line pos x) (i + 1) (set l i y) ≡ outputsAt (take i l ++ (y ∷ later .outputs)) (later .line) =
       rw (kept l i h y, stored l i h y (later .outputs)) refl
       in
       a ∙ rw (split l i h, split gains i k, e, f, n) refl
 
-  pub outputs-done : length l ≤ i → length gains ≡ length l → outputsAt l line ≡ outputsFrom rules look pos gains line i l
+  pub outputs-done : length l ≤ i → length gains ≡ length l → outputsAt l line ≡ outputsFrom leaves look pos gains line i l
   unfolding channelOutputs
   outputs-done h k = rw (none-left l i h, none-left gains i (omega arith), all-stored l i h) refl
 
@@ -125,27 +121,8 @@ pub pos-done : (look p n i : ℕ) → n ≤ i → p ≡ posAfter look p (n - i)
 unfolding posAfter
 pos-done look p n i h = let e : n - i ≡ 0 = omega arith in rw e refl
 
-pub pos-inside : (look p n : ℕ) → p < look → posAfter look p n < look
-unfolding posAfter
-pos-inside look p zero h = h
-pos-inside look p (suc n) h = pos-inside look (nextPos look p) n (next-inside look p h)
-
 -- ---- the first n of a fresh array
 pub first-of : (n k : ℕ) (x : Float) → n ≤ k → take n (replicate k x) ≡ replicate n x
 first-of zero k x h = refl
 first-of (suc n) zero x h = absurd (omega arith)
 first-of (suc n) (suc k) x h = ap (λ (l : List Float). x ∷ l) (first-of n k x (omega arith))
-
--- ---- the position is the remainder, as the Rust has it
-pub pos-remainder : (look p n : ℕ) → p < look → posAfter look p n ≡ (p + n) % look
-unfolding posAfter
-pos-remainder look p zero h = sym (ap (λ (k : ℕ). k % look) (add-zero p) ∙ mod-eq-of-lt h)
-pos-remainder look p (suc n) h = pos-remainder look (nextPos look p) n (next-inside look p h) ∙ go (eqb (p + 1) look) refl
-  where
-    go : (b : Bool) → eqb (p + 1) look ≡ b → (nextPos look p + n) % look ≡ (p + suc n) % look
-    go true e =
-        let k : p + suc n ≡ look + n = omega (arith, eqb-true (p + 1) look e) in
-        rw (e, k, add-mod-left look n) (ap (λ (j : ℕ). j % look) (zero-add n))
-    go false e =
-        let k : p + 1 + n ≡ p + suc n = omega arith in
-        rw (e, k) refl

@@ -10,7 +10,7 @@ use Rattle.arithmetic.specs.Sanitize.{finiteOrZero}
 use Rattle.detector.specs.Oversample.{remembered, peakAbsOf}
 use Rattle.envelope.specs.Row.{nextPos}
 use Rattle.envelope.specs.Step.{Enveloped, gainStepOf}
-use Rattle.frame.specs.Rules.{Rules}
+use Rattle.frame.specs.Rules.{Linking, Rules}
 
 -- ---- "A frame's peak is the largest sanitized magnitude or detector answer over the channels"
 -- one channel's share: the largest of the peak so far, the sanitized magnitude and the detector's answer
@@ -22,11 +22,11 @@ pub record Linked : Type 0 where
   pub detector : List Float
 
 -- from channel c on, with the peak so far; the detector's store has 12 places a channel
-unfoldable pub linkedFrom : Rules → ℕ → Float → List Float → List Float → Linked
-linkedFrom rules c peak detector [] = record { peak = peak; detector = detector }
-linkedFrom rules c peak detector (x ∷ xs) =
-    let o = peakAbsOf (rules .taps) (take remembered detector) x in
-    let later = linkedFrom rules (c + 1) (heard (rules .counts c) peak x (o .peak)) (drop remembered detector) xs in
+unfoldable pub linkedFrom : Linking → ℕ → Float → List Float → List Float → Linked
+linkedFrom linking c peak detector [] = record { peak = peak; detector = detector }
+linkedFrom linking c peak detector (x ∷ xs) =
+    let o = peakAbsOf (linking .taps) (take remembered detector) x in
+    let later = linkedFrom linking (c + 1) (heard (linking .counts c) peak x (o .peak)) (drop remembered detector) xs in
     record { peak = later .peak; detector = o .store ++ later .detector }
 
 -- "The required gain is target / peak, or 1.0 where that is NaN or above 1"
@@ -34,20 +34,20 @@ abbrev pub requiredGain : Float → Float → Float
 requiredGain target peak = minOf (div binary64 target peak) one
 
 -- ---- "Each channel gives out what lies at the delay position of its line, sanitized, times the gain, by module 1's output rule"
-abbrev pub givenOut : Rules → Float → Float → Float
-givenOut rules d gain = rules .leaves (mul binary64 (finiteOrZero d) gain)
+abbrev pub givenOut : (Float → Float) → Float → Float → Float
+givenOut leaves d gain = leaves (mul binary64 (finiteOrZero d) gain)
 
 pub record Delayed : Type 0 where
   pub outputs : List Float
   pub delay : List Float
 
 -- "and stores the sanitized sample there"; a line has look places
-unfoldable pub delayedFrom : Rules → ℕ → ℕ → Float → List Float → List Float → Delayed
-delayedFrom rules look pos gain delay [] = record { outputs = []; delay = delay }
-delayedFrom rules look pos gain delay (x ∷ xs) =
+unfoldable pub delayedFrom : (Float → Float) → ℕ → ℕ → Float → List Float → List Float → Delayed
+delayedFrom leaves look pos gain delay [] = record { outputs = []; delay = delay }
+delayedFrom leaves look pos gain delay (x ∷ xs) =
     let line = take look delay in
-    let later = delayedFrom rules look pos gain (drop look delay) xs in
-    record { outputs = givenOut rules (getD line pos nan) gain ∷ later .outputs; delay = set line pos (finiteOrZero x) ++ later .delay }
+    let later = delayedFrom leaves look pos gain (drop look delay) xs in
+    record { outputs = givenOut leaves (getD line pos nan) gain ∷ later .outputs; delay = set line pos (finiteOrZero x) ++ later .delay }
 
 -- ---- a frame
 -- what moves with the frames: the envelope with its stores, the delay lines and their position, the detector's store
@@ -69,9 +69,9 @@ pub record Framed : Type 0 where
 -- the frame of these samples, one for each channel; "the position goes on, round at look"
 unfoldable pub frameOf : Rules → List Float → Float → ℕ → Float → Moving → List Float → Framed
 frameOf rules weights coeff look target m xs =
-    let l = linkedFrom rules 0 Number.zero (m .detector) xs in
+    let l = linkedFrom (rules .linking) 0 Number.zero (m .detector) xs in
     let g = gainStepOf weights coeff (m .env) (requiredGain target (l .peak)) in
-    let d = delayedFrom rules look (m .pos) (g .env .gain) (m .delay) xs in
+    let d = delayedFrom (rules .leaves) look (m .pos) (g .env .gain) (m .delay) xs in
     record {
       floor = g .floor;
       dropped = g .dropped;

@@ -1,4 +1,5 @@
 -- What the contracts of `frame` cite: one frame, a run of frames (document 01, "One gain step" and "Blocks, drains, parameters"), and the passes in which the code goes about a run.
+pub mod Lent
 pub mod Rules
 pub mod Frame
 pub mod Run

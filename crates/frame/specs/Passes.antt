@@ -10,7 +10,7 @@ use Rattle.detector.specs.Run.{runLength, pushesOf}
 use Rattle.envelope.specs.Row.{nextPos}
 use Rattle.envelope.specs.Step.{Enveloped, gainStepOf, envelopedAt}
 use Rattle.envelope.specs.declared.env.Envelope.{Envelope}
-use Rattle.frame.specs.Rules.{Rules}
+use Rattle.frame.specs.Rules.{Linking}
 use Rattle.frame.specs.Frame.{heard, givenOut}
 
 -- ---- peaks
@@ -28,17 +28,17 @@ pub record Peaks : Type 0 where
 abbrev pub peaksAt : List Float → List Float → Peaks
 peaksAt peaks detector = record { peaks = peaks; detector = detector }
 
-unfoldable pub channelPeaks : Rules → ℕ → List Float → List Float → List Float → Peaks
-channelPeaks rules c peaks store xs =
-    let o = pushesOf (rules .taps) store xs in
-    peaksAt (heardAll (rules .counts c) peaks xs (o .peaks)) (o .store)
+unfoldable pub channelPeaks : Linking → ℕ → List Float → List Float → List Float → Peaks
+channelPeaks linking c peaks store xs =
+    let o = pushesOf (linking .taps) store xs in
+    peaksAt (heardAll (linking .counts c) peaks xs (o .peaks)) (o .store)
 
 -- a channel, and what the later ones make of it
-unfoldable pub peaksPass : Rules → ℕ → ℕ → ℕ → List Float → List Float → List Float → Peaks
-peaksPass rules c zero n peaks detector audio = peaksAt peaks detector
-peaksPass rules c (suc k) n peaks detector audio =
-    let o = channelPeaks rules c peaks (take remembered detector) (take n audio) in
-    let later = peaksPass rules (c + 1) k n (o .peaks) (drop remembered detector) (drop runLength audio) in
+unfoldable pub peaksPass : Linking → ℕ → ℕ → ℕ → List Float → List Float → List Float → Peaks
+peaksPass linking c zero n peaks detector audio = peaksAt peaks detector
+peaksPass linking c (suc k) n peaks detector audio =
+    let o = channelPeaks linking c peaks (take remembered detector) (take n audio) in
+    let later = peaksPass linking (c + 1) k n (o .peaks) (drop remembered detector) (drop runLength audio) in
     peaksAt (later .peaks) (o .detector ++ later .detector)
 
 -- ---- gain steps
@@ -71,12 +71,12 @@ abbrev pub outputsAt : List Float → List Float → Outputs
 outputsAt outputs line = record { outputs = outputs; line = line }
 
 -- one channel's outputs at these gains, and its line afterwards
-unfoldable pub channelOutputs : Rules → ℕ → ℕ → List Float → List Float → List Float → Outputs
-channelOutputs rules look pos [] line xs = outputsAt [] line
-channelOutputs rules look pos (g ∷ gs) line [] = outputsAt [] line
-channelOutputs rules look pos (g ∷ gs) line (x ∷ xs) =
-    let later = channelOutputs rules look (nextPos look pos) gs (set line pos (finiteOrZero x)) xs in
-    outputsAt (givenOut rules (getD line pos nan) g ∷ later .outputs) (later .line)
+unfoldable pub channelOutputs : (Float → Float) → ℕ → ℕ → List Float → List Float → List Float → Outputs
+channelOutputs leaves look pos [] line xs = outputsAt [] line
+channelOutputs leaves look pos (g ∷ gs) line [] = outputsAt [] line
+channelOutputs leaves look pos (g ∷ gs) line (x ∷ xs) =
+    let later = channelOutputs leaves look (nextPos look pos) gs (set line pos (finiteOrZero x)) xs in
+    outputsAt (givenOut leaves (getD line pos nan) g ∷ later .outputs) (later .line)
 
 pub record Written : Type 0 where
   pub audio : List Float
@@ -85,9 +85,9 @@ pub record Written : Type 0 where
 abbrev pub writtenAt : List Float → List Float → Written
 writtenAt audio delay = record { audio = audio; delay = delay }
 
-unfoldable pub outputsPass : Rules → ℕ → ℕ → List Float → ℕ → ℕ → List Float → List Float → Written
-outputsPass rules look pos gains zero n delay audio = writtenAt audio delay
-outputsPass rules look pos gains (suc k) n delay audio =
-    let o = channelOutputs rules look pos gains (take look delay) (take n audio) in
-    let later = outputsPass rules look pos gains k n (drop look delay) (drop runLength audio) in
+unfoldable pub outputsPass : (Float → Float) → ℕ → ℕ → List Float → ℕ → ℕ → List Float → List Float → Written
+outputsPass leaves look pos gains zero n delay audio = writtenAt audio delay
+outputsPass leaves look pos gains (suc k) n delay audio =
+    let o = channelOutputs leaves look pos gains (take look delay) (take n audio) in
+    let later = outputsPass leaves look pos gains k n (drop look delay) (drop runLength audio) in
     writtenAt (o .outputs ++ (drop n (take runLength audio) ++ later .audio)) (o .line ++ later .delay)

@@ -1,19 +1,40 @@
--- What a frame is stated for: any table of taps, any rule by which an output leaves, any choice of channels.
+-- What a frame is stated for: any table of taps, any choice of channels, any rule by which an output leaves. And which ones a limiter's settings and a call's sample type ask for.
 use Prim.Native.Nat.{ℕ}
 use mathlib.Core.Bool.{Bool, true}
 use mathlib.Core.List.{List}
 use lib.Ieee.{Float}
 use Rattle.arithmetic.specs.Sanitize.{flushDenormal}
+use Rattle.audio.specs.declared.format.Format.{Format}
+use Rattle.audio.specs.declared.format.Format.the-variants.{F64}
 use Rattle.detector.specs.Taps.{taps}
+use Rattle.settings.specs.declared.LimiterSettings.{LimiterSettings}
 
-pub record Rules : Type 0 where
+-- what decides a frame's linked peak
+pub record Linking : Type 0 where
   -- the detector's table of taps
   pub taps : List (List Float)
-  -- the rule by which an output leaves
-  pub leaves : Float → Float
-  -- whether a channel counts in the linked peak
+  -- whether a channel counts
   pub counts : ℕ → Bool
 
--- the present ones: the detector's table, module 1's output rule, every channel
-abbrev pub presentRules : Rules
-presentRules = record { taps = taps; leaves = λ (x : Float). flushDenormal x; counts = λ (c : ℕ). true }
+pub record Rules : Type 0 where
+  pub linking : Linking
+  -- the rule by which an output leaves
+  pub leaves : Float → Float
+
+-- module 3: "The 48 taps are a constant table"
+unfoldable pub tapsOf : LimiterSettings → List (List Float)
+tapsOf s = taps
+
+-- "the largest sanitized magnitude or detector answer over the channels": every channel
+unfoldable pub countsIn : LimiterSettings → ℕ → Bool
+countsIn s c = true
+
+-- module 1's output rule: "an output below 1e-30 in magnitude becomes +0.0, minus zero included"
+unfoldable pub leavesBy : Format → Float → Float
+leavesBy F64 x = flushDenormal x
+
+abbrev pub linkingOf : LimiterSettings → Linking
+linkingOf s = record { taps = tapsOf s; counts = countsIn s }
+
+abbrev pub rulesOf : LimiterSettings → Format → Rules
+rulesOf s format = record { linking = linkingOf s; leaves = leavesBy format }

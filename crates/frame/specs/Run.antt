@@ -1,64 +1,47 @@
--- A run of up to 32 frames: the frames in turn. Its audio lies in one list of 32 places a channel, frame i of channel c at c × 32 + i.
-use Prim.Native.Nat.{ℕ, zero, suc, _+_, _*_, _≤_, _<_}
+-- A run of up to 32 frames: the frames in turn. Its audio is planar, 32 places a channel.
+use Prim.Native.Nat.{ℕ, _+_, _*_, _≤_, _<_}
 use mathlib.Core.Path.{_≡_}
-use mathlib.Core.List.{List, [], _∷_, _++_, map}
-use lib.ListN.{length, getD, take, drop}
+use mathlib.Core.List.{List, [], _∷_, map}
+use lib.ListN.{length}
 use lib.Ieee.{Float, nan}
+use denote.Ref.{RefT, now}
+use Rattle.audio.specs.Planar.{framesAt, written}
 use Rattle.detector.specs.Oversample.{remembered}
 use Rattle.detector.specs.Run.{runLength}
 use Rattle.keeper.specs.InOrder.{mostFrames}
 use Rattle.envelope.specs.Step.{EnvReady, envelopedAt}
 use Rattle.envelope.specs.declared.env.Envelope.{Envelope}
+use Rattle.frame.specs.Lent.{Lent}
 use Rattle.frame.specs.Rules.{Rules}
 use Rattle.frame.specs.Frame.{Moving, Framed, frameOf}
-use Rattle.frame.specs.declared.render.Rendered.{Rendered}
 
 -- ---- the frames in turn
 pub record Frames : Type 0 where
   pub frames : List Framed
   pub moving : Moving
 
--- a frame, and what the later ones come to
-abbrev pub followed : Framed → Frames → Frames
-followed f later = record { frames = f ∷ later .frames; moving = later .moving }
+-- a frame, and then what the later ones come to
+abbrev pub frameFirst : Framed → Frames → Frames
+frameFirst f later = record { frames = f ∷ later .frames; moving = later .moving }
 
 unfoldable pub framesOf : Rules → List Float → Float → ℕ → Float → Moving → List (List Float) → Frames
 framesOf rules weights coeff look target m [] = record { frames = []; moving = m }
 framesOf rules weights coeff look target m (xs ∷ later) =
     let f = frameOf rules weights coeff look target m xs in
-    followed f (framesOf rules weights coeff look target (f .moving) later)
+    frameFirst f (framesOf rules weights coeff look target (f .moving) later)
 
 -- the gain applied in each frame
 abbrev pub gainsOfFrames : List Framed → List Float
 gainsOfFrames frames = map (λ (f : Framed). f .gain) frames
 
 -- ---- a run's audio
--- frame i: the sample at place i of each channel
-unfoldable pub frameIn : ℕ → ℕ → List Float → List Float
-frameIn zero i audio = []
-frameIn (suc channels) i audio = getD audio i nan ∷ frameIn channels i (drop runLength audio)
-
--- n frames, from frame i on
-unfoldable pub framesFrom : ℕ → ℕ → ℕ → List Float → List (List Float)
-framesFrom channels i zero audio = []
-framesFrom channels i (suc n) audio = frameIn channels i audio ∷ framesFrom channels (i + 1) n audio
-
 -- the first n frames of so many channels
 abbrev pub framesIn : ℕ → ℕ → List Float → List (List Float)
-framesIn channels n audio = framesFrom channels 0 n audio
+framesIn channels n audio = framesAt nan runLength channels 0 n audio
 
--- the first channel's sample of a frame, and the other channels'
-abbrev pub firstOf : List Float → Float
-firstOf f = getD f 0 nan
-
-abbrev pub othersOf : List Float → List Float
-othersOf f = drop 1 f
-
--- the audio with each output in its sample's place, and everything else as it was
-unfoldable pub writtenIn : ℕ → ℕ → List Float → List (List Float) → List Float
-writtenIn zero n audio outputs = audio
-writtenIn (suc channels) n audio outputs =
-    map (λ (f : List Float). firstOf f) outputs ++ (drop n (take runLength audio) ++ writtenIn channels n (drop runLength audio) (map (λ (f : List Float). othersOf f) outputs))
+-- with each output in its sample's place, and everything else as it was
+abbrev pub writtenIn : ℕ → ℕ → List Float → List (List Float) → List Float
+writtenIn channels n audio outputs = written nan runLength channels n audio outputs
 
 -- ---- a run
 pub record RunDone : Type 0 where
@@ -74,8 +57,18 @@ runOf rules weights coeff look target channels n m audio =
 abbrev pub movingAt : Envelope → ℕ → List Float → List ℕ → List Float → List Float → List Float → Moving
 movingAt e pos delay marks minima row detector = record { env = envelopedAt e marks minima row; delay = delay; pos = pos; detector = detector }
 
-abbrev pub renderedAt : Rendered → List Float → List Float → List ℕ → List Float → List Float → List Float → RunDone
-renderedAt r audio delay marks minima row detector = record { moving = movingAt (r .env) (r .pos) delay marks minima row detector; audio = audio }
+-- the same as a contract names the lent stores: in what a function asks, at entry, and at exit
+abbrev pub movingAtCall : Envelope → ℕ → RefT (List Float) → RefT (List ℕ) → RefT (List Float) → RefT (List Float) → RefT (List Float) → Moving
+movingAtCall e pos delay marks minima row detector = movingAt e pos (now delay) (now marks) (now minima) (now row) (now detector)
+
+abbrev pub movingAtEntry : Envelope → ℕ → Lent Float → Lent ℕ → Lent Float → Lent Float → Lent Float → Moving
+movingAtEntry e pos delay marks minima row detector = movingAt e pos (now (delay .entry)) (now (marks .entry)) (now (minima .entry)) (now (row .entry)) (now (detector .entry))
+
+abbrev pub movingAtExit : Envelope → ℕ → Lent Float → Lent ℕ → Lent Float → Lent Float → Lent Float → Moving
+movingAtExit e pos delay marks minima row detector = movingAt e pos (now (delay .exit)) (now (marks .exit)) (now (minima .exit)) (now (row .exit)) (now (detector .exit))
+
+abbrev pub doneAt : Moving → List Float → RunDone
+doneAt m audio = record { moving = m; audio = audio }
 
 -- what a run asks: an envelope that is ready with room for n frames, the stores' lengths, the position in its line
 pub record RunReady (weights : List Float) (look channels n : ℕ) (m : Moving) (audio : List Float) : Type 0 where

@@ -40,7 +40,8 @@ pub fn gain_steps(
 ) -> Envelope
     requires { ⌜ EnvReady (now weights) (envelopedAt env (now marks) (now minima) (now row)) ⌝ }
     requires { ⌜ env .keeper .frame + length (now gains) ≤ mostFrames ⌝ }
-    ensures { λ r. ⌜ gainsAt r (now (marks .exit)) (now (minima .exit)) (now (row .exit)) (now (gains .exit)) ≡ gainsOf (now (weights .entry)) coeff (envelopedAt env (now (marks .entry)) (now (minima .entry)) (now (row .entry))) (now (gains .entry)) ⌝ }
+    ensures { λ r. ⌜ gainsAt r (now (marks .exit)) (now (minima .exit)) (now (row .exit)) (now (gains .exit))
+        ≡ gainsOf (now (weights .entry)) coeff (envelopedAt env (now (marks .entry)) (now (minima .entry)) (now (row .entry))) (now (gains .entry)) ⌝ }
 {
     let n = gains.len();
     let mut e = env;

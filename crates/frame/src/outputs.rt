@@ -3,26 +3,37 @@ ghost use mathlib.Core.Path.{_≡_};
 ghost use Prim.Native.Nat.{_+_, _*_, _≤_, _<_};
 ghost use lib.ListN.{length};
 ghost use Rattle.detector.specs.Run.{runLength};
-ghost use Rattle.frame.specs.Rules.{presentRules};
+ghost use Rattle.frame.specs.Rules.{leavesBy};
 ghost use Rattle.frame.specs.Frame.{givenOut};
 ghost use Rattle.frame.specs.Passes.{posAfter, outputsAt, channelOutputs, writtenAt, outputsPass};
 use arithmetic::sanitize::finite_or_zero;
 use arithmetic::sanitize::flush_denormal;
+use audio::format::Format;
 use envelope::row::next_pos;
 
 // What a frame gives out for what lay in the line.
-fn given_out(d: f64, gain: f64) -> f64
-    ensures { λ r. ⌜ r ≡ givenOut presentRules d gain ⌝ }
+fn given_out(format: Format, d: f64, gain: f64) -> f64
+    ensures { λ r. ⌜ r ≡ givenOut (leavesBy format) d gain ⌝ }
 {
-    flush_denormal(finite_or_zero(d) * gain)
+    let product = finite_or_zero(d) * gain;
+    match format {
+        Format::F64 => flush_denormal(product),
+    }
 }
 
 // One channel over a run: the outputs take the samples' places, and the samples go into the line. The
 // position that the next frame finds is handed back.
-fn channel_outputs(line: &mut [f64], pos: usize, gains: &[f64], samples: &mut [f64]) -> usize
+fn channel_outputs(
+    format: Format,
+    line: &mut [f64],
+    pos: usize,
+    gains: &[f64],
+    samples: &mut [f64],
+) -> usize
     requires { ⌜ pos < length (now line) ⌝ }
     requires { ⌜ length (now gains) ≡ length (now samples) ⌝ }
-    ensures { λ _. ⌜ outputsAt (now (samples .exit)) (now (line .exit)) ≡ channelOutputs presentRules (length (now (line .entry))) pos (now (gains .entry)) (now (line .entry)) (now (samples .entry)) ⌝ }
+    ensures { λ _. ⌜ outputsAt (now (samples .exit)) (now (line .exit))
+        ≡ channelOutputs (leavesBy format) (length (now (line .entry))) pos (now (gains .entry)) (now (line .entry)) (now (samples .entry)) ⌝ }
     ensures { λ r. ⌜ r ≡ posAfter (length (now (line .entry))) pos (length (now (samples .entry))) ⌝ }
 {
     let look = line.len();
@@ -33,13 +44,14 @@ fn channel_outputs(line: &mut [f64], pos: usize, gains: &[f64], samples: &mut [f
         let d = line[p];
         line[p] = x;
         p = next_pos(look, p);
-        samples[i] = given_out(d, gains[i]);
+        samples[i] = given_out(format, d, gains[i]);
     }
     p
 }
 
 // All channels over a run of n frames. Each goes on from the same position to the same position.
 pub fn all_outputs(
+    format: Format,
     channels: usize,
     look: usize,
     pos: usize,
@@ -55,7 +67,8 @@ pub fn all_outputs(
     requires { ⌜ length (now audio) ≡ 8 * runLength ⌝ }
     requires { ⌜ length (now delay) ≡ channels * look ⌝ }
     requires { ⌜ length (now gains) ≡ n ⌝ }
-    ensures { λ _. ⌜ writtenAt (now (audio .exit)) (now (delay .exit)) ≡ outputsPass presentRules look pos (now (gains .entry)) channels n (now (delay .entry)) (now (audio .entry)) ⌝ }
+    ensures { λ _. ⌜ writtenAt (now (audio .exit)) (now (delay .exit))
+        ≡ outputsPass (leavesBy format) look pos (now (gains .entry)) channels n (now (delay .entry)) (now (audio .entry)) ⌝ }
     ensures { λ r. ⌜ r ≡ posAfter look pos n ⌝ }
 {
     let mut next = pos;
@@ -63,6 +76,7 @@ pub fn all_outputs(
         let at = c * look;
         let first = c * 32;
         next = channel_outputs(
+            format,
             &mut delay[at..at + look],
             pos,
             gains,

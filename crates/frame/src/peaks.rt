@@ -4,32 +4,21 @@ ghost use mathlib.Core.Bool.{true};
 ghost use Prim.Native.Nat.{_+_, _*_, _≤_};
 ghost use lib.ListN.{length};
 ghost use Rattle.detector.specs.Oversample.{remembered};
-ghost use Rattle.detector.specs.Taps.{taps};
 ghost use Rattle.detector.specs.Run.{runLength, pushesOf};
-ghost use Rattle.frame.specs.Rules.{presentRules};
+ghost use Rattle.frame.specs.Rules.{tapsOf, linkingOf};
 ghost use Rattle.frame.specs.Frame.{heard};
 ghost use Rattle.frame.specs.Passes.{heardAll, peaksAt, channelPeaks, peaksPass};
 use arithmetic::number::abs;
 use arithmetic::number::max;
 use arithmetic::sanitize::finite_or_zero;
 use detector::oversample::peaks_abs;
+use settings::LimiterSettings;
 
 // One channel's share in the peak of a frame.
 fn heard_in(peak: f64, x: f64, answer: f64) -> f64
     ensures { λ r. ⌜ r ≡ heard true peak x answer ⌝ }
 {
     max(max(peak, abs(finite_or_zero(x))), answer)
-}
-
-// A channel's samples into a local run, which the detector's answers are to replace.
-fn copy_run(samples: &[f64], run: &mut [f64])
-    requires { ⌜ length (now run) ≡ length (now samples) ⌝ }
-    ensures { λ _. ⌜ now (run .exit) ≡ now (samples .entry) ⌝ }
-{
-    let n = samples.len();
-    for i in 0..n {
-        run[i] = samples[i];
-    }
 }
 
 // A channel's share in the peak of each frame.
@@ -44,45 +33,73 @@ fn hear_run(peaks: &mut [f64], samples: &[f64], answers: &[f64])
     }
 }
 
-// One channel over a run: its samples through the detector, whose answers are left in `run`, and their
+// Channel c over a run: its samples through the detector, whose answers are left in `answers`, and their
 // share in the peaks.
-fn hear_channel(store: &mut [f64], samples: &[f64], peaks: &mut [f64], run: &mut [f64])
+fn hear_channel(
+    settings: LimiterSettings,
+    c: usize,
+    store: &mut [f64],
+    samples: &[f64],
+    peaks: &mut [f64],
+    answers: &mut [f64],
+)
     requires { ⌜ length (now store) ≡ remembered ⌝ }
     requires { ⌜ length (now samples) ≡ length (now peaks) ⌝ }
-    requires { ⌜ length (now run) ≡ length (now samples) ⌝ }
+    requires { ⌜ length (now answers) ≡ length (now samples) ⌝ }
     requires { ⌜ length (now samples) ≤ runLength ⌝ }
-    ensures { λ _. ⌜ peaksAt (now (peaks .exit)) (now (store .exit)) ≡ channelPeaks presentRules 0 (now (peaks .entry)) (now (store .entry)) (now (samples .entry)) ⌝ }
-    ensures { λ _. ⌜ now (run .exit) ≡ pushesOf taps (now (store .entry)) (now (samples .entry)) .peaks ⌝ }
+    ensures { λ _. ⌜ peaksAt (now (peaks .exit)) (now (store .exit))
+        ≡ channelPeaks (linkingOf settings) c (now (peaks .entry)) (now (store .entry)) (now (samples .entry)) ⌝ }
+    ensures { λ _. ⌜ now (answers .exit) ≡ pushesOf (tapsOf settings) (now (store .entry)) (now (samples .entry)) .peaks ⌝ }
 {
-    copy_run(samples, run);
-    peaks_abs(store, run);
-    hear_run(peaks, samples, run);
+    peaks_abs(store, samples, answers);
+    hear_run(peaks, samples, answers);
 }
 
-// The same with a local run.
-fn channel_peaks(store: &mut [f64], samples: &[f64], peaks: &mut [f64])
+// The same with local answers.
+fn channel_peaks(
+    settings: LimiterSettings,
+    c: usize,
+    store: &mut [f64],
+    samples: &[f64],
+    peaks: &mut [f64],
+)
     requires { ⌜ length (now store) ≡ remembered ⌝ }
     requires { ⌜ length (now samples) ≡ length (now peaks) ⌝ }
     requires { ⌜ length (now samples) ≤ runLength ⌝ }
-    ensures { λ _. ⌜ peaksAt (now (peaks .exit)) (now (store .exit)) ≡ channelPeaks presentRules 0 (now (peaks .entry)) (now (store .entry)) (now (samples .entry)) ⌝ }
+    ensures { λ _. ⌜ peaksAt (now (peaks .exit)) (now (store .exit))
+        ≡ channelPeaks (linkingOf settings) c (now (peaks .entry)) (now (store .entry)) (now (samples .entry)) ⌝ }
 {
     let n = samples.len();
-    let mut run = [0.0; 32];
-    hear_channel(store, samples, peaks, &mut run[0..n]);
+    let mut answers = [0.0; 32];
+    hear_channel(settings, c, store, samples, peaks, &mut answers[0..n]);
 }
 
 // All channels over a run of n frames.
-pub fn all_peaks(channels: usize, n: usize, audio: &[f64], detector: &mut [f64], peaks: &mut [f64])
+pub fn all_peaks(
+    settings: LimiterSettings,
+    channels: usize,
+    n: usize,
+    audio: &[f64],
+    detector: &mut [f64],
+    peaks: &mut [f64],
+)
     requires { ⌜ channels ≤ 8 ⌝ }
     requires { ⌜ n ≤ runLength ⌝ }
     requires { ⌜ length (now audio) ≡ 8 * runLength ⌝ }
     requires { ⌜ length (now detector) ≡ channels * remembered ⌝ }
     requires { ⌜ length (now peaks) ≡ n ⌝ }
-    ensures { λ _. ⌜ peaksAt (now (peaks .exit)) (now (detector .exit)) ≡ peaksPass presentRules 0 channels n (now (peaks .entry)) (now (detector .entry)) (now (audio .entry)) ⌝ }
+    ensures { λ _. ⌜ peaksAt (now (peaks .exit)) (now (detector .exit))
+        ≡ peaksPass (linkingOf settings) 0 channels n (now (peaks .entry)) (now (detector .entry)) (now (audio .entry)) ⌝ }
 {
     for c in 0..channels {
         let at = c * 12;
         let first = c * 32;
-        channel_peaks(&mut detector[at..at + 12], &audio[first..first + n], peaks);
+        channel_peaks(
+            settings,
+            c,
+            &mut detector[at..at + 12],
+            &audio[first..first + n],
+            peaks,
+        );
     }
 }

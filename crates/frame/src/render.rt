@@ -2,13 +2,15 @@
 ghost use mathlib.Core.Path.{_≡_};
 ghost use lib.ListN.{replicate};
 ghost use Rattle.arithmetic.specs.Number.{zero};
-ghost use Rattle.frame.specs.Rules.{presentRules};
-ghost use Rattle.frame.specs.Run.{framesOf, gainsOfFrames, framesIn, runOf, movingAt, renderedAt, RunReady};
+ghost use Rattle.frame.specs.Rules.{rulesOf};
+ghost use Rattle.frame.specs.Run.{framesOf, gainsOfFrames, framesIn, runOf, movingAtCall, movingAtEntry, movingAtExit, doneAt, RunReady};
 use crate::gains::gain_steps;
 use crate::gains::required_gains;
 use crate::outputs::all_outputs;
 use crate::peaks::all_peaks;
+use audio::format::Format;
 use envelope::env::Envelope;
+use settings::LimiterSettings;
 
 // What a run leaves beside the stores.
 pub struct Rendered {
@@ -20,6 +22,8 @@ pub struct Rendered {
 // The passes. `gains`, a place for each frame, starts at 0.0, where the linked peaks start, and holds the
 // gains applied at last.
 fn render_in(
+    settings: LimiterSettings,
+    format: Format,
     env: Envelope,
     coeff: f64,
     target: f64,
@@ -36,15 +40,19 @@ fn render_in(
     detector: &mut [f64],
     gains: &mut [f64],
 ) -> Rendered
-    requires { ⌜ RunReady (now weights) look channels n (movingAt env pos (now delay) (now marks) (now minima) (now row) (now detector)) (now audio) ⌝ }
+    requires { ⌜ RunReady (now weights) look channels n (movingAtCall env pos delay marks minima row detector) (now audio) ⌝ }
     requires { ⌜ now gains ≡ replicate n zero ⌝ }
-    ensures { λ r. ⌜ renderedAt r (now (audio .exit)) (now (delay .exit)) (now (marks .exit)) (now (minima .exit)) (now (row .exit)) (now (detector .exit)) ≡ runOf presentRules (now (weights .entry)) coeff look target channels n (movingAt env pos (now (delay .entry)) (now (marks .entry)) (now (minima .entry)) (now (row .entry)) (now (detector .entry))) (now (audio .entry)) ⌝ }
-    ensures { λ _. ⌜ now (gains .exit) ≡ gainsOfFrames (framesOf presentRules (now (weights .entry)) coeff look target (movingAt env pos (now (delay .entry)) (now (marks .entry)) (now (minima .entry)) (now (row .entry)) (now (detector .entry))) (framesIn channels n (now (audio .entry))) .frames) ⌝ }
+    ensures { λ r. ⌜ doneAt (movingAtExit (r .env) (r .pos) delay marks minima row detector) (now (audio .exit))
+        ≡ runOf (rulesOf settings format) (now (weights .entry)) coeff look target channels n
+        (movingAtEntry env pos delay marks minima row detector) (now (audio .entry)) ⌝ }
+    ensures { λ _. ⌜ now (gains .exit)
+        ≡ gainsOfFrames (framesOf (rulesOf settings format) (now (weights .entry)) coeff look target
+        (movingAtEntry env pos delay marks minima row detector) (framesIn channels n (now (audio .entry))) .frames) ⌝ }
 {
-    all_peaks(channels, n, audio, detector, gains);
+    all_peaks(settings, channels, n, audio, detector, gains);
     required_gains(target, gains);
     let after = gain_steps(env, marks, minima, weights, row, coeff, gains);
-    let next = all_outputs(channels, look, pos, n, gains, delay, audio);
+    let next = all_outputs(format, channels, look, pos, n, gains, delay, audio);
     Rendered {
         env: after,
         pos: next,
@@ -53,6 +61,8 @@ fn render_in(
 
 // A run of n frames: each sample of `audio` gives way to its output.
 pub fn render_run(
+    settings: LimiterSettings,
+    format: Format,
     env: Envelope,
     coeff: f64,
     target: f64,
@@ -68,11 +78,15 @@ pub fn render_run(
     row: &mut [f64],
     detector: &mut [f64],
 ) -> Rendered
-    requires { ⌜ RunReady (now weights) look channels n (movingAt env pos (now delay) (now marks) (now minima) (now row) (now detector)) (now audio) ⌝ }
-    ensures { λ r. ⌜ renderedAt r (now (audio .exit)) (now (delay .exit)) (now (marks .exit)) (now (minima .exit)) (now (row .exit)) (now (detector .exit)) ≡ runOf presentRules (now (weights .entry)) coeff look target channels n (movingAt env pos (now (delay .entry)) (now (marks .entry)) (now (minima .entry)) (now (row .entry)) (now (detector .entry))) (now (audio .entry)) ⌝ }
+    requires { ⌜ RunReady (now weights) look channels n (movingAtCall env pos delay marks minima row detector) (now audio) ⌝ }
+    ensures { λ r. ⌜ doneAt (movingAtExit (r .env) (r .pos) delay marks minima row detector) (now (audio .exit))
+        ≡ runOf (rulesOf settings format) (now (weights .entry)) coeff look target channels n
+        (movingAtEntry env pos delay marks minima row detector) (now (audio .entry)) ⌝ }
 {
     let mut gains = [0.0; 32];
     render_in(
+        settings,
+        format,
         env,
         coeff,
         target,

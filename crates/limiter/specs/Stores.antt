@@ -6,10 +6,10 @@ use lib.Dec.{eqb}
 use lib.ListN.{length, replicate}
 use lib.Ieee.{Float}
 use denote.Ref.{RefT, now}
-use denote.Triple.Both.{Both}
 use Rattle.arithmetic.specs.Number
 use Rattle.arithmetic.specs.Number.{one}
 use Rattle.settings.specs.Derived.{rowOf}
+use Rattle.frame.specs.Lent.{Lent}
 
 pub record Stores : Type 0 where
   pub delay : List Float
@@ -23,10 +23,6 @@ abbrev pub storesAt : List Float → List ℕ → List Float → List Float → 
 storesAt delay marks minima weights row detector = record { delay = delay; marks = marks; minima = minima; weights = weights; row = row; detector = detector }
 
 -- ---- the six as a contract names them
--- a lent slice at a call's two moments
-abbrev pub Lent : Type 0 → Type 0
-Lent A = Both (RefT (List A)) (RefT (List A))
-
 -- at entry, and at exit
 abbrev pub atEntry : Lent Float → Lent ℕ → Lent Float → Lent Float → Lent Float → Lent Float → Stores
 atEntry delay marks minima weights row detector =

@@ -2,11 +2,12 @@
 // places a channel, and each sample gives way to its output.
 ghost use mathlib.Core.Path.{_≡_};
 ghost use Prim.Native.Nat.{_+_};
-ghost use Rattle.frame.specs.Rules.{presentRules};
+ghost use Rattle.frame.specs.Rules.{rulesOf};
 ghost use Rattle.limiter.specs.Stores.{atEntry, atExit, atCall};
 ghost use Rattle.limiter.specs.Run.{movedOn, KernelReady, ranAt, renderOf, drainOf};
 use crate::state::Limiter;
 use crate::stores::fill;
+use audio::format::Format;
 use frame::render::Rendered;
 use frame::render::render_run;
 
@@ -40,6 +41,7 @@ impl Limiter {
     // Renders n frames at a target, which the limiter keeps for drains.
     pub fn render(
         self,
+        format: Format,
         target: f64,
         n: usize,
         audio: &mut [f64],
@@ -52,10 +54,13 @@ impl Limiter {
     ) -> Limiter
         requires { ⌜ KernelReady self n (atCall delay marks minima weights row detector) (now audio) ⌝ }
         ensures { λ r. ⌜ ranAt r (atExit delay marks minima weights row detector) (now (audio .exit))
-            ≡ renderOf presentRules self target n (atEntry delay marks minima weights row detector) (now (audio .entry)) ⌝ }
+            ≡ renderOf (rulesOf (self .settings) format) self target n (atEntry delay marks minima weights row detector) (now (audio .entry)) ⌝ }
     {
+        let settings = self.settings;
         let env = self.env;
         let run = render_run(
+            settings,
+            format,
             env,
             self.release_coeff,
             target,
@@ -77,6 +82,7 @@ impl Limiter {
     // Drains n frames of the tail: silence at the kept target.
     pub fn drain(
         self,
+        format: Format,
         n: usize,
         audio: &mut [f64],
         delay: &mut [f64],
@@ -88,11 +94,12 @@ impl Limiter {
     ) -> Limiter
         requires { ⌜ KernelReady self n (atCall delay marks minima weights row detector) (now audio) ⌝ }
         ensures { λ r. ⌜ ranAt r (atExit delay marks minima weights row detector) (now (audio .exit))
-            ≡ drainOf presentRules self n (atEntry delay marks minima weights row detector) (now (audio .entry)) ⌝ }
+            ≡ drainOf (rulesOf (self .settings) format) self n (atEntry delay marks minima weights row detector) (now (audio .entry)) ⌝ }
     {
         fill(audio, 0.0);
         let drained = self.drained + n;
         let after = self.render(
+            format,
             self.target,
             n,
             audio,

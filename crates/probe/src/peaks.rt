@@ -1,9 +1,9 @@
 // The detector.
 ghost use mathlib.Core.Path.{_≡_};
+ghost use lib.ListN.{length};
 ghost use Rattle.detector.specs.Taps.{taps};
-ghost use Rattle.detector.specs.Oversample.{Outcome, peakAbsOf};
-ghost use Rattle.detector.specs.Run.{runOutcomeAt, peaksAbsOf};
-ghost use Rattle.probe.specs.Out.{pushedAt};
+ghost use Rattle.detector.specs.Oversample.{pushedAt, peakAbsOf};
+ghost use Rattle.detector.specs.Run.{pushesAt, peaksAbsOf};
 
 // One push into a lent store of 12 samples.
 #[no_mangle]
@@ -13,10 +13,36 @@ pub extern "C" fn probe_peak_abs(store: &mut [f64], x: f64) -> f64
     detector::oversample::peak_abs(store, x).peak
 }
 
+fn copy_run(samples: &[f64], run: &mut [f64])
+    requires { ⌜ length (now run) ≡ length (now samples) ⌝ }
+    ensures { λ _. ⌜ now (run .exit) ≡ now (samples .entry) ⌝ }
+{
+    let n = samples.len();
+    for i in 0..n {
+        run[i] = samples[i];
+    }
+}
+
+// A run of pushes, its samples kept in a place of their own.
+fn push_run(store: &mut [f64], run: &mut [f64], samples: &mut [f64])
+    requires { ⌜ length (now samples) ≡ length (now run) ⌝ }
+    ensures { λ _. ⌜ pushesAt (now (run .exit)) (now (store .exit))
+        ≡ peaksAbsOf taps (now (store .entry)) (now (run .entry)) (now (run .entry)) ⌝ }
+{
+    copy_run(run, samples);
+    detector::oversample::peaks_abs(store, samples, run);
+}
+
 // A run of pushes: each sample is replaced by its answer.
 #[no_mangle]
 pub extern "C" fn probe_peaks_abs(store: &mut [f64], run: &mut [f64])
-    ensures { λ _. ⌜ runOutcomeAt (now (run .exit)) (now (store .exit)) ≡ peaksAbsOf taps (now (store .entry)) (now (run .entry)) ⌝ }
+    ensures { λ _. ⌜ pushesAt (now (run .exit)) (now (store .exit))
+        ≡ peaksAbsOf taps (now (store .entry)) (now (run .entry)) (now (run .entry)) ⌝ }
 {
-    detector::oversample::peaks_abs(store, run);
+    let n = run.len();
+    if n > 32 {
+        return;
+    }
+    let mut samples = [0.0; 32];
+    push_run(store, run, &mut samples[0..n]);
 }

@@ -1,4 +1,4 @@
--- `answer_run`: at each turn the run agrees with the answers on those passed.
+-- `answer_run`: at each turn the answers agree with the definition's on those passed.
 use mathlib.Core.Path.{_≡_, refl}
 use Prim.Native.Nat.{_-_, _≤_}
 use native.Mathlib.Omega.{arith}
@@ -14,10 +14,10 @@ use Rattle.detector.proofs.oversample.answer_run.Statement.{statement}
 use Rattle.detector.proofs.oversample.answer_run.Tie as tie
 
 abbrev Inv-loop : tie.InvT-loop
-Inv-loop line run₀ n i₀ run i = (i ≤ n) × (length run ≡ n) × (take i run ≡ take i (answersIn taps line n))
+Inv-loop line answers₀ n i₀ answers i = (i ≤ n) × (length answers ≡ n) × (take i answers ≡ take i (answersIn taps line n))
 
 abbrev μ-loop : tie.MeasureT-loop
-μ-loop line run₀ n i₀ run i = n - i
+μ-loop line answers₀ n i₀ answers i = n - i
 
 loop-holds : tie.Need-loop-holds Inv-loop μ-loop
 loop-holds c = (search needs, refl, refl)
@@ -34,11 +34,11 @@ window-requires c κs = search needs
 peak-of-requires : tie.Need-peak-of-requires Inv-loop μ-loop
 peak-of-requires c κs = search needs
 
-mul-run : tie.Need-mul-run Inv-loop μ-loop
-mul-run c = search needs
+mul-answers : tie.Need-mul-answers Inv-loop μ-loop
+mul-answers c = search needs
 
-slice-write-run : tie.Need-slice-write-run Inv-loop μ-loop
-slice-write-run c = search needs
+slice-write-answers : tie.Need-slice-write-answers Inv-loop μ-loop
+slice-write-answers c = search needs
 
 add-i : tie.Need-add-i Inv-loop μ-loop
 add-i c = search needs
@@ -53,7 +53,7 @@ loop-again c =
     let a = l .before .before .args in (
       search needs,
       simp length-set (l .loop .inv .1),
-      answer-more taps (now (a .line)) (l .loop .run) (w .window .result) (length (now (a .run))) (l .loop .i) (c .peak-of .result) nan (w .before .loop-test .taken) (l .loop .inv .1) (w .window .ensures)
+      answer-more taps (now (a .line)) (l .loop .answers) (w .window .result) (length (now (a .answers))) (l .loop .i) (c .peak-of .result) nan (w .before .loop-test .taken) (l .loop .inv .1) (w .window .ensures)
           (c .peak-of .ensures) (l .loop .inv .2),
     )
 
@@ -64,9 +64,9 @@ returns : tie.Need-returns Inv-loop μ-loop
 returns c =
     let l = c .before in
     let a = l .before .before .args in
-    let n = length (now (a .run)) in
+    let n = length (now (a .answers)) in
     let k = answers-length taps (now (a .line)) n in
-    copied-all (l .loop .run) (answersIn taps (now (a .line)) n) (l .loop .i) (search needs) (omega arith) (l .loop .inv .2)
+    copied-all (l .loop .answers) (answersIn taps (now (a .line)) n) (l .loop .i) (search needs) (omega arith) (l .loop .inv .2)
 
 pub answer-run-spec : {M : Type 1} → statement M
-answer-run-spec = tie.close (tie.spec Inv-loop μ-loop loop-holds sub-window sub-window-2 window-requires peak-of-requires mul-run slice-write-run add-i loop-less loop-again same-length returns)
+answer-run-spec = tie.close (tie.spec Inv-loop μ-loop loop-holds sub-window sub-window-2 window-requires peak-of-requires mul-answers slice-write-answers add-i loop-less loop-again same-length returns)

@@ -5,24 +5,24 @@ use native.Mathlib.Omega.{arith}
 use borrow.Author.Needs.{needs}
 use lib.ListN.{length}
 use denote.Ref.{now}
-use Rattle.frame.specs.Rules.{presentRules}
+use Rattle.frame.specs.Rules.{leavesBy}
 use Rattle.frame.specs.Passes.{posAfter, outputsPass}
 use Rattle.frame.proofs.Channels.{places-end, outputsSince, outputs-start, outputs-end, outputs-turn, pos-turn}
 use Rattle.frame.proofs.outputs.all_outputs.Statement.{statement}
 use Rattle.frame.proofs.outputs.all_outputs.Tie as tie
 
 abbrev Inv-loop : tie.InvT-loop
-Inv-loop channels look pos n gains delay₀ audio₀ next₀ c₀ delay audio next c =
-    (c ≤ channels) × (length delay ≡ channels * look) × (length audio ≡ 256) × (outputsSince presentRules look pos gains channels n c delay audio ≡ outputsPass presentRules look pos gains channels n delay₀ audio₀)
+Inv-loop format channels look pos n gains delay₀ audio₀ next₀ c₀ delay audio next c =
+    (c ≤ channels) × (length delay ≡ channels * look) × (length audio ≡ 256) × (outputsSince (leavesBy format) look pos gains channels n c delay audio ≡ outputsPass (leavesBy format) look pos gains channels n delay₀ audio₀)
     × (1 ≤ c → next ≡ posAfter look pos n)
 
 abbrev μ-loop : tie.MeasureT-loop
-μ-loop channels look pos n gains delay₀ audio₀ next₀ c₀ delay audio next c = channels - c
+μ-loop format channels look pos n gains delay₀ audio₀ next₀ c₀ delay audio next c = channels - c
 
 loop-holds : tie.Need-loop-holds Inv-loop μ-loop
 loop-holds c =
     let a = c .before .before .before .args in
-    (search needs, search needs, search needs, outputs-start presentRules (a .look) (a .pos) (now (a .gains)) (a .channels) (a .n) (now (a .delay)) (now (a .audio)), λ k. absurd (omega arith))
+    (search needs, search needs, search needs, outputs-start (leavesBy (a .format)) (a .look) (a .pos) (now (a .gains)) (a .channels) (a .n) (now (a .delay)) (now (a .audio)), λ k. absurd (omega arith))
 
 -- the channel's line lies in the delay
 inside : (c : tie.In-loop Inv-loop μ-loop) → c .before .loop .c * c .before .before .before .before .before .args .look + c .before .before .before .before .before .args .look ≤ length (c .before .loop .delay)
@@ -84,9 +84,9 @@ loop-again c =
       omega arith,
       search needs,
       search needs,
-      outputs-turn presentRules (a .look) (a .pos) (now (a .gains)) (a .channels) (a .n) (l .loop .c) (l .loop .c * a .look + a .look - l .loop .c * a .look) (l .loop .c * 32 + a .n - l .loop .c * 32) (l .loop .delay) (l .loop .audio)
-          (o .channel-outputs .last .0) (o .channel-outputs .last .1 .1 .1 .0) (omega arith) (l .loop .inv .1) (omega arith) (omega arith) (omega arith) (omega arith)
-          (o .channel-outputs .kept .0) (o .channel-outputs .kept .1 .1 .1 .0) (o .channel-outputs .ensures .0)
+      outputs-turn (leavesBy (a .format)) (a .look) (a .pos) (now (a .gains)) (a .channels) (a .n) (l .loop .c) (l .loop .c * a .look + a .look - l .loop .c * a .look) (l .loop .c * 32 + a .n - l .loop .c * 32) (l .loop .delay) (l .loop .audio)
+          (o .channel-outputs .last .1 .0) (o .channel-outputs .last .1 .1 .1 .1 .0) (omega arith) (l .loop .inv .1) (omega arith) (omega arith) (omega arith) (omega arith)
+          (o .channel-outputs .kept .1 .0) (o .channel-outputs .kept .1 .1 .1 .1 .0) (o .channel-outputs .ensures .0)
           ∙ l .loop .inv .3,
       λ k. pos-turn (a .look) (a .pos) (a .channels) (a .n) (l .loop .c) (l .loop .c * a .look + a .look - l .loop .c * a .look) (l .loop .c * 32 + a .n - l .loop .c * 32) (l .loop .delay) (l .loop .audio)
           (o .channel-outputs .result) (omega arith) (l .loop .inv .1) (omega arith) (omega arith) (omega arith) (o .channel-outputs .ensures .1),
@@ -102,7 +102,7 @@ returns : tie.Need-returns Inv-loop μ-loop
 returns c =
     let l = c .before in
     let a = l .before .before .before .before .args in
-    (outputs-end presentRules (a .look) (a .pos) (now (a .gains)) (a .channels) (a .n) (l .loop .c) (l .loop .delay) (l .loop .audio) (omega arith) ∙ l .loop .inv .3, l .loop .inv .4 (omega arith))
+    (outputs-end (leavesBy (a .format)) (a .look) (a .pos) (now (a .gains)) (a .channels) (a .n) (l .loop .c) (l .loop .delay) (l .loop .audio) (omega arith) ∙ l .loop .inv .3, l .loop .inv .4 (omega arith))
 
 pub all-outputs-spec : {M : Type 1} → statement M
 all-outputs-spec =

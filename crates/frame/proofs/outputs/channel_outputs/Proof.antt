@@ -6,18 +6,19 @@ use borrow.Author.Needs.{needs}
 use native.Mathlib.Nat.{sub-zero}
 use lib.ListN.{length, length-set}
 use denote.Ref.{now}
-use Rattle.frame.specs.Rules.{presentRules}
+use Rattle.frame.specs.Rules.{leavesBy}
 use Rattle.frame.specs.Passes.{posAfter, channelOutputs}
 use Rattle.frame.proofs.Turns.{outputsFrom, outputs-more, outputs-done, pos-more, pos-done}
 use Rattle.frame.proofs.outputs.channel_outputs.Statement.{statement}
 use Rattle.frame.proofs.outputs.channel_outputs.Tie as tie
 
 abbrev Inv-loop : tie.InvT-loop
-Inv-loop line₀ pos gains samples₀ look n p₀ i₀ line samples p i = (i ≤ n) × (p < look) × (length line ≡ look) × (length samples ≡ n) × (outputsFrom presentRules look p gains line i samples ≡ channelOutputs presentRules look pos gains line₀ samples₀)
+Inv-loop format line₀ pos gains samples₀ look n p₀ i₀ line samples p i =
+    (i ≤ n) × (p < look) × (length line ≡ look) × (length samples ≡ n) × (outputsFrom (leavesBy format) look p gains line i samples ≡ channelOutputs (leavesBy format) look pos gains line₀ samples₀)
     × (posAfter look p (n - i) ≡ posAfter look pos n)
 
 abbrev μ-loop : tie.MeasureT-loop
-μ-loop line₀ pos gains samples₀ look n p₀ i₀ line samples p i = n - i
+μ-loop format line₀ pos gains samples₀ look n p₀ i₀ line samples p i = n - i
 
 loop-holds : tie.Need-loop-holds Inv-loop μ-loop
 loop-holds c = (search needs, search needs, refl, refl, refl, let a = c .before .before .before .args in ap (posAfter (length (now (a .line))) (a .pos)) (sub-zero (length (now (a .samples)))))
@@ -77,7 +78,7 @@ loop-again c =
       p .next-pos .ensures .1,
       simp length-set (l .loop .inv .2),
       simp length-set (l .loop .inv .3),
-      outputs-more presentRules (length (now (a .line))) (l .loop .p) (now (a .gains)) (l .loop .line) (l .loop .i) (l .loop .samples) (f .finite-or-zero .result) (c .given-out .result) (p .next-pos .result) (omega arith) (omega arith)
+      outputs-more (leavesBy (a .format)) (length (now (a .line))) (l .loop .p) (now (a .gains)) (l .loop .line) (l .loop .i) (l .loop .samples) (f .finite-or-zero .result) (c .given-out .result) (p .next-pos .result) (omega arith) (omega arith)
           (f .finite-or-zero .ensures) (c .given-out .ensures) (p .next-pos .ensures .0)
           ∙ l .loop .inv .4,
       rw (p .next-pos .ensures .0) (pos-more (length (now (a .line))) (l .loop .p) (length (now (a .samples))) (l .loop .i) (omega arith)) ∙ l .loop .inv .5,
@@ -94,7 +95,7 @@ returns c =
     let l = c .before in
     let a = l .before .before .before .before .args in
     let n = length (now (a .samples)) in (
-      outputs-done presentRules (length (now (a .line))) (l .loop .p) (now (a .gains)) (l .loop .line) (l .loop .i) (l .loop .samples) (omega arith) (omega arith) ∙ l .loop .inv .4,
+      outputs-done (leavesBy (a .format)) (length (now (a .line))) (l .loop .p) (now (a .gains)) (l .loop .line) (l .loop .i) (l .loop .samples) (omega arith) (omega arith) ∙ l .loop .inv .4,
       pos-done (length (now (a .line))) (l .loop .p) n (l .loop .i) (omega arith) ∙ l .loop .inv .5,
     )
 

@@ -5,22 +5,22 @@ use native.Mathlib.Omega.{arith}
 use borrow.Author.Needs.{needs}
 use lib.ListN.{length}
 use denote.Ref.{now}
-use Rattle.frame.specs.Rules.{presentRules}
+use Rattle.frame.specs.Rules.{linkingOf}
 use Rattle.frame.specs.Passes.{peaksPass}
 use Rattle.frame.proofs.Channels.{peaksSince, peaks-start, peaks-done, peaks-more}
 use Rattle.frame.proofs.peaks.all_peaks.Statement.{statement}
 use Rattle.frame.proofs.peaks.all_peaks.Tie as tie
 
 abbrev Inv-loop : tie.InvT-loop
-Inv-loop channels n audio detector₀ peaks₀ c₀ detector peaks c = (c ≤ channels) × (length peaks ≡ n) × (length detector ≡ channels * 12) × (peaksSince presentRules channels n c peaks detector audio ≡ peaksPass presentRules 0 channels n peaks₀ detector₀ audio)
+Inv-loop settings channels n audio detector₀ peaks₀ c₀ detector peaks c = (c ≤ channels) × (length peaks ≡ n) × (length detector ≡ channels * 12) × (peaksSince (linkingOf settings) channels n c peaks detector audio ≡ peaksPass (linkingOf settings) 0 channels n peaks₀ detector₀ audio)
 
 abbrev μ-loop : tie.MeasureT-loop
-μ-loop channels n audio detector₀ peaks₀ c₀ detector peaks c = channels - c
+μ-loop settings channels n audio detector₀ peaks₀ c₀ detector peaks c = channels - c
 
 loop-holds : tie.Need-loop-holds Inv-loop μ-loop
 loop-holds c =
     let a = c .before .before .before .args in
-    (search needs, search needs, search needs, peaks-start presentRules (a .channels) (a .n) (now (a .peaks)) (now (a .detector)) (now (a .audio)))
+    (search needs, search needs, search needs, peaks-start (linkingOf (a .settings)) (a .channels) (a .n) (now (a .peaks)) (now (a .detector)) (now (a .audio)))
 
 mul-at : tie.Need-mul-at Inv-loop μ-loop
 mul-at c = search needs
@@ -73,10 +73,10 @@ loop-again c =
     let l = o .before .before .before .before .before in
     let a = l .before .before .before .before .args in (
       omega arith,
-      o .channel-peaks .kept .1 .1 .0 ∙ l .loop .inv .1,
+      o .channel-peaks .kept .1 .1 .1 .1 .0 ∙ l .loop .inv .1,
       search needs,
-      peaks-more (a .channels) (a .n) (l .loop .c) (l .loop .c * 12 + 12 - l .loop .c * 12) (l .loop .c * 32 + a .n - l .loop .c * 32) (l .loop .peaks) (l .loop .detector) (now (a .audio))
-          (o .channel-peaks .last .1 .1 .0) (o .channel-peaks .last .0) (omega arith) (l .loop .inv .2) (omega arith) (omega arith) (o .channel-peaks .kept .0) (o .channel-peaks .ensures)
+      peaks-more (linkingOf (a .settings)) (a .channels) (a .n) (l .loop .c) (l .loop .c * 12 + 12 - l .loop .c * 12) (l .loop .c * 32 + a .n - l .loop .c * 32) (l .loop .peaks) (l .loop .detector) (now (a .audio))
+          (o .channel-peaks .last .1 .1 .1 .1 .0) (o .channel-peaks .last .1 .1 .0) (omega arith) (l .loop .inv .2) (omega arith) (omega arith) (o .channel-peaks .kept .1 .1 .0) (o .channel-peaks .ensures)
           ∙ l .loop .inv .3,
     )
 
@@ -90,7 +90,7 @@ returns : tie.Need-returns Inv-loop μ-loop
 returns c =
     let l = c .before in
     let a = l .before .before .before .before .args in
-    peaks-done presentRules (a .channels) (a .n) (l .loop .c) (l .loop .peaks) (l .loop .detector) (now (a .audio)) (omega arith) ∙ l .loop .inv .3
+    peaks-done (linkingOf (a .settings)) (a .channels) (a .n) (l .loop .c) (l .loop .peaks) (l .loop .detector) (now (a .audio)) (omega arith) ∙ l .loop .inv .3
 
 pub all-peaks-spec : {M : Type 1} → statement M
 all-peaks-spec =

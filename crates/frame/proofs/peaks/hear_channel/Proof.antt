@@ -5,9 +5,6 @@ use Rattle.frame.proofs.Channels.{channel-heard}
 use Rattle.frame.proofs.peaks.hear_channel.Statement.{statement}
 use Rattle.frame.proofs.peaks.hear_channel.Tie as tie
 
-copy-run-requires : tie.Need-copy-run-requires
-copy-run-requires c κs = search needs
-
 peaks-abs-requires : tie.Need-peaks-abs-requires
 peaks-abs-requires c κs = search needs
 
@@ -26,20 +23,11 @@ same-length-3 c = search needs
 returns : tie.Need-returns
 returns c =
     let h = c .before .before in
-    let p = c .before .before .before .before .before .before .before .before .before in
-    let r = p .before .before .before .before .before in
-    let s = c .before .before .before .before .before .before .before .before .before .before .before .before .before .before .before .before .before .before .before .before in
-    channel-heard (now (s .args .store)) (now (s .args .samples)) (now (s .args .peaks)) (r .copy-run .last .1 .0) (h .hear-run .last .0) (p .peaks-abs .last .1 .0) (p .peaks-abs .last .0)
-    (s .pre .0) (s .pre .1 .1 .1) (r .copy-run .ensures) (p .peaks-abs .ensures) (h .hear-run .ensures)
+    let p = h .before .before .before .before .before .before .before in
+    let s = p .before .before .before .before .before .before .before in
+    let a = s .args in
+    channel-heard (a .settings) (a .c) (now (a .store)) (now (a .samples)) (now (a .peaks)) (now (a .answers)) (h .hear-run .last .0) (p .peaks-abs .last .1 .1 .0) (p .peaks-abs .last .0)
+    (s .pre .0) (s .pre .1 .1 .1) (s .pre .1 .1 .0) (p .peaks-abs .ensures) (h .hear-run .ensures)
 
 pub hear-channel-spec : {M : Type 1} → statement M
-hear-channel-spec =
-    tie.close
-    (tie.spec
-    copy-run-requires
-    peaks-abs-requires
-    hear-run-requires
-    same-length
-    same-length-2
-    same-length-3
-    returns)
+hear-channel-spec = tie.close (tie.spec peaks-abs-requires hear-run-requires same-length same-length-2 same-length-3 returns)

@@ -9,7 +9,7 @@ use lib.Ieee.{Float}
 use denote.Ref.{now}
 use Rattle.arithmetic.specs.Number.{zero}
 use Rattle.detector.specs.Run.{runLength}
-use Rattle.frame.specs.Rules.{presentRules}
+use Rattle.frame.specs.Rules.{rulesOf}
 use Rattle.frame.specs.Run.{movingAt}
 use Rattle.frame.specs.Passes.{peaksAt, gainsAt, writtenAt}
 use Rattle.frame.proofs.Exchange.{run-done}
@@ -20,23 +20,32 @@ so-many : (s : tie.Start) → length (now (s .args .gains)) ≡ s .args .n
 so-many s = ap (λ (l : List Float). length l) (s .pre .1) ∙ length-replicate (s .args .n) zero
 
 all-peaks-requires : tie.Need-all-peaks-requires
-all-peaks-requires c κs = let s = c .before .before .before .before .before .before .before .before .before .before .before in let r = s .pre .0 in (r .most, (r .short, (r .audio-fit, (r .detector-fit, so-many s))))
+all-peaks-requires c κs =
+    let s = c .before .before .before .before .before .before .before .before .before .before .before in
+    let r = s .pre .0 in
+    (r .most, (r .short, (r .audio-fit, (r .detector-fit, so-many s))))
 
 required-gains-requires : tie.Need-required-gains-requires
 required-gains-requires c κs = search needs
 
 gain-steps-requires : tie.Need-gain-steps-requires
 gain-steps-requires c κs =
-    let s = c .before .before .before .before .before .before .before .before .before .before .before .before .before .before .before .before .before .before .before .before .before .before .before .before in
+    let q = c .before .before .before .before .before .before in
+    let p = q .before .before .before .before .before .before in
+    let s = p .before .before .before .before .before .before .before .before .before .before .before .before in
     let r = s .pre .0 in
-    let many = c .before .before .before .before .before .before .required-gains .kept .1 .0 ∙ c .before .before .before .before .before .before .before .before .before .before .before .before .all-peaks .kept .1 .1 .1 .1 .0 ∙ so-many s in
+    let many = q .required-gains .kept .1 .0 ∙ p .all-peaks .kept .1 .1 .1 .1 .1 .0 ∙ so-many s in
     (r .env, rw many (r .room))
 
 all-outputs-requires : tie.Need-all-outputs-requires
 all-outputs-requires c κs =
-    let s = c .before .before .before .before .before .before .before .before .before .before .before .before .before .before .before .before .before .before .before .before .before .before .before .before .before .before .before .before .before .before .before .before .before .before .before .before in
+    let g = c .before .before .before .before .before .before .before .before .before .before .before in
+    let q = g .before .before .before .before .before .before .before in
+    let p = q .before .before .before .before .before .before in
+    let s = p .before .before .before .before .before .before .before .before .before .before .before .before in
     let r = s .pre .0 in
-    (r .some, (r .most, (r .short, (r .place, (r .audio-fit, (r .delay-fit, c .before .before .before .before .before .before .before .before .before .before .before .gain-steps .kept .1 .1 .1 .1 .1 .1 .0 ∙ c .before .before .before .before .before .before .before .before .before .before .before .before .before .before .before .before .before .before .required-gains .kept .1 .0 ∙ c .before .before .before .before .before .before .before .before .before .before .before .before .before .before .before .before .before .before .before .before .before .before .before .before .all-peaks .kept .1 .1 .1 .1 .0 ∙ so-many s))))))
+    let many = g .gain-steps .kept .1 .1 .1 .1 .1 .1 .0 ∙ q .required-gains .kept .1 .0 ∙ p .all-peaks .kept .1 .1 .1 .1 .1 .0 ∙ so-many s in
+    (r .some, (r .most, (r .short, (r .place, (r .audio-fit, (r .delay-fit, many))))))
 
 same-length : tie.Need-same-length
 same-length c = search needs
@@ -54,27 +63,33 @@ same-length-5 : tie.Need-same-length-5
 same-length-5 c = search needs
 
 same-length-6 : tie.Need-same-length-6
-same-length-6 c = c .before .before .before .before .before .before .before .before .before .before .before .before .before .before .before .before .before .before .before .before .before .before .before .before .before .before .before .before .before .all-peaks .kept .1 .1 .1 .0
+same-length-6 c =
+    let p = c .before .before .before .before .before .before .before .before .before .before .before .before .before .before .before .before .before .before .before .before .before .before .before .before .before .before .before .before .before in
+    p .all-peaks .kept .1 .1 .1 .1 .0
 
 same-length-7 : tie.Need-same-length-7
-same-length-7 c = c .before .before .before .before .before .before .before .before .before .before .before .before .before .before .before .before .gain-steps .kept .1 .1 .1 .1 .1 .1 .0 ∙ c .before .before .before .before .before .before .before .before .before .before .before .before .before .before .before .before .before .before .before .before .before .before .before .required-gains .kept .1 .0 ∙ c .before .before .before .before .before .before .before .before .before .before .before .before .before .before .before .before .before .before .before .before .before .before .before .before .before .before .before .before .before .all-peaks .kept .1 .1 .1 .1 .0
+same-length-7 c =
+    let g = c .before .before .before .before .before .before .before .before .before .before .before .before .before .before .before .before in
+    let q = g .before .before .before .before .before .before .before in
+    let p = q .before .before .before .before .before .before in
+    g .gain-steps .kept .1 .1 .1 .1 .1 .1 .0 ∙ q .required-gains .kept .1 .0 ∙ p .all-peaks .kept .1 .1 .1 .1 .1 .0
 
 returns : tie.Need-returns
 returns c =
     let o = c .before .before .before .before in
-    let g = c .before .before .before .before .before .before .before .before .before .before .before .before .before .before .before .before in
-    let q = c .before .before .before .before .before .before .before .before .before .before .before .before .before .before .before .before .before .before .before .before .before .before .before in
-    let p = c .before .before .before .before .before .before .before .before .before .before .before .before .before .before .before .before .before .before .before .before .before .before .before .before .before .before .before .before .before in
-    let s = c .before .before .before .before .before .before .before .before .before .before .before .before .before .before .before .before .before .before .before .before .before .before .before .before .before .before .before .before .before .before .before .before .before .before .before .before .before .before .before .before .before in
+    let g = o .before .before .before .before .before .before .before .before .before .before .before .before in
+    let q = g .before .before .before .before .before .before .before in
+    let p = q .before .before .before .before .before .before in
+    let s = p .before .before .before .before .before .before .before .before .before .before .before .before in
     let r = s .pre .0 in
     let a = s .args in
     let audio = now (a .audio) in
     let m = movingAt (a .env) (a .pos) (now (a .delay)) (now (a .marks)) (now (a .minima)) (now (a .row)) (now (a .detector)) in
     let enough : a .channels * runLength ≤ length audio = omega (arith, r .most, r .audio-fit) in
-    let peaks = peaksAt (p .all-peaks .last .1 .1 .1 .1 .0) (p .all-peaks .last .1 .1 .1 .0) in
+    let peaks = peaksAt (p .all-peaks .last .1 .1 .1 .1 .1 .0) (p .all-peaks .last .1 .1 .1 .1 .0) in
     let gains = gainsAt (g .gain-steps .result) (g .gain-steps .last .1 .0) (g .gain-steps .last .1 .1 .0) (g .gain-steps .last .1 .1 .1 .1 .0) (g .gain-steps .last .1 .1 .1 .1 .1 .1 .0) in
-    let written = writtenAt (o .all-outputs .last .1 .1 .1 .1 .1 .1 .0) (o .all-outputs .last .1 .1 .1 .1 .1 .0) in
-    run-done presentRules (now (a .weights)) (a .coeff) (a .look) (a .target) (a .channels) (a .n) m audio (r .short) (r .delay-fit) (r .detector-fit) enough
+    let written = writtenAt (o .all-outputs .last .1 .1 .1 .1 .1 .1 .1 .0) (o .all-outputs .last .1 .1 .1 .1 .1 .1 .0) in
+    run-done (rulesOf (a .settings) (a .format)) (now (a .weights)) (a .coeff) (a .look) (a .target) (a .channels) (a .n) m audio (r .short) (r .delay-fit) (r .detector-fit) enough
     (now (a .gains)) peaks (q .required-gains .last .1 .0) gains (s .pre .1) (p .all-peaks .ensures) (q .required-gains .ensures) (g .gain-steps .ensures)
     written (o .all-outputs .result) (o .all-outputs .ensures .0) (o .all-outputs .ensures .1)
 

@@ -1,17 +1,23 @@
 -- `drain`: silence, rendered at the kept target.
-use mathlib.Core.Path.{_≡_, refl, sym, ap, subst, _∙_}
+use mathlib.Core.Path.{sym, ap, subst, _∙_}
 use borrow.Author.Needs.{needs}
-use Prim.Native.Nat.{ℕ, _+_}
+use Prim.Native.Nat.{_+_}
 use native.Mathlib.Omega.{arith}
 use mathlib.Core.List.{List}
 use lib.Ieee.{Float, ofBits}
 use denote.Ref.{now}
-use Rattle.frame.specs.Rules.{presentRules}
-use Rattle.limiter.specs.Stores.{storesAt}
+use Rattle.frame.specs.Rules.{rulesOf}
+use Rattle.limiter.specs.Stores.{Stores, atCall}
 use Rattle.limiter.specs.Run.{KernelReady, Ran, drainedTo, renderOf, drainOf}
 use Rattle.limiter.proofs.Frames.{silent-ready, drained-few}
 use Rattle.limiter.proofs.state.Limiter.drain.Statement.{statement}
 use Rattle.limiter.proofs.state.Limiter.drain.Tie as tie
+
+-- the lent stores at the call
+abbrev lent : tie.Start → Stores
+lent s =
+    let a = s .args in
+    atCall (a .delay) (a .marks) (a .minima) (a .weights) (a .row) (a .detector)
 
 fill-requires : tie.Need-fill-requires
 fill-requires c κs = search needs
@@ -19,22 +25,25 @@ fill-requires c κs = search needs
 add-drained : tie.Need-add-drained
 add-drained c =
     let s = c .before .before .before .before .before .before .before .before .before .before .before .before in
-    let a = s .args in
-    let few = drained-few (a .self) (a .n) (storesAt (now (a .delay)) (now (a .marks)) (now (a .minima)) (now (a .weights)) (now (a .row)) (now (a .detector))) (now (a .audio)) (s .pre) in
+    let few = drained-few (s .args .self) (s .args .n) (lent s) (now (s .args .audio)) (s .pre) in
     omega arith
 
 render-requires : tie.Need-render-requires
 unfolding ofBits
 render-requires c κs =
-    let s = c .before .before .before .before .before .before .before .before .before .before .before .before .before .before .before .before .before .before in
+    let f = c .before .before .before .before .before .before .before .before .before in
+    let s = f .before .before .before .before .before .before .before .before .before in
     let a = s .args in
-    subst (λ (l : List Float). KernelReady (a .self) (a .n) (storesAt (now (a .delay)) (now (a .marks)) (now (a .minima)) (now (a .weights)) (now (a .row)) (now (a .detector))) l) (sym (c .before .before .before .before .before .before .before .before .before .fill .ensures)) (silent-ready (a .self) (a .n) (storesAt (now (a .delay)) (now (a .marks)) (now (a .minima)) (now (a .weights)) (now (a .row)) (now (a .detector))) (now (a .audio)) (s .pre))
+    subst (λ (l : List Float). KernelReady (a .self) (a .n) (lent s) l) (sym (f .fill .ensures)) (silent-ready (a .self) (a .n) (lent s) (now (a .audio)) (s .pre))
 
 drained-to-requires : tie.Need-drained-to-requires
 drained-to-requires c κs = search needs
 
 same-length : tie.Need-same-length
-same-length c = c .before .before .before .before .before .before .before .before .before .before .before .before .before .render .kept .1 .1 .1 .0 ∙ c .before .before .before .before .before .before .before .before .before .before .before .before .before .before .before .before .before .before .before .before .before .before .before .fill .kept .0
+same-length c =
+    let r = c .before .before .before .before .before .before .before .before .before .before .before .before .before in
+    let f = r .before .before .before .before .before .before .before .before .before .before in
+    r .render .kept .1 .1 .1 .1 .0 ∙ f .fill .kept .0
 
 same-length-2 : tie.Need-same-length-2
 same-length-2 c = search needs
@@ -55,9 +64,13 @@ returns : tie.Need-returns
 unfolding ofBits renderOf drainOf
 returns c =
     let r = c .before .before .before .before .before .before .before .before .before .before .before .before .before in
-    let a = c .before .before .before .before .before .before .before .before .before .before .before .before .before .before .before .before .before .before .before .before .before .before .before .before .before .before .before .before .before .before .before .before .args in
+    let f = r .before .before .before .before .before .before .before .before .before .before in
+    let s = f .before .before .before .before .before .before .before .before .before in
+    let a = s .args in
+    let count = a .self .drained + a .n in
     rw (c .drained-to .ensures)
-    (ap (λ (z : Ran). drainedTo z (a .self .drained + a .n)) (r .render .ensures) ∙ ap (λ (l : List Float). drainedTo (renderOf presentRules (a .self) (a .self .target) (a .n) (storesAt (now (a .delay)) (now (a .marks)) (now (a .minima)) (now (a .weights)) (now (a .row)) (now (a .detector))) l) (a .self .drained + a .n)) (c .before .before .before .before .before .before .before .before .before .before .before .before .before .before .before .before .before .before .before .before .before .before .before .fill .ensures))
+    (ap (λ (z : Ran). drainedTo z count) (r .render .ensures)
+    ∙ ap (λ (l : List Float). drainedTo (renderOf (rulesOf (a .self .settings) (a .format)) (a .self) (a .self .target) (a .n) (lent s) l) count) (f .fill .ensures))
 
 pub drain-spec : {M : Type 1} → statement M
 drain-spec =

@@ -1,9 +1,9 @@
 -- `render`: the run, and the state that it leaves.
-use mathlib.Core.Path.{_≡_, refl, sym, ap, _∙_}
+use mathlib.Core.Path.{ap}
 use borrow.Author.Needs.{needs}
 use denote.Ref.{now}
 use Rattle.frame.specs.Run.{RunDone}
-use Rattle.limiter.specs.Stores.{storesAt}
+use Rattle.limiter.specs.Stores.{atCall}
 use Rattle.limiter.specs.Run.{renderOf, ranBy}
 use Rattle.limiter.proofs.Frames.{run-asks}
 use Rattle.limiter.proofs.state.Limiter.render.Statement.{statement}
@@ -11,9 +11,9 @@ use Rattle.limiter.proofs.state.Limiter.render.Tie as tie
 
 render-run-requires : tie.Need-render-run-requires
 render-run-requires c κs =
-    let s = c .before .before .before .before .before .before .before .before .before .before .before .before .before .before in
+    let s = c .before .before .before .before .before .before .before .before .before .before .before .before .before .before .before in
     let a = s .args in
-    run-asks (a .self) (a .n) (storesAt (now (a .delay)) (now (a .marks)) (now (a .minima)) (now (a .weights)) (now (a .row)) (now (a .detector))) (now (a .audio)) (s .pre)
+    run-asks (a .self) (a .n) (atCall (a .delay) (a .marks) (a .minima) (a .weights) (a .row) (a .detector)) (now (a .audio)) (s .pre)
 
 moved-on-requires : tie.Need-moved-on-requires
 moved-on-requires c κs = search needs
@@ -39,8 +39,9 @@ same-length-6 c = search needs
 returns : tie.Need-returns
 unfolding renderOf
 returns c =
-    let a = c .before .before .before .before .before .before .before .before .before .before .before .before .before .before .before .before .before .before .before .before .before .before .before .before .before .before .before .before .args in
-    rw (c .moved-on .ensures) (ap (λ (r : RunDone). ranBy (a .self) (now (a .weights)) (a .target) 0 r) (c .before .before .before .before .before .before .before .before .before .before .before .before .before .render-run .ensures))
+    let r = c .before .before .before .before .before .before .before .before .before .before .before .before .before in
+    let a = r .before .before .before .before .before .before .before .before .before .before .before .before .before .before .before .before .args in
+    rw (c .moved-on .ensures) (ap (λ (d : RunDone). ranBy (a .self) (now (a .weights)) (a .target) 0 d) (r .render-run .ensures))
 
 pub render-spec : {M : Type 1} → statement M
 render-spec =

@@ -7,8 +7,8 @@ use lib.ListN.{length, take, length-set}
 use lib.Ieee.{nan}
 use denote.Ref.{now}
 use Rattle.detector.proofs.Copy.{copied-more, copied-all}
-use Rattle.frame.proofs.peaks.copy_run.Statement.{statement}
-use Rattle.frame.proofs.peaks.copy_run.Tie as tie
+use Rattle.probe.proofs.peaks.copy_run.Statement.{statement}
+use Rattle.probe.proofs.peaks.copy_run.Tie as tie
 
 abbrev Inv-loop : tie.InvT-loop
 Inv-loop samples run₀ n i₀ run i = (i ≤ n) × (length run ≡ n) × (take i run ≡ take i samples)
