@@ -11,7 +11,7 @@ use Rattle.arithmetic.specs.Number.{one, within}
 use Rattle.audio.specs.Format.{sizeOf, writtenBytes}
 use Rattle.audio.specs.Inner.{Scattered}
 use Rattle.audio.specs.declared.format.Format.{Format}
-use Rattle.audio.proofs.Bytes.{written-size, bytes-none}
+use Rattle.audio.proofs.Written.{written-bytes-none, written-bytes-size}
 use Rattle.detector.specs.Run.{runLength}
 use Rattle.frame.specs.Rules.{Rules, rulesOf}
 use Rattle.frame.specs.Frame.{Framed}
@@ -28,7 +28,7 @@ use Rattle.limiter.proofs.Keeping.{frames-held, drain-prepared, drain-lengths, 
 use Rattle.driver.specs.Block.{Rendered, rendered, outputsOf}
 use Rattle.driver.specs.Drain.{silence, withDrained}
 use Rattle.driver.specs.Inner.{RunsReady, Lends, Joins, silent, DrainAsked}
-use Rattle.driver.proofs.Rendering.{ran-as, shown-many, frames-counted, channels-kept, kernel-asks, run-room, outputs-join}
+use Rattle.driver.proofs.Rendering.{ran-as, shown-many, frames-counted, channels-kept, kernel-asks, run-room, audio-small, outputs-join}
 
 -- ---- frames in two lists, one after the other
 -- a limiter whose gain lies within 0 and 1 keeps its look
@@ -89,7 +89,7 @@ module _ (format : Format) (l₀ : Limiter) (n width : ℕ) (s₀ : Stores) (byt
         inside = omega arith;
         limiter-is = rw e refl;
         stores-are = refl;
-        audio-is = sym (bytes-none format width k bytes₀ (a .lends .short) (a .lends .audio-fit));
+        audio-is = sym (written-bytes-none format width k bytes₀ (a .lends .audio-fit) (audio-small l₀ width (a .ready .set-up) (a .lends .short)));
         look-is = refl;
         ready = subst (λ (i : ℕ). RunsReady l₀ i s₀) (sym f) (a .ready);
         run-fit = a .lends .run-fit;
@@ -123,7 +123,7 @@ module _ (format : Format) (l₀ : Limiter) (n width : ℕ) (s₀ : Stores) (byt
     pub audio-size : sizeOf format bytes ≡ k * width
     audio-size =
         ap (sizeOf format) (d .audio-is)
-        ∙ written-size format width k first bytes₀ (outputsOf (at first .frames)) (omega (arith, d .inside, a .inside)) before-many (a .lends .short) (a .lends .audio-fit)
+        ∙ written-bytes-size format width k bytes₀ (a .lends .audio-fit) (audio-small l₀ width (a .ready .set-up) (a .lends .short)) first (outputsOf (at first .frames)) (omega (arith, d .inside, a .inside)) before-many
 
     -- ---- the frames of this run join those before it
     abbrev this : Rendered

@@ -5,11 +5,12 @@ use Prim.Native.Nat.{ℕ, zero, suc, _+_, _-_, _*_, _/_, _≤_, _<_}
 use native.Mathlib.Omega.{arith}
 use lib.ListN.{length, take, drop, length-append, length-map}
 use lib.Ieee.{Float, nan}
+use Rattle.arithmetic.specs.Number.{largest}
 use Rattle.audio.specs.Planar.{framesAt}
 use Rattle.audio.specs.Format.{sizeOf, samplesOf, writtenBytes}
 use Rattle.audio.specs.declared.format.Format.{Format}
 use Rattle.audio.proofs.Planes.{frames-take, frames-drop, frames-at-length}
-use Rattle.audio.proofs.Bytes.{written-size, bytes-none, samples-ahead}
+use Rattle.audio.proofs.Written.{written-bytes-none, written-bytes-size, samples-ahead}
 use Rattle.detector.specs.Run.{runLength}
 use Rattle.frame.specs.Rules.{rulesOf}
 use Rattle.frame.specs.Frame.{Framed}
@@ -21,7 +22,7 @@ use Rattle.driver.specs.Events.{Event, eventsOf, latchedAll}
 use Rattle.driver.specs.Block.{Renderer, rendered, renderedIn, runAt, runsFrom, runsOf, Turn, turnOf, Ran, runsThrough, outputsOf, blockDone}
 use Rattle.driver.specs.Inner.{waitingAt, RunsReady, Lends, leftOf, standsAt, turnAt, TurnAsked, TurnGiven, BlockAsked, driven}
 use Rattle.driver.specs.declared.turn.Unfinished.{Unfinished}
-use Rattle.driver.proofs.Rendering.{shown-many, channels-kept, settings-kept}
+use Rattle.driver.proofs.Rendering.{shown-many, channels-kept, settings-kept, audio-small}
 
 -- frames shown before what later runs leave
 abbrev pub joined : List Framed → Ran → Ran
@@ -106,7 +107,7 @@ module _ (format : Format) (position frames : ℕ) (words bytes₀ : List ℕ) (
             channels-are = refl;
             settings-are = refl;
             same = rw (e, f, g) refl;
-            audio-is = sym (bytes-none format frames k bytes₀ (a .lends .short) (a .lends .audio-fit));
+            audio-is = sym (written-bytes-none format frames k bytes₀ (a .lends .audio-fit) (audio-small (m₀ .limiter) frames (a .ready .set-up) (a .lends .short)));
             ready = subst (λ (n : ℕ). RunsReady (m₀ .limiter) n (m₀ .stores)) (sym f) (a .ready);
             run-fit = a .lends .run-fit;
           }
@@ -121,10 +122,13 @@ module _ (format : Format) (position frames : ℕ) (words bytes₀ : List ℕ) (
     outputs-many : length (outputsOf (d .shown)) ≡ first
     outputs-many = length-map (d .shown) (λ (f : Framed). f .outputs) ∙ d .many
 
+    small : k * frames < largest
+    small = audio-small (m₀ .limiter) frames (asked .ready .set-up) (asked .lends .short)
+
     audio-size : sizeOf format bytes ≡ m .limiter .channels * block .frames
     audio-size =
         ap (sizeOf format) (d .audio-is)
-        ∙ written-size format frames k first bytes₀ (outputsOf (d .shown)) (d .inside) outputs-many (asked .lends .short) (asked .lends .audio-fit)
+        ∙ written-bytes-size format frames k bytes₀ (asked .lends .audio-fit) small first (outputsOf (d .shown)) (d .inside) outputs-many
         ∙ rw (d .channels-are, d .frames-is) refl
 
     -- ---- a turn is asked no more than it may be
@@ -155,7 +159,7 @@ module _ (format : Format) (position frames : ℕ) (words bytes₀ : List ℕ) (
       frames-now : gs ≡ take n (framesAt nan frames k first (frames - first) samples)
       frames-now =
           rw (d .frames-is, d .channels-are, d .audio-is)
-          (samples-ahead format frames k first n bytes₀ (outputsOf (d .shown)) outputs-many (asked .lends .short) (asked .lends .audio-fit) (run-inside .2)
+          (samples-ahead format frames k bytes₀ (asked .lends .audio-fit) small first n (outputsOf (d .shown)) outputs-many (run-inside .2)
           ∙ sym (frames-take nan frames k first n (frames - first) samples (omega (arith, run-inside .2))))
 
       frames-left : framesAt nan frames k (first + n) (frames - (first + n)) samples ≡ drop n (framesAt nan frames k first (frames - first) samples)

@@ -2,17 +2,18 @@
 use mathlib.Core.Path.{_≡_, refl, sym, ap, subst, _∙_}
 use mathlib.Core.Bool.{true}
 use mathlib.Core.List.{List, _++_}
-use Prim.Native.Nat.{ℕ, _+_, _*_, _≤_}
+use Prim.Native.Nat.{ℕ, _+_, _*_, _≤_, _<_}
 use native.Mathlib.Omega.{arith}
 use lib.ListN.{length, length-map}
 use lib.Ieee.{Float, nan}
 use Rattle.arithmetic.specs.Number
-use Rattle.arithmetic.specs.Number.{one, within}
+use Rattle.arithmetic.specs.Number.{one, within, largest}
 use Rattle.audio.specs.Planar.{framesAt}
-use Rattle.audio.specs.Format.{samplesOf}
+use Rattle.audio.specs.Format.{samplesOf, writtenBytes}
 use Rattle.audio.specs.Inner.{Scattered}
 use Rattle.audio.specs.declared.format.Format.{Format}
 use Rattle.audio.proofs.Planes.{frames-at-length}
+use Rattle.audio.proofs.Written.{size-small, written-bytes-back}
 use Rattle.detector.specs.Run.{runLength}
 use Rattle.keeper.specs.InOrder.{mostFrames}
 use Rattle.frame.specs.Rules.{Rules, rulesOf}
@@ -57,6 +58,10 @@ kernel-asks l n s run r some short fit = record { set-up = r .set-up; lengths = 
 pub run-room : (l : Limiter) (run : List Float) → Order.prepared l ≡ true → length run ≡ 8 * runLength → l .channels * runLength ≤ length run
 run-room l run h e = let b = bounds-of l h in omega (arith, b .most, e)
 
+-- nor are channels × frames as many as a call never asks for
+pub audio-small : (l : Limiter) (width : ℕ) → Order.prepared l ≡ true → width ≤ 65536 → l .channels * width < largest
+audio-small l width h short = size-small (l .channels) width (bounds-of l h .most) short
+
 -- a run leaves limiter and stores as ready as they were
 pub still-ready : (rules : Rules) (l : Limiter) (target : Float) (n : ℕ) (s : Stores) (run : List Float) → KernelReady l n s run → within Number.zero one target ≡ true
     → (left : ℕ) → l .env .keeper .frame + (n + left) ≤ mostFrames → (let r = rendered rules l s target (framesIn (l .channels) n run) in RunsReady (r .limiter) left (r .stores))
@@ -81,7 +86,10 @@ settings-kept rules l target s fs after e = ap (λ (z : Limiter). z .settings) e
 -- a run that holds outputs is scattered: they join those before them
 pub outputs-join : (format : Format) (k n : ℕ) (run run' : List Float) (width first : ℕ) (bytes bytes' : List ℕ) (more : List (List Float)) → length more ≡ n → n ≤ runLength → k * runLength ≤ length run
     → run' ≡ writtenIn k n run more → Scattered format k n run' width first bytes bytes' → Joins format width k first n bytes more bytes'
-outputs-join format k n run run' width first bytes bytes' more m short room e c before outputs o b w = c .joins before outputs o b w ∙ ?
+outputs-join format k n run run' width first bytes bytes' more m short room e c before outputs o b w =
+    c .joins before outputs o b w
+    ∙ ap (λ (x : List Float). writtenBytes format width k (first + n) before (outputs ++ framesAt nan runLength k 0 n x)) e
+    ∙ written-bytes-back format width k (first + n) before outputs runLength n run more short m room
 
 -- ---- gathered, rendered, scattered
 module _ (l : Limiter) (format : Format) (target : Float) (width first n : ℕ) (s : Stores) (bytes : List ℕ) (run₀ run run' : List Float) (bytes' : List ℕ) (after : Limiter) (stores : Stores) where

@@ -15,7 +15,8 @@ use Rattle.settings.specs.declared.LimiterSettings.{LimiterSettings}
 use Rattle.settings.specs.declared.memory.Cap.{Cap}
 use Rattle.settings.specs.declared.ProcessSpec.{ProcessSpec}
 use Rattle.limiter.specs.State.{notSetUp}
-use Rattle.limiter.specs.Stores.{Stores, storesAt, Lent}
+use Rattle.frame.specs.Lent.{Lent}
+use Rattle.limiter.specs.Stores.{Stores, storesAt}
 use Rattle.limiter.specs.Prepare.{prepareOf}
 use Rattle.limiter.specs.Reset
 use Rattle.limiter.specs.Run.{movedOn, envelopeOf}
