@@ -52,10 +52,9 @@ fn judge(s: LimiterSettings, spec: ProcessSpec, l: StoreLengths, weights: &[f64]
         return PrepareAnswer::Settings(why);
     }
     let look = settings::derived::look(s.lookahead_ms, spec.rate) as usize;
-    if let CapJudged::Over { needed, cap } = judge_cap(
-        bytes_needed(spec.channels, look),
-        spec.cap,
-    ) {
+    let cap = spec.cap;
+    let needed = bytes_needed(spec.channels, look);
+    if let CapJudged::Over { needed, cap } = judge_cap(needed, cap) {
         return PrepareAnswer::OverCap { needed, cap };
     }
     if !lengths_fit(spec.channels, look, l) {
