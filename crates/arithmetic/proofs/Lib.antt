@@ -10,6 +10,7 @@ pub mod Exp
 pub mod Rows
 pub mod NanPattern
 pub mod Same
+pub mod Passed
 pub mod UnitBound
 pub mod UnitScaled
 pub mod UnitHigh

@@ -3,6 +3,7 @@
 use Prim.Native.Nat.{ℕ}
 use mathlib.Core.Bool.{Bool, cond}
 use mathlib.Core.List.{List, []}
+use lib.Dec.{eqb}
 use lib.Ieee.{Float}
 
 -- a value that goes with a number: a count, an index or an id; or a float
@@ -22,6 +23,17 @@ finished vs = record { number = 0; values = vs }
 abbrev pub refused : ℕ → List Value → Reply
 refused n vs = record { number = n; values = vs }
 
+-- a number alone; 0 is finished work that hands nothing back
+abbrev pub numbered : ℕ → Reply
+numbered n = refused n []
+
 -- a refusal's number where its test is not passed, else what the next tests say
 abbrev pub unless : Bool → ℕ → ℕ → ℕ
 unless passed number next = cond passed next number
+
+-- the same of replies: a refusal where a test is not passed, and a finished reply gives way to the next
+abbrev pub must : Bool → ℕ → Reply
+must passed number = cond passed (finished []) (numbered number)
+
+abbrev pub andThen : Reply → Reply → Reply
+andThen r next = cond (eqb (r .number) 0) next r

@@ -1,6 +1,6 @@
 -- Numbers and their bytes: each is had back from the other. Bytes cut into places, and joined.
 use mathlib.Core.Path.{_≡_, refl, sym, ap, _∙_}
-use mathlib.Core.List.{List, [], _∷_, _++_, map, append-assoc, append-nil}
+use mathlib.Core.List.{List, [], _∷_, _++_, append-assoc, append-nil}
 use Prim.Native.Nat.{ℕ, zero, suc, _+_, _-_, _*_, _/_, _%_, _^_, _≤_, _<_}
 use native.Mathlib.Numerals.{add-one, towards-suc}
 use native.Mathlib.Nat.{zero-add, mul-zero, mul-suc, mul-le-mul-left, pow-suc, mod-add-div, mod-eq-of-lt, div-div-eq-div-mul, div-eq-of-lt, div-lt-iff-lt-mul, add-mul-div-left, add-mul-mod-self-left}

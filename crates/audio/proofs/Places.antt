@@ -1,23 +1,24 @@
--- The bytes of each sample. Only `sample-some` and `bytes-for-length` look at the sample type.
+-- The bytes of each sample. Only `sample-some`, `bytes-for-length` and what stands under "eight bytes a sample" look at the sample type.
 use mathlib.Core.Path.{_≡_, refl, sym, ap, _∙_}
 use mathlib.Core.Bool.{Bool, true, false}
 use mathlib.Core.List.{List, [], _∷_, _++_, map}
 use Prim.Native.Nat.{ℕ, zero, suc, _+_, _*_, _/_, _%_, _≤_, _<_}
 use native.Mathlib.Nat.{mul-zero, mul-suc, mul-div-le, div-le-self, mul-le-mul-left, mul-div-cancel-left, mod-add-div}
 use native.Mathlib.Omega.{arith}
-use lib.Dec.{eqb}
+use lib.Dec.{T, eqb}
 use lib.ListN.{length, getD, set, take, drop, length-append, length-drop, length-map}
 use lib.Seq.{take-at, drop-at, length-take-le}
-use lib.Ieee.{Float, nan}
+use lib.Ieee.{Float, nan, binary64, toBits, fits}
+use lib.Ieee.Bits.{ofBits-toBits, toBits-lt}
 use borrow.Author.Tests.{eqb-true}
-use Rattle.arithmetic.specs.Number.{largest}
-use Rattle.audio.specs.Bytes.{bytesOf, cut, joined}
+use Rattle.arithmetic.specs.Number.{bits, largest}
+use Rattle.audio.specs.Bytes.{cut, joined}
 use Rattle.audio.specs.Planar.{firstOf, othersOf, written}
 use Rattle.audio.specs.Format.{sampleBytes, sampleOf, bytesFor, sizeOf, placesOf, samplesOf}
 use Rattle.audio.specs.Inner.{put}
 use Rattle.audio.specs.declared.format.Format.{Format}
 use Rattle.audio.specs.declared.format.Format.the-variants.{F64}
-use Rattle.audio.proofs.Numbers.{bytes-length, put-length, cut-length, cut-at, joined-cut, cut-put}
+use Rattle.audio.proofs.Numbers.{bytes-length, word-of-bytes, put-length, cut-length, cut-at, joined-cut, cut-put}
 
 -- ---- what holds of each in a list
 abbrev pub Each : {A : Type 0} → (A → Type 0) → List A → Type 0
@@ -181,3 +182,12 @@ module _ (format : Format) where
   pub size-same : (a b : List ℕ) → length a ≡ length b → sizeOf format a ≡ sizeOf format b
   unfolding sizeOf
   size-same a b e = rw e refl
+
+-- ---- eight bytes a sample
+pub eight-room : (format : Format) (bytes : List ℕ) (i : ℕ) → i < length (placesOf format bytes) → 8 * i + 8 ≤ length bytes
+eight-room F64 bytes i h = place-room F64 bytes i h
+
+-- an output that an f64 holds is had back from its bytes
+pub sample-back : (format : Format) (x : Float) → T (fits binary64 x) → sampleOf format (bytesFor format x) ≡ x
+unfolding sampleOf bytesFor
+sample-back F64 x h = ap bits (word-of-bytes 8 (toBits binary64 x) (toBits-lt binary64 x h)) ∙ ofBits-toBits binary64 x h

@@ -18,6 +18,7 @@ pub use crate::ring::clear_marks;
 pub use crate::ring::clear_minima;
 use crate::ring::drop_back;
 use crate::ring::drop_front;
+pub use crate::ring::fill;
 use crate::ring::wrap;
 use arithmetic::sanitize::unit_gain;
 

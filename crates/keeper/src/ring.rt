@@ -85,13 +85,20 @@ pub fn clear_marks(marks: &mut [u64])
     }
 }
 
+// Every place holds the value.
+pub fn fill(s: &mut [f64], value: f64)
+    ensures { λ _. ⌜ now (s .exit) ≡ replicate (length (now (s .entry))) value ⌝ }
+{
+    let mut i: usize = 0;
+    while i < s.len() {
+        s[i] = value;
+        i += 1;
+    }
+}
+
 // Fills the minima with 0.0.
 pub fn clear_minima(minima: &mut [f64])
     ensures { λ _. ⌜ now (minima .exit) ≡ replicate (length (now (minima .entry))) Number.zero ⌝ }
 {
-    let mut i = 0;
-    while i < minima.len() {
-        minima[i] = 0.0;
-        i += 1;
-    }
+    fill(minima, 0.0);
 }

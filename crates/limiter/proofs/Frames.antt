@@ -10,14 +10,13 @@ use lib.Ieee.{Float}
 use borrow.Author.Tests.{leb-true, ltb-true}
 use Rattle.arithmetic.specs.Number
 use Rattle.arithmetic.specs.Number.{one, within}
-use Rattle.arithmetic.specs.Reply.{unless}
 use Rattle.arithmetic.proofs.Order.{and-true}
 use Rattle.keeper.specs.Keeper.{keepingAt, ordered}
 use Rattle.envelope.specs.Row.{rowInOrder}
 use Rattle.settings.specs.Derived.{lookOf}
 use Rattle.frame.specs.Run.{RunReady}
 use Rattle.limiter.specs.Stores.{Stores, lengthsOf, lengthsFit}
-use Rattle.limiter.specs.Order.{prepared, inOrder, readyRefusal}
+use Rattle.limiter.specs.Order.{prepared, inOrder}
 use Rattle.limiter.specs.Run.{movingOf, KernelReady}
 use Rattle.limiter.specs.declared.state.Limiter.{Limiter}
 use Rattle.limiter.proofs.Judge.{fit}
@@ -55,17 +54,6 @@ order-is l marks minima row h =
       gain-is = f .0;
       target-is = f .1;
     }
-
--- where neither 18, 16 nor 19 arises
-pub all-passed : (p f o : Bool) → unless p 18 (unless f 16 (unless o 19 0)) ≡ 0 → (p ≡ true) × (f ≡ true) × (o ≡ true)
-all-passed true true true e = (refl, refl, refl)
-all-passed true true false e = absurd (omega arith)
-all-passed true false o e = absurd (omega arith)
-all-passed false f o e = absurd (omega arith)
-
-pub judged : (l : Limiter) (s : Stores) → readyRefusal l s ≡ 0
-    → (prepared l ≡ true) × (lengthsFit (l .channels) (l .env .keeper .look) (lengthsOf s) ≡ true) × (inOrder l (s .marks) (s .minima) (s .row) ≡ true)
-judged l s h = all-passed (prepared l) (lengthsFit (l .channels) (l .env .keeper .look) (lengthsOf s)) (inOrder l (s .marks) (s .minima) (s .row)) h
 
 -- ---- the bounds of what is set up
 pub record Bounds (l : Limiter) : Type 0 where

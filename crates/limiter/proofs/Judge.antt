@@ -1,28 +1,36 @@
 -- What the tests of setup come to, on plain values.
 use mathlib.Core.Path.{_≡_, refl, sym, ap, _∙_}
-use mathlib.Core.Bool.{Bool, true, false, cond, _&&_}
-use mathlib.Core.List.{List}
-use Prim.Native.Nat.{ℕ, _+_, _-_, _*_, _≤_, max}
+use mathlib.Core.Bool.{Bool, true, false, _&&_}
+use mathlib.Core.List.{List, [], _∷_, map}
+use mathlib.Core.Logic.{inl, inr}
+use Prim.Native.Nat.{ℕ, suc, _+_, _*_, _≤_}
 use native.Mathlib.Omega.{arith}
+use types.Run.{OneOf}
+use denote.Enum.Declared.{tagOf}
 use lib.Dec.{eqb, leb}
 use lib.Ieee.{Float}
-use borrow.Author.Tests.{eqb-true, eq-eqb, ne-eqb, leb-true}
+use borrow.Author.Tests.{eqb-true, eq-eqb, leb-true}
 use Rattle.arithmetic.proofs.Order.{and-true}
-use Rattle.arithmetic.specs.Reply.{Reply}
+use Rattle.arithmetic.proofs.Passed.{passed-then}
+use Rattle.arithmetic.specs.Reply.{Reply, numbered, andThen}
 use Rattle.settings.specs.Derived.{lookOf, rowOf}
-use Rattle.settings.specs.Memory.{needed}
-use Rattle.settings.specs.Accepted.{refusalOf}
+use Rattle.settings.specs.Memory.{needed, capJudged, capReply}
+use Rattle.settings.specs.Accepted.{refusalOf, refusalNumber}
 use Rattle.settings.specs.declared.LimiterSettings.{LimiterSettings}
-use Rattle.settings.specs.declared.memory.Cap.{Cap}
-use Rattle.settings.proofs.Taken.{taken}
-use Rattle.limiter.specs.Prepare.{numbered, prepareReply, answerOf, storesRefusal, capAnswer, prepareRefusal, outcome, prepareOf}
+use Rattle.settings.specs.declared.ProcessSpec.{ProcessSpec}
+use Rattle.settings.specs.declared.accepted.SettingsRefusal.{SettingsRefusal}
+use Rattle.settings.specs.declared.memory.CapJudged.{CapJudged}
+use Rattle.settings.proofs.Taken.{taken, refused-number}
+use Rattle.limiter.specs.Prepare.{prepareReply, storesRefusal, prepareRefusal, limiterLeft, prepareOf}
 use Rattle.limiter.specs.State.{notSetUp, started}
-use Rattle.limiter.specs.Stores.{Stores, Lengths, lengthsOf, lengthsFit, filled}
+use Rattle.limiter.specs.Stores.{Stores, lengthsOf, lengthsFit, filled}
 use Rattle.limiter.specs.declared.prepare.PrepareAnswer.{PrepareAnswer}
-use Rattle.limiter.proofs.Answer.{first-told, stores-told, cap-told}
+use Rattle.limiter.specs.declared.prepare.PrepareAnswer.the-variants.{Finished, Settings, OverCap, StoreLength, Weights}
+use Rattle.limiter.specs.declared.stores.StoreLengths.{StoreLengths}
+use Rattle.limiter.proofs.prepare.PrepareAnswer.{the-type}
 
 -- what fitting lengths say
-pub record Fit (channels look : ℕ) (l : Lengths) : Type 0 where
+pub record Fit (channels look : ℕ) (l : StoreLengths) : Type 0 where
   pub delay-is : l .delay ≡ channels * look
   pub marks-is : l .marks ≡ look + 1
   pub minima-is : l .minima ≡ look + 1
@@ -30,7 +38,7 @@ pub record Fit (channels look : ℕ) (l : Lengths) : Type 0 where
   pub row-is : l .row ≡ rowOf look
   pub detector-is : l .detector ≡ channels * 12
 
-pub fit : (channels look : ℕ) (l : Lengths) → lengthsFit channels look l ≡ true → Fit channels look l
+pub fit : (channels look : ℕ) (l : StoreLengths) → lengthsFit channels look l ≡ true → Fit channels look l
 fit channels look l h =
     let d = eqb (l .delay) (channels * look) in
     let m = eqb (l .marks) (look + 1) in
@@ -56,48 +64,58 @@ fit channels look l h =
 pub row-most : (look : ℕ) → look ≤ 4096 → rowOf look ≤ 4096
 row-most look h = omega arith
 
--- ---- the reply of setup, from what the code finds
-module _ (s : LimiterSettings) (rate channels block : ℕ) (cap : Cap) (l : Lengths) (weights : List Float) (r : PrepareAnswer) (first : ℕ) (F : first ≡ refusalOf s rate channels block) where
-  pub at-first : (first ≡ 0 → ⊥) → r ≡ answerOf first → prepareReply r ≡ prepareRefusal s rate channels block cap l weights
-  at-first n e =
-      rw (ne-eqb (refusalOf s rate channels block) 0 (λ z. n (F ∙ z)))
-      (ap prepareReply (e ∙ ap answerOf F) ∙ first-told s rate channels block)
-
-  pub at-later : (look later need : ℕ) → first ≡ 0 → look ≡ lookOf (s .«lookahead_ms») rate → later ≡ storesRefusal channels look l weights → need ≡ needed channels look → r ≡ capAnswer need cap later
-      → prepareReply r ≡ prepareRefusal s rate channels block cap l weights
-  at-later look later need z L S N e =
-      rw (eq-eqb (refusalOf s rate channels block) 0 (sym F ∙ z), ← L, ← N, ← S)
-      (ap prepareReply e ∙ cap-told need cap later (rw S (stores-told channels look l weights)))
-
 -- the bounds that the inner tests ask
-pub bounds : (s : LimiterSettings) (rate channels block look : ℕ) → refusalOf s rate channels block ≡ 0 → look ≡ lookOf (s .«lookahead_ms») rate → (channels ≤ 8) × (look ≤ 4096)
-bounds s rate channels block look h e =
-    let t = taken s rate channels block h in
-    let k = and-true (leb 1 channels) (leb channels 8) (t .channels-is) in
-    let j = and-true (leb 11 (lookOf (s .«lookahead_ms») rate)) (leb (lookOf (s .«lookahead_ms») rate) 4096) (t .look-is) in
-    (leb-true channels 8 (k .1), rw e (leb-true (lookOf (s .«lookahead_ms») rate) 4096 (j .1)))
+pub bounds : (s : LimiterSettings) (spec : ProcessSpec) (look : ℕ) → refusalOf s spec ≡ 0 → look ≡ lookOf (s .«lookahead_ms») (spec .rate) → (spec .channels ≤ 8) × (look ≤ 4096)
+bounds s spec look h e =
+    let t = taken s spec h in
+    let derived = lookOf (s .«lookahead_ms») (spec .rate) in
+    let k = and-true (leb 1 (spec .channels)) (leb (spec .channels) 8) (t .channels-is) in
+    let j = and-true (leb 11 derived) (leb derived 4096) (t .look-is) in
+    (leb-true (spec .channels) 8 (k .1), rw e (leb-true derived 4096 (j .1)))
 
--- ---- the outcome of setup
-module _ (s : LimiterSettings) (rate channels block : ℕ) (cap : Cap) (stores : Stores) (r : Reply) (J : r ≡ prepareRefusal s rate channels block cap (lengthsOf stores) (stores .weights)) (b : Bool) (B : b ≡ eqb (r .number) 0) where
-  test : eqb (prepareRefusal s rate channels block cap (lengthsOf stores) (stores .weights) .number) 0 ≡ b
+-- ---- the reply of setup, from what the code finds
+module _ (s : LimiterSettings) (spec : ProcessSpec) (l : StoreLengths) (weights : List Float) where
+  -- 8 to 14
+  pub at-settings : (why : SettingsRefusal) → refusalOf s spec ≡ refusalNumber why → numbered (refusalNumber why) ≡ prepareRefusal s spec l weights
+  at-settings why n = rw (n, refused-number why) refl
+
+  -- none of these: 15, then 16 and 17
+  pub past-settings : (look need : ℕ) (told : CapJudged) → refusalOf s spec ≡ 0 → look ≡ lookOf (s .«lookahead_ms») (spec .rate) → need ≡ needed (spec .channels) look → told ≡ capJudged need (spec .cap)
+      → andThen (capReply 15 told) (numbered (storesRefusal (spec .channels) look l weights)) ≡ prepareRefusal s spec l weights
+  past-settings look need told z L N C = rw (z, C, N, L) refl
+
+-- ---- finished answers
+-- the tags after that of `Finished`, each less one
+abbrev others : List ℕ
+others = 0 ∷ 1 ∷ 2 ∷ 3 ∷ []
+
+past-zero : (ks : List ℕ) → OneOf (map suc ks) 0 → ⊥
+past-zero [] o = o
+past-zero (k ∷ []) e = omega arith
+past-zero (k ∷ j ∷ ks) (inl e) = omega arith
+past-zero (k ∷ j ∷ ks) (inr o) = past-zero (j ∷ ks) o
+
+-- only `Finished` has number 0
+pub other-case : (a : PrepareAnswer) → OneOf (map suc others) (tagOf the-type a) → false ≡ eqb (prepareReply a .number) 0
+other-case Finished o = absurd (past-zero others o)
+other-case (Settings why) o = sym (refused-number why)
+other-case (OverCap need cap) o = refl
+other-case StoreLength o = refl
+other-case Weights o = refl
+
+-- ---- what setup leaves
+module _ (s : LimiterSettings) (spec : ProcessSpec) (stores : Stores) (r : Reply) (J : r ≡ prepareRefusal s spec (lengthsOf stores) (stores .weights)) (b : Bool) (B : b ≡ eqb (r .number) 0) where
+  test : eqb (prepareRefusal s spec (lengthsOf stores) (stores .weights) .number) 0 ≡ b
   test = sym (B ∙ ap (λ (z : Reply). eqb (z .number) 0) J)
 
-  pub refused-prepare : b ≡ false → outcome r notSetUp stores ≡ prepareOf s rate channels block cap stores
+  pub refused-prepare : b ≡ false → limiterLeft r notSetUp stores ≡ prepareOf s spec stores
   unfolding prepareOf
-  refused-prepare e = rw (test ∙ e) (ap (λ (z : Reply). outcome z notSetUp stores) J)
+  refused-prepare e = rw (test ∙ e) (ap (λ (z : Reply). limiterLeft z notSetUp stores) J)
 
-  pub finished-prepare : b ≡ true → outcome r (started s rate channels block) (filled stores) ≡ prepareOf s rate channels block cap stores
+  pub finished-prepare : b ≡ true → limiterLeft r (started s spec) (filled stores) ≡ prepareOf s spec stores
   unfolding prepareOf
-  finished-prepare e = rw (test ∙ e) (ap (λ (z : Reply). outcome z (started s rate channels block) (filled stores)) J)
+  finished-prepare e = rw (test ∙ e) (ap (λ (z : Reply). limiterLeft z (started s spec) (filled stores)) J)
 
   -- nothing of 8 to 14 arose where setup is finished
-  pub none-arose : b ≡ true → refusalOf s rate channels block ≡ 0
-  none-arose e = go (eqb (refusalOf s rate channels block) 0) refl
-    where
-      go : (t : Bool) → eqb (refusalOf s rate channels block) 0 ≡ t → refusalOf s rate channels block ≡ 0
-      go true k = eqb-true (refusalOf s rate channels block) 0 k
-      go false k =
-          let n = refusalOf s rate channels block in
-          let p : prepareRefusal s rate channels block cap (lengthsOf stores) (stores .weights) ≡ numbered n = rw k refl in
-          let z : eqb (r .number) 0 ≡ eqb n 0 = ap (λ (z : Reply). eqb (z .number) 0) (J ∙ p) in
-          eqb-true n 0 (sym z ∙ sym B ∙ e)
+  pub none-arose : b ≡ true → refusalOf s spec ≡ 0
+  none-arose e = passed-then (numbered (refusalOf s spec)) _ (eqb-true _ 0 (test ∙ e)) .0

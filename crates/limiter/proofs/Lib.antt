@@ -1,8 +1,6 @@
 -- Laws of the limiter that belong to no one function.
-pub mod Answer
 pub mod Judge
 pub mod Ready
 pub mod Setup
 pub mod Frames
 pub mod Keeping
-pub mod Rows

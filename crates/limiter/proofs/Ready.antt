@@ -16,26 +16,28 @@ use Rattle.keeper.specs.Keeper.{keepingAt, ordered}
 use Rattle.keeper.proofs.Floor.{empty-order}
 use Rattle.envelope.specs.Row.{allUnit, tallyOf, rowInOrder}
 use Rattle.settings.specs.Derived.{lookOf, rowOf, coefficientOf}
-use Rattle.settings.specs.Accepted.{refusalOf}
+use Rattle.settings.specs.Accepted.{refusalOf, refusalNumber}
 use Rattle.settings.specs.declared.LimiterSettings.{LimiterSettings}
-use Rattle.settings.proofs.Taken.{Taken, taken}
+use Rattle.settings.specs.declared.ProcessSpec.{ProcessSpec}
+use Rattle.settings.specs.declared.accepted.SettingsRefusal.{SettingsRefusal}
+use Rattle.settings.proofs.Taken.{Taken, taken, refused-number}
 use Rattle.settings.proofs.Unit.{target-unit}
-use Rattle.limiter.specs.State.{notSetUp, started}
+use Rattle.limiter.specs.State.{notSetUp, specOf, started}
 use Rattle.limiter.specs.Reset.{resetState}
 use Rattle.limiter.specs.Order.{prepared, inOrder}
 use Rattle.limiter.specs.declared.state.Limiter.{Limiter}
 
 -- ---- what 18 says
 pub record Prepared (l : Limiter) : Type 0 where
-  pub accepted : refusalOf (l .settings) (l .rate) (l .channels) (l .«max_block») ≡ 0
-  pub rules : Taken (l .settings) (l .rate) (l .channels) (l .«max_block»)
+  pub accepted : refusalOf (l .settings) (specOf l) ≡ 0
+  pub rules : Taken (l .settings) (specOf l)
   pub look-is : l .env .keeper .look ≡ lookOf (l .settings .«lookahead_ms») (l .rate)
   pub coeff-is : sameValue (l .«release_coeff») (coefficientOf (l .settings .«release_ms») (l .rate)) ≡ true
 
 pub prepared-is : (l : Limiter) → prepared l ≡ true → Prepared l
 unfolding prepared
 prepared-is l h =
-    let n = refusalOf (l .settings) (l .rate) (l .channels) (l .«max_block») in
+    let n = refusalOf (l .settings) (specOf l) in
     let k = eqb (l .env .keeper .look) (lookOf (l .settings .«lookahead_ms») (l .rate)) in
     let c = sameValue (l .«release_coeff») (coefficientOf (l .settings .«release_ms») (l .rate)) in
     let a = and-true (eqb n 0) (k && c) h in
@@ -43,33 +45,30 @@ prepared-is l h =
     let z = eqb-true n 0 (a .0) in
     record {
       accepted = z;
-      rules = taken (l .settings) (l .rate) (l .channels) (l .«max_block») z;
+      rules = taken (l .settings) (specOf l) z;
       look-is = eqb-true (l .env .keeper .look) (lookOf (l .settings .«lookahead_ms») (l .rate)) (b .0);
       coeff-is = b .1;
     }
 
 -- ---- the test, from what the code finds
-module _ (l : Limiter) (number : ℕ) (N : number ≡ refusalOf (l .settings) (l .rate) (l .channels) (l .«max_block»)) where
-  pub refused-settings : (number ≡ 0 → ⊥) → false ≡ prepared l
+module _ (l : Limiter) where
+  pub refused-settings : (why : SettingsRefusal) → refusalOf (l .settings) (specOf l) ≡ refusalNumber why → false ≡ prepared l
   unfolding prepared
-  refused-settings n = rw (ne-eqb (refusalOf (l .settings) (l .rate) (l .channels) (l .«max_block»)) 0 (λ z. n (N ∙ z))) refl
+  refused-settings why n = rw (n, refused-number why) refl
 
-  pub accepted-rules : number ≡ 0 → Taken (l .settings) (l .rate) (l .channels) (l .«max_block»)
-  accepted-rules z = taken (l .settings) (l .rate) (l .channels) (l .«max_block») (sym N ∙ z)
-
-  pub accepted-settings : (look : ℕ) (coeff : Float) (same : Bool) → number ≡ 0 → look ≡ lookOf (l .settings .«lookahead_ms») (l .rate) → coeff ≡ coefficientOf (l .settings .«release_ms») (l .rate)
-      → same ≡ sameValue (l .«release_coeff») coeff → eqb (l .env .keeper .look) look && same ≡ prepared l
+  pub accepted-settings : (look : ℕ) (coeff : Float) (same : Bool) → refusalOf (l .settings) (specOf l) ≡ 0 → look ≡ lookOf (l .settings .«lookahead_ms») (l .rate)
+      → coeff ≡ coefficientOf (l .settings .«release_ms») (l .rate) → same ≡ sameValue (l .«release_coeff») coeff → eqb (l .env .keeper .look) look && same ≡ prepared l
   unfolding prepared
-  accepted-settings look coeff same z L C S = rw (eq-eqb (refusalOf (l .settings) (l .rate) (l .channels) (l .«max_block»)) 0 (sym N ∙ z), S, C, L) refl
+  accepted-settings look coeff same z L C S = rw (z, S, C, L) refl
 
 -- ---- setup and reset leave a limiter that is set up
-pub started-prepared : (s : LimiterSettings) (rate channels block : ℕ) → refusalOf s rate channels block ≡ 0 → prepared (started s rate channels block) ≡ true
+pub started-prepared : (s : LimiterSettings) (spec : ProcessSpec) → refusalOf s spec ≡ 0 → prepared (started s spec) ≡ true
 unfolding prepared
-started-prepared s rate channels block h =
-    rw (eq-eqb (refusalOf s rate channels block) 0 h, eq-eqb (lookOf (s .«lookahead_ms») rate) (lookOf (s .«lookahead_ms») rate) refl, same-self (coefficientOf (s .«release_ms») rate)) refl
+started-prepared s spec h =
+    rw (eq-eqb (refusalOf s spec) 0 h, eq-eqb (lookOf (s .«lookahead_ms») (spec .rate)) (lookOf (s .«lookahead_ms») (spec .rate)) refl, same-self (coefficientOf (s .«release_ms») (spec .rate))) refl
 
 pub reset-prepared : (l : Limiter) → prepared l ≡ true → prepared (resetState l) ≡ true
-reset-prepared l h = started-prepared (l .settings) (l .rate) (l .channels) (l .«max_block») (prepared-is l h .accepted)
+reset-prepared l h = started-prepared (l .settings) (specOf l) (prepared-is l h .accepted)
 
 -- a limiter that is not set up is refused by 18
 pub not-prepared : prepared notSetUp ≡ false
@@ -95,16 +94,16 @@ one-unit : within Number.zero one one ≡ true
 unfolding le
 one-unit = refl
 
-pub started-in-order : (s : LimiterSettings) (rate channels block : ℕ) → refusalOf s rate channels block ≡ 0 → (marks : List ℕ) (minima : List Float)
-    → inOrder (started s rate channels block) marks minima (replicate (rowOf (lookOf (s .«lookahead_ms») rate)) one) ≡ true
+pub started-in-order : (s : LimiterSettings) (spec : ProcessSpec) → refusalOf s spec ≡ 0 → (marks : List ℕ) (minima : List Float)
+    → inOrder (started s spec) marks minima (replicate (rowOf (lookOf (s .«lookahead_ms») (spec .rate))) one) ≡ true
 unfolding inOrder
-started-in-order s rate channels block h marks minima =
-    let look = lookOf (s .«lookahead_ms») rate in
-    let t = and-true (leb 11 look) (leb look 4096) (taken s rate channels block h .look-is) in
+started-in-order s spec h marks minima =
+    let look = lookOf (s .«lookahead_ms») (spec .rate) in
+    let t = and-true (leb 11 look) (leb look 4096) (taken s spec h .look-is) in
     let least : 11 ≤ look = leb-true 11 look (t .0) in
     rw (empty-order look 0 marks minima (omega arith), ones-in-order (rowOf look) (omega (arith, least)), lt-ltb 0 look (omega (arith, least)), le-leb 0 look (omega arith), one-unit, target-unit (s .«threshold_db») (s .«true_peak_margin_db»)) refl
 
 pub reset-in-order : (l : Limiter) → prepared l ≡ true → (marks : List ℕ) (minima : List Float) → inOrder (resetState l) marks minima (replicate (rowOf (l .env .keeper .look)) one) ≡ true
 reset-in-order l h marks minima =
     let p = prepared-is l h in
-    rw (p .look-is) (started-in-order (l .settings) (l .rate) (l .channels) (l .«max_block») (p .accepted) marks minima)
+    rw (p .look-is) (started-in-order (l .settings) (specOf l) (p .accepted) marks minima)

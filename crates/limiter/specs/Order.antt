@@ -6,18 +6,17 @@ use lib.Dec.{eqb, ltb, leb}
 use lib.Ieee.{Float}
 use Rattle.arithmetic.specs.Number
 use Rattle.arithmetic.specs.Number.{one, within, sameValue}
-use Rattle.arithmetic.specs.Reply.{unless}
 use Rattle.keeper.specs.Keeper.{keepingAt, ordered}
 use Rattle.envelope.specs.Row.{rowInOrder}
 use Rattle.settings.specs.Derived.{lookOf, coefficientOf}
 use Rattle.settings.specs.Accepted.{refusalOf}
-use Rattle.limiter.specs.Stores.{Stores, lengthsOf, lengthsFit}
+use Rattle.limiter.specs.State.{specOf}
 use Rattle.limiter.specs.declared.state.Limiter.{Limiter}
 
 -- 18: the settings pass 8 to 14, and look and release coefficient are theirs
 unfoldable pub prepared : Limiter → Bool
 prepared l =
-    eqb (refusalOf (l .settings) (l .rate) (l .channels) (l .«max_block»)) 0
+    eqb (refusalOf (l .settings) (specOf l)) 0
     && (eqb (l .env .keeper .look) (lookOf (l .settings .«lookahead_ms») (l .rate))
     && sameValue (l .«release_coeff») (coefficientOf (l .settings .«release_ms») (l .rate)))
 
@@ -28,9 +27,3 @@ inOrder l marks minima row =
     ordered (keepingAt (l .env .keeper) marks minima)
     && (rowInOrder (l .env .attack) row
     && (ltb (l .«delay_pos») look && (leb (l .drained) look && (within Number.zero one (l .env .gain) && within Number.zero one (l .target)))))
-
--- 18, then 16, then 19, as far as they concern the kernel; 0 where none arises
-abbrev pub readyRefusal : Limiter → Stores → ℕ
-readyRefusal l s =
-    unless (prepared l) 18
-    (unless (lengthsFit (l .channels) (l .env .keeper .look) (lengthsOf s)) 16 (unless (inOrder l (s .marks) (s .minima) (s .row)) 19 0))

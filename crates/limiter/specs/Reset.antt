@@ -1,10 +1,10 @@
 -- Reset: the starting values again, marks and minima unread and unchanged.
-use Rattle.limiter.specs.State.{started}
+use Rattle.limiter.specs.State.{specOf, started}
 use Rattle.limiter.specs.Stores.{Stores, cleared}
 use Rattle.limiter.specs.declared.state.Limiter.{Limiter}
 
 abbrev pub resetState : Limiter → Limiter
-resetState l = started (l .settings) (l .rate) (l .channels) (l .«max_block»)
+resetState l = started (l .settings) (specOf l)
 
 pub record Reset : Type 0 where
   pub limiter : Limiter

@@ -1,13 +1,14 @@
 -- The limiter's state, and what a setup leaves.
 use Prim.Native.Nat.{ℕ}
-use lib.Ieee.{Float}
 use Rattle.arithmetic.specs.Number
 use Rattle.arithmetic.specs.Number.{one}
 use Rattle.keeper.specs.Keeper.{freshKeeper}
-use Rattle.settings.specs.Settings.{settingsOf}
+use Rattle.settings.specs.Settings.{settingsOf, processSpec}
 use Rattle.settings.specs.Derived.{lookOf, coefficientOf}
 use Rattle.settings.specs.Target.{targetOf}
 use Rattle.settings.specs.declared.LimiterSettings.{LimiterSettings}
+use Rattle.settings.specs.declared.ProcessSpec.{ProcessSpec}
+use Rattle.settings.specs.declared.memory.Cap.{Cap}
 use Rattle.envelope.specs.declared.env.Envelope.{Envelope}
 use Rattle.limiter.specs.declared.state.Limiter.{Limiter}
 
@@ -29,15 +30,19 @@ notSetUp = record {
   drained = 0;
 }
 
+-- what setup was told; the cap is spent at setup and not kept
+abbrev pub specOf : Limiter → ProcessSpec
+specOf l = processSpec (l .rate) (l .channels) (l .«max_block») Cap.Unlimited
+
 -- the starting values, with what the settings derive and the default threshold's target
-abbrev pub started : LimiterSettings → ℕ → ℕ → ℕ → Limiter
-started s rate channels block = record {
+abbrev pub started : LimiterSettings → ProcessSpec → Limiter
+started s spec = record {
   settings = s;
-  rate = rate;
-  channels = channels;
-  «max_block» = block;
-  «release_coeff» = coefficientOf (s .«release_ms») rate;
-  env = freshEnvelope (lookOf (s .«lookahead_ms») rate);
+  rate = spec .rate;
+  channels = spec .channels;
+  «max_block» = spec .«max_block»;
+  «release_coeff» = coefficientOf (s .«release_ms») (spec .rate);
+  env = freshEnvelope (lookOf (s .«lookahead_ms») (spec .rate));
   «delay_pos» = 0;
   target = targetOf (s .«threshold_db») (s .«true_peak_margin_db»);
   drained = 0;

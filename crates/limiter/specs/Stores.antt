@@ -10,6 +10,7 @@ use Rattle.arithmetic.specs.Number
 use Rattle.arithmetic.specs.Number.{one}
 use Rattle.settings.specs.Derived.{rowOf}
 use Rattle.frame.specs.Lent.{Lent}
+use Rattle.limiter.specs.declared.stores.StoreLengths.{StoreLengths}
 
 pub record Stores : Type 0 where
   pub delay : List Float
@@ -37,19 +38,11 @@ abbrev pub atCall : RefT (List Float) → RefT (List ℕ) → RefT (List Float) 
 atCall delay marks minima weights row detector = storesAt (now delay) (now marks) (now minima) (now weights) (now row) (now detector)
 
 -- the stores' lengths, in their order
-pub record Lengths : Type 0 where
-  pub delay : ℕ
-  pub marks : ℕ
-  pub minima : ℕ
-  pub weights : ℕ
-  pub row : ℕ
-  pub detector : ℕ
-
-abbrev pub lengthsOf : Stores → Lengths
+abbrev pub lengthsOf : Stores → StoreLengths
 lengthsOf s = record { delay = length (s .delay); marks = length (s .marks); minima = length (s .minima); weights = length (s .weights); row = length (s .row); detector = length (s .detector) }
 
 -- 16: delay channels × look; marks look + 1; minima look + 1; weights L; attack row L; detector channels × 12
-abbrev pub lengthsFit : ℕ → ℕ → Lengths → Bool
+abbrev pub lengthsFit : ℕ → ℕ → StoreLengths → Bool
 lengthsFit channels look l =
     eqb (l .delay) (channels * look) && eqb (l .marks) (look + 1) && eqb (l .minima) (look + 1) && eqb (l .weights) (rowOf look) && eqb (l .row) (rowOf look)
     && eqb (l .detector) (channels * 12)

@@ -2,11 +2,11 @@
 
 // The state.
 pub mod state;
-// Fills and lengths of the lent stores.
+// Lengths and fills of the lent stores.
 pub mod stores;
 // Setup.
 pub mod prepare;
-// The kernel's share of 18 and 19.
+// The kernel's share of 18, 16 and 19.
 pub mod order;
 // Reset.
 pub mod reset;

@@ -1,26 +1,27 @@
 // Setup of the limiter alone (`prepare` of limiter.rs).
 ghost use mathlib.Core.Path.{_≡_};
-ghost use Prim.Native.Nat.{_≤_};
 ghost use lib.Dec.{eqb};
 ghost use lib.ListN.{length};
-ghost use Rattle.limiter.specs.Stores.{lengthsFit, atEntry, atExit};
-ghost use Rattle.limiter.specs.Prepare.{prepareReply, answerOf, lengthsAt, storesRefusal, capAnswer, prepareRefusal, preparedAt, prepareOf};
+ghost use Rattle.limiter.specs.Stores.{atEntry, atExit};
+ghost use Rattle.limiter.specs.Prepare.{prepareReply, prepareRefusal, preparedAt, prepareOf};
 use crate::state::Limiter;
+use crate::stores::StoreLengths;
 use crate::stores::fill;
+use crate::stores::lengths_fit;
+use crate::stores::lengths_of;
 use settings::LimiterSettings;
-use settings::memory::Cap;
+use settings::ProcessSpec;
+use settings::accepted::SettingsJudged;
+use settings::accepted::SettingsRefusal;
+use settings::memory::CapJudged;
+use settings::memory::bytes_needed;
+use settings::memory::judge_cap;
 
 // What setup answers: finished, or the refusals 8 to 17 in the table's order, 15 with the bytes
 // needed and the cap that was left.
 pub enum PrepareAnswer {
     Finished,
-    Rate,
-    Margin,
-    Lookahead,
-    Release,
-    Look,
-    Channels,
-    Block,
+    Settings(SettingsRefusal),
     OverCap { needed: u64, cap: u64 },
     StoreLength,
     Weights,
@@ -29,82 +30,6 @@ pub enum PrepareAnswer {
 pub struct Prepared {
     pub answer: PrepareAnswer,
     pub limiter: Limiter,
-}
-
-// The stores' lengths, in document 01's order.
-pub struct StoreLengths {
-    pub delay: usize,
-    pub marks: usize,
-    pub minima: usize,
-    pub weights: usize,
-    pub row: usize,
-    pub detector: usize,
-}
-
-// The case of a number that carries no values; 0 is finished work.
-fn answer_of(number: u32) -> PrepareAnswer
-    ensures { λ r. ⌜ r ≡ answerOf number ⌝ }
-{
-    match number {
-        8 => PrepareAnswer::Rate,
-        9 => PrepareAnswer::Margin,
-        10 => PrepareAnswer::Lookahead,
-        11 => PrepareAnswer::Release,
-        12 => PrepareAnswer::Look,
-        13 => PrepareAnswer::Channels,
-        14 => PrepareAnswer::Block,
-        16 => PrepareAnswer::StoreLength,
-        17 => PrepareAnswer::Weights,
-        _ => PrepareAnswer::Finished,
-    }
-}
-
-// 15 where the bytes are over the cap, else the answer of a later number.
-fn capped(needed: u64, cap: Cap, later: u32) -> PrepareAnswer
-    ensures { λ r. ⌜ r ≡ capAnswer needed cap later ⌝ }
-{
-    match cap {
-        Cap::Unlimited => answer_of(later),
-        Cap::Bytes(most) => {
-            if settings::memory::fits_cap(needed, cap) {
-                answer_of(later)
-            } else {
-                PrepareAnswer::OverCap { needed, cap: most }
-            }
-        }
-    }
-}
-
-// Whether each store has its exact length.
-pub fn lengths_fit(channels: usize, look: usize, l: StoreLengths) -> bool
-    requires { ⌜ channels ≤ 8 ⌝ }
-    requires { ⌜ look ≤ 4096 ⌝ }
-    ensures { λ r. ⌜ r ≡ lengthsFit channels look (lengthsAt l) ⌝ }
-{
-    let row = settings::memory::row_len(look);
-    (l.delay == channels * look)
-        & (l.marks == look + 1)
-        & (l.minima == look + 1)
-        & (l.weights == row)
-        & (l.row == row)
-        & (l.detector == channels * 12)
-}
-
-// 16 where a length is not its store's, 17 where the weights are not accepted, else 0.
-fn stores_refusal(channels: usize, look: usize, l: StoreLengths, weights: &[f64]) -> u32
-    requires { ⌜ channels ≤ 8 ⌝ }
-    requires { ⌜ look ≤ 4096 ⌝ }
-    requires { ⌜ l .weights ≡ length (now weights) ⌝ }
-    ensures { λ r. ⌜ r ≡ storesRefusal channels look (lengthsAt l) (now (weights .entry)) ⌝ }
-{
-    if !lengths_fit(channels, look, l) {
-        return 16;
-    }
-    if settings::weights::accepted(weights) {
-        0
-    } else {
-        17
-    }
 }
 
 // Whether an answer is finished work, by its number.
@@ -118,36 +43,35 @@ fn is_finished(answer: PrepareAnswer) -> bool
 }
 
 // What setup answers, before anything is written.
-fn judge(
-    s: LimiterSettings,
-    rate: u32,
-    channels: usize,
-    max_block: usize,
-    cap: Cap,
-    l: StoreLengths,
-    weights: &[f64],
-) -> PrepareAnswer
+fn judge(s: LimiterSettings, spec: ProcessSpec, l: StoreLengths, weights: &[f64]) -> PrepareAnswer
     requires { ⌜ l .weights ≡ length (now weights) ⌝ }
     ensures { λ r. ⌜ prepareReply r
-        ≡ prepareRefusal s rate channels «max_block» cap (lengthsAt l) (now (weights .entry)) ⌝ }
+        ≡ prepareRefusal s spec l (now (weights .entry)) ⌝ }
 {
-    let first = settings::accepted::refusal(s, rate, channels, max_block);
-    if first != 0 {
-        return answer_of(first);
+    if let SettingsJudged::Refused(why) = settings::accepted::refusal(s, spec) {
+        return PrepareAnswer::Settings(why);
     }
-    let look = settings::derived::look(s.lookahead_ms, rate) as usize;
-    let later = stores_refusal(channels, look, l, weights);
-    capped(settings::memory::bytes_needed(channels, look), cap, later)
+    let look = settings::derived::look(s.lookahead_ms, spec.rate) as usize;
+    let cap = spec.cap;
+    let needed = bytes_needed(spec.channels, look);
+    if let CapJudged::Over { needed, cap } = judge_cap(needed, cap) {
+        return PrepareAnswer::OverCap { needed, cap };
+    }
+    if !lengths_fit(spec.channels, look, l) {
+        return PrepareAnswer::StoreLength;
+    }
+    if settings::weights::accepted(weights) {
+        PrepareAnswer::Finished
+    } else {
+        PrepareAnswer::Weights
+    }
 }
 
 impl Limiter {
     // Sets a limiter up on lent stores: nothing is written unless nothing is refused.
     pub fn prepare(
         s: LimiterSettings,
-        rate: u32,
-        channels: usize,
-        max_block: usize,
-        cap: Cap,
+        spec: ProcessSpec,
         delay: &mut [f64],
         marks: &mut [u64],
         minima: &mut [f64],
@@ -156,17 +80,10 @@ impl Limiter {
         detector: &mut [f64],
     ) -> Prepared
         ensures { λ r. ⌜ preparedAt r (atExit delay marks minima weights row detector)
-            ≡ prepareOf s rate channels «max_block» cap (atEntry delay marks minima weights row detector) ⌝ }
+            ≡ prepareOf s spec (atEntry delay marks minima weights row detector) ⌝ }
     {
-        let l = StoreLengths {
-            delay: delay.len(),
-            marks: marks.len(),
-            minima: minima.len(),
-            weights: weights.len(),
-            row: row.len(),
-            detector: detector.len(),
-        };
-        let answer = judge(s, rate, channels, max_block, cap, l, weights);
+        let l = lengths_of(delay, marks, minima, weights, row, detector);
+        let answer = judge(s, spec, l, weights);
         if !is_finished(answer) {
             return Prepared {
                 answer,
@@ -180,7 +97,7 @@ impl Limiter {
         fill(detector, 0.0);
         Prepared {
             answer,
-            limiter: Limiter::started(s, rate, channels, max_block),
+            limiter: Limiter::started(s, spec),
         }
     }
 }

@@ -3,11 +3,13 @@
 ghost use mathlib.Core.Path.{_≡_};
 ghost use mathlib.Core.Bool.{true};
 ghost use Rattle.settings.specs.Accepted.{rateTaken, releaseTaken};
-ghost use Rattle.limiter.specs.State.{freshEnvelope, notSetUp, started};
+ghost use Rattle.limiter.specs.State.{freshEnvelope, notSetUp, specOf, started};
 use envelope::env::Envelope;
 use envelope::row::AttackRow;
 use keeper::FloorKeeper;
 use settings::LimiterSettings;
+use settings::ProcessSpec;
+use settings::memory::Cap;
 
 pub struct Limiter {
     pub settings: LimiterSettings,
@@ -57,19 +59,31 @@ impl Limiter {
         }
     }
 
-    // The starting values for accepted settings.
-    pub fn started(s: LimiterSettings, rate: u32, channels: usize, max_block: usize) -> Self
-        requires { ⌜ releaseTaken (s .«release_ms») ≡ true ⌝ }
-        requires { ⌜ rateTaken rate ≡ true ⌝ }
-        ensures { λ r. ⌜ r ≡ started s rate channels «max_block» ⌝ }
+    // What setup was told, but for the cap, which is spent there.
+    pub fn spec(self) -> ProcessSpec
+        ensures { λ r. ⌜ r ≡ specOf self ⌝ }
     {
-        let look = settings::derived::look(s.lookahead_ms, rate);
+        ProcessSpec {
+            rate: self.rate,
+            channels: self.channels,
+            max_block: self.max_block,
+            cap: Cap::Unlimited,
+        }
+    }
+
+    // The starting values for accepted settings.
+    pub fn started(s: LimiterSettings, spec: ProcessSpec) -> Self
+        requires { ⌜ releaseTaken (s .«release_ms») ≡ true ⌝ }
+        requires { ⌜ rateTaken (spec .rate) ≡ true ⌝ }
+        ensures { λ r. ⌜ r ≡ started s spec ⌝ }
+    {
+        let look = settings::derived::look(s.lookahead_ms, spec.rate);
         Limiter {
             settings: s,
-            rate,
-            channels,
-            max_block,
-            release_coeff: settings::derived::release_coeff(s.release_ms, rate),
+            rate: spec.rate,
+            channels: spec.channels,
+            max_block: spec.max_block,
+            release_coeff: settings::derived::release_coeff(s.release_ms, spec.rate),
             env: fresh_envelope(look as usize),
             delay_pos: 0,
             target: settings::target::target(s.threshold_db, s.true_peak_margin_db),

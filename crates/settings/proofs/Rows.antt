@@ -1,4 +1,4 @@
--- Starred rows of document 01 that concern the settings, each computed. What setup replies to looks and caps: the limiter's rows.
+-- Starred rows of document 01 that concern the settings, each computed. What setup replies to looks and caps: claims/proofs/Rows.antt.
 use mathlib.Core.Path.{_≡_, refl}
 use lib.Ieee.{mul, ofInt, ofBits}
 use Rattle.arithmetic.specs.Number.{bits}

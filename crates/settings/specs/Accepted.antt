@@ -6,10 +6,15 @@ use lib.Ieee.{Float, lt}
 use lib.Ieee.Scale.{finite}
 use Rattle.arithmetic.specs.Number
 use Rattle.arithmetic.specs.Number.{bits}
-use Rattle.arithmetic.specs.Reply.{unless}
+use Rattle.arithmetic.specs.Reply.{Reply, numbered, unless}
 use Rattle.keeper.specs.Keeper.{lookTaken}
 use Rattle.settings.specs.Derived.{lookOf}
 use Rattle.settings.specs.declared.LimiterSettings.{LimiterSettings}
+use Rattle.settings.specs.declared.ProcessSpec.{ProcessSpec}
+use Rattle.settings.specs.declared.accepted.SettingsRefusal.{SettingsRefusal}
+use Rattle.settings.specs.declared.accepted.SettingsRefusal.the-variants.{Rate, Margin, Lookahead, Release, Look, Channels, Block}
+use Rattle.settings.specs.declared.accepted.SettingsJudged.{SettingsJudged}
+use Rattle.settings.specs.declared.accepted.SettingsJudged.the-variants.{Passed, Refused}
 
 -- 8: rate outside 8,000 to 192,000
 abbrev pub rateTaken : ℕ → Bool
@@ -37,13 +42,30 @@ abbrev pub blockTaken : ℕ → Bool
 blockTaken n = leb n 65536
 
 -- the first of 8 to 14 that arises, 12 as the keeper judges it; 0 where none does
-abbrev pub refusalOf : LimiterSettings → ℕ → ℕ → ℕ → ℕ
-refusalOf s rate channels block =
-    unless (rateTaken rate) 8
+abbrev pub refusalOf : LimiterSettings → ProcessSpec → ℕ
+refusalOf s spec =
+    unless (rateTaken (spec .rate)) 8
     (unless (marginTaken (s .«true_peak_margin_db»)) 9
     (unless (lookaheadTaken (s .«lookahead_ms»)) 10
     (unless (releaseTaken (s .«release_ms»)) 11
-    (unless (lookTaken (lookOf (s .«lookahead_ms») rate)) 12
-    (unless (channelsTaken channels) 13
-    (unless (blockTaken block) 14
+    (unless (lookTaken (lookOf (s .«lookahead_ms») (spec .rate))) 12
+    (unless (channelsTaken (spec .channels)) 13
+    (unless (blockTaken (spec .«max_block»)) 14
     0))))))
+
+-- document 01's number of each refusal
+abbrev pub refusalNumber : SettingsRefusal → ℕ
+refusalNumber Rate = 8
+refusalNumber Margin = 9
+refusalNumber Lookahead = 10
+refusalNumber Release = 11
+refusalNumber Look = 12
+refusalNumber Channels = 13
+refusalNumber Block = 14
+
+abbrev pub judgedNumber : SettingsJudged → ℕ
+judgedNumber Passed = 0
+judgedNumber (Refused why) = refusalNumber why
+
+abbrev pub settingsReply : SettingsJudged → Reply
+settingsReply j = numbered (judgedNumber j)

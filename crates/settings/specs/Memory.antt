@@ -1,10 +1,13 @@
 -- Module 5 of document 01, `memory.rs`: the byte count, and a cap.
 use Prim.Native.Nat.{ℕ, _+_, _-_, _*_}
 use mathlib.Core.Bool.{Bool, true, false, cond, _&&_}
+use mathlib.Core.List.{[], _∷_}
 use lib.Dec.{leb}
 use Rattle.arithmetic.specs.Number.{largest}
+use Rattle.arithmetic.specs.Reply.{Reply, finished, refused, count}
 use Rattle.settings.specs.Derived.{rowOf}
 use Rattle.settings.specs.declared.memory.Cap.{Cap}
+use Rattle.settings.specs.declared.memory.CapJudged.{CapJudged}
 
 -- 8 × (channels × look + 2 × (look + 1) + 2 × L + 60 × channels)
 abbrev pub bytesOf : ℕ → ℕ → ℕ
@@ -22,6 +25,15 @@ needed channels look = cond (counted channels look) (bytesOf channels look) larg
 abbrev pub fitsCap : ℕ → Cap → Bool
 fitsCap bytes Cap.Unlimited = true
 fitsCap bytes (Cap.Bytes cap) = leb bytes cap
+
+-- 7 of the bank's bytes, 15 of the stores': over the cap, with needed and cap
+abbrev pub capJudged : ℕ → Cap → CapJudged
+capJudged need Cap.Unlimited = CapJudged.Passed
+capJudged need (Cap.Bytes cap) = cond (leb need cap) CapJudged.Passed (CapJudged.Over need cap)
+
+abbrev pub capReply : ℕ → CapJudged → Reply
+capReply number CapJudged.Passed = finished []
+capReply number (CapJudged.Over need cap) = refused number (count need ∷ count cap ∷ [])
 
 -- what is left of a cap once so many bytes are taken, which fit it
 abbrev pub leftOf : ℕ → Cap → Cap

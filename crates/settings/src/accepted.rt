@@ -1,10 +1,28 @@
 // Which settings are accepted: the refusals 8 to 14.
 ghost use mathlib.Core.Path.{_≡_};
-ghost use Rattle.arithmetic.specs.Reply.{unless};
-ghost use Rattle.settings.specs.Accepted.{rateTaken, marginTaken, lookaheadTaken, releaseTaken, channelsTaken, refusalOf};
+ghost use Rattle.arithmetic.specs.Reply.{unless, numbered};
+ghost use Rattle.settings.specs.Accepted.{rateTaken, marginTaken, lookaheadTaken, releaseTaken, channelsTaken};
+ghost use Rattle.settings.specs.Accepted.{refusalOf, refusalNumber, judgedNumber, settingsReply};
 use crate::LimiterSettings;
+use crate::ProcessSpec;
 use arithmetic::number::is_finite;
 use keeper::look_taken;
+
+// The settings' refusals, 8 to 14 in the table's order.
+pub enum SettingsRefusal {
+    Rate,
+    Margin,
+    Lookahead,
+    Release,
+    Look,
+    Channels,
+    Block,
+}
+
+pub enum SettingsJudged {
+    Passed,
+    Refused(SettingsRefusal),
+}
 
 fn rate_taken(rate: u32) -> bool
     ensures { λ r. ⌜ r ≡ rateTaken rate ⌝ }
@@ -36,22 +54,46 @@ fn channels_taken(channels: usize) -> bool
     (1 <= channels) & (channels <= 8)
 }
 
-fn unless(kept: bool, number: u32, rest: u32) -> u32
-    ensures { λ r. ⌜ r ≡ unless kept number rest ⌝ }
+fn unless(kept: bool, why: SettingsRefusal, later: SettingsJudged) -> SettingsJudged
+    ensures { λ r. ⌜ judgedNumber r ≡ unless kept (refusalNumber why) (judgedNumber later) ⌝ }
 {
-    if kept { rest } else { number }
+    if kept {
+        later
+    } else {
+        SettingsJudged::Refused(why)
+    }
 }
 
-// The first refusal of 8 to 14 that arises, or 0.
-pub fn refusal(s: LimiterSettings, rate: u32, channels: usize, max_block: usize) -> u32
-    ensures { λ r. ⌜ r ≡ refusalOf s rate channels «max_block» ⌝ }
+// The first of 8 to 14 that arises.
+pub fn refusal(s: LimiterSettings, spec: ProcessSpec) -> SettingsJudged
+    ensures { λ r. ⌜ settingsReply r ≡ numbered (refusalOf s spec) ⌝ }
 {
-    let look = crate::derived::look(s.lookahead_ms, rate);
-    let blocks = unless(max_block <= 65536, 14, 0);
-    let channelled = unless(channels_taken(channels), 13, blocks);
-    let looked = unless(look_taken(look as usize), 12, channelled);
-    let released = unless(release_taken(s.release_ms), 11, looked);
-    let ahead = unless(lookahead_taken(s.lookahead_ms), 10, released);
-    let margined = unless(margin_taken(s.true_peak_margin_db), 9, ahead);
-    unless(rate_taken(rate), 8, margined)
+    let look = crate::derived::look(s.lookahead_ms, spec.rate);
+    let block = unless(
+        spec.max_block <= 65536,
+        SettingsRefusal::Block,
+        SettingsJudged::Passed,
+    );
+    let channels = unless(
+        channels_taken(spec.channels),
+        SettingsRefusal::Channels,
+        block,
+    );
+    let looked = unless(look_taken(look as usize), SettingsRefusal::Look, channels);
+    let released = unless(
+        release_taken(s.release_ms),
+        SettingsRefusal::Release,
+        looked,
+    );
+    let ahead = unless(
+        lookahead_taken(s.lookahead_ms),
+        SettingsRefusal::Lookahead,
+        released,
+    );
+    let margin = unless(
+        margin_taken(s.true_peak_margin_db),
+        SettingsRefusal::Margin,
+        ahead,
+    );
+    unless(rate_taken(spec.rate), SettingsRefusal::Rate, margin)
 }

@@ -14,6 +14,8 @@ pub mod target;
 // The refusals 8 to 14.
 pub mod accepted;
 
+use crate::memory::Cap;
+
 // Construction settings of the limiter.
 pub struct LimiterSettings {
     // Limiter ceiling in dBFS.
@@ -24,6 +26,16 @@ pub struct LimiterSettings {
     pub lookahead_ms: f64,
     // Release in milliseconds; 0 releases at once.
     pub release_ms: f64,
+}
+
+// What setup is told beside the settings (`ProcessSpec` of contract/spec.rs).
+pub struct ProcessSpec {
+    pub rate: u32,
+    pub channels: usize,
+    // Largest block, in frames.
+    pub max_block: usize,
+    // How many bytes setup may take.
+    pub cap: Cap,
 }
 
 impl LimiterSettings {

@@ -2,7 +2,7 @@
 ghost use mathlib.Core.Path.{_≡_};
 ghost use Prim.Native.Nat.{_≤_};
 ghost use Rattle.settings.specs.Derived.{rowOf};
-ghost use Rattle.settings.specs.Memory.{counted, bytesOf, needed, fitsCap, leftOf};
+ghost use Rattle.settings.specs.Memory.{counted, bytesOf, needed, fitsCap, capJudged, leftOf};
 
 // How many bytes a caller allows.
 pub enum Cap {
@@ -53,6 +53,27 @@ pub fn fits_cap(bytes: u64, cap: Cap) -> bool
     match cap {
         Cap::Unlimited => true,
         Cap::Bytes(most) => bytes <= most,
+    }
+}
+
+// What a cap says of bytes needed: over it, both are told.
+pub enum CapJudged {
+    Passed,
+    Over { needed: u64, cap: u64 },
+}
+
+pub fn judge_cap(needed: u64, cap: Cap) -> CapJudged
+    ensures { λ r. ⌜ r ≡ capJudged needed cap ⌝ }
+{
+    match cap {
+        Cap::Unlimited => CapJudged::Passed,
+        Cap::Bytes(most) => {
+            if needed <= most {
+                CapJudged::Passed
+            } else {
+                CapJudged::Over { needed, cap: most }
+            }
+        }
     }
 }
 

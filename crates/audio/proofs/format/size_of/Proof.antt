@@ -1,6 +1,5 @@
 -- `size_of`: the test of the definition.
-use mathlib.Core.Path.{_≡_, refl, sym, ap, _∙_}
-use mathlib.Core.Bool.{cond}
+use mathlib.Core.Path.{_≡_, refl}
 use native.Mathlib.Omega.{arith}
 use Prim.Native.Nat.{_%_}
 use lib.ListN.{length}

@@ -1,7 +1,7 @@
 -- `put_sample`: the bytes of its place anew.
-use mathlib.Core.Path.{_≡_, sym, ap, _∙_}
+use mathlib.Core.Path.{_≡_, ap, _∙_}
 use mathlib.Core.List.{List}
-use Prim.Native.Nat.{ℕ, _+_, _*_, _≤_, _<_}
+use Prim.Native.Nat.{ℕ, _*_, _<_}
 use native.Mathlib.Omega.{arith}
 use denote.Ref.{now}
 use borrow.Author.Needs.{needs}
@@ -13,25 +13,22 @@ use Rattle.audio.specs.Inner.{put}
 use Rattle.audio.specs.declared.format.Format.{Format}
 use Rattle.audio.specs.declared.format.Format.the-variants.{F64}
 use Rattle.audio.proofs.Numbers.{bytes-length}
-use Rattle.audio.proofs.Places.{place-room, place-put}
+use Rattle.audio.proofs.Places.{eight-room, place-put}
 use Rattle.audio.proofs.planar.put_sample.Statement.{statement}
 use Rattle.audio.proofs.planar.put_sample.Tie as tie
-
-room : (f : Format) (bytes : List ℕ) (i : ℕ) → i < length (placesOf f bytes) → 8 * i + 8 ≤ length bytes
-room F64 bytes i h = place-room F64 bytes i h
 
 stored : (f : Format) (bytes : List ℕ) (i : ℕ) (x : Float) → i < length (placesOf f bytes) → placesOf f (put bytes (8 * i) (bytesOf 8 (toBits binary64 x))) ≡ set (placesOf f bytes) i (bytesFor f x)
 unfolding bytesFor
 stored F64 bytes i x h = place-put F64 bytes i h (bytesOf 8 (toBits binary64 x)) (bytes-length 8 (toBits binary64 x))
 
 mul-put-word : tie.Need-mul-put-word
-mul-put-word c = let s = c .before .before in omega (arith, room (s .args .format) (now (s .args .bytes)) (s .args .i) (s .pre))
+mul-put-word c = let s = c .before .before in omega (arith, eight-room (s .args .format) (now (s .args .bytes)) (s .args .i) (s .pre))
 
 to-bits-requires : tie.Need-to-bits-requires
 to-bits-requires c κs = search needs
 
 put-word-requires : tie.Need-put-word-requires
-put-word-requires c κs = let s = c .before .before .before in room (s .args .format) (now (s .args .bytes)) (s .args .i) (s .pre)
+put-word-requires c κs = let s = c .before .before .before in eight-room (s .args .format) (now (s .args .bytes)) (s .args .i) (s .pre)
 
 same-length : tie.Need-same-length
 same-length c = search needs

@@ -1,7 +1,7 @@
 -- `sample`: the value of the bytes of its place.
 use mathlib.Core.Path.{_≡_, sym, ap, _∙_}
 use mathlib.Core.List.{List, []}
-use Prim.Native.Nat.{ℕ, _+_, _*_, _≤_, _<_}
+use Prim.Native.Nat.{ℕ, _*_, _<_}
 use native.Mathlib.Omega.{arith}
 use denote.Ref.{now}
 use borrow.Author.Needs.{needs}
@@ -12,22 +12,19 @@ use Rattle.audio.specs.Bytes.{wordOf}
 use Rattle.audio.specs.Format.{sampleOf, placesOf, samplesOf}
 use Rattle.audio.specs.declared.format.Format.{Format}
 use Rattle.audio.specs.declared.format.Format.the-variants.{F64}
-use Rattle.audio.proofs.Places.{place-room, place-at, sample-at}
+use Rattle.audio.proofs.Places.{eight-room, place-at, sample-at}
 use Rattle.audio.proofs.planar.sample.Statement.{statement}
 use Rattle.audio.proofs.planar.sample.Tie as tie
-
-room : (f : Format) (bytes : List ℕ) (i : ℕ) → i < length (placesOf f bytes) → 8 * i + 8 ≤ length bytes
-room F64 bytes i h = place-room F64 bytes i h
 
 value : (f : Format) (bytes : List ℕ) (i : ℕ) → i < length (placesOf f bytes) → bits (wordOf (take 8 (drop (8 * i) bytes))) ≡ getD (samplesOf f bytes) i nan
 unfolding sampleOf
 value F64 bytes i h = sym (sample-at F64 bytes i h [] ∙ ap (sampleOf F64) (place-at F64 bytes i h []))
 
 mul-word : tie.Need-mul-word
-mul-word c = let s = c .before in omega (arith, room (s .args .format) (now (s .args .bytes)) (s .args .i) (s .pre))
+mul-word c = let s = c .before in omega (arith, eight-room (s .args .format) (now (s .args .bytes)) (s .args .i) (s .pre))
 
 word-requires : tie.Need-word-requires
-word-requires c κs = let s = c .before in room (s .args .format) (now (s .args .bytes)) (s .args .i) (s .pre)
+word-requires c κs = let s = c .before in eight-room (s .args .format) (now (s .args .bytes)) (s .args .i) (s .pre)
 
 from-bits-requires : tie.Need-from-bits-requires
 from-bits-requires c κs = search needs

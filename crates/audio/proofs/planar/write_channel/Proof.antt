@@ -1,7 +1,7 @@
 -- `write_channel`: the words passed are there.
 use mathlib.Core.Path.{_≡_, refl, sym, ap, subst, _∙_}
 use mathlib.Core.List.{List, map}
-use Prim.Native.Nat.{ℕ, _+_, _-_, _/_, _≤_}
+use Prim.Native.Nat.{ℕ, _+_, _-_, _≤_}
 use native.Mathlib.Omega.{arith}
 use denote.Ref.{now}
 use borrow.Author.Needs.{needs}
@@ -55,7 +55,7 @@ loop-again c =
     let stored = _∙_ {b = set (placesOf (a .format) now') at (bytesFor (a .format) (getD (now (a .run)) (a .from + i) nan))} (k .put-sample .ensures) (ap (set (placesOf (a .format) now') at) (sym (List·getD-map (bytesFor (a .format)) (now (a .run)) (a .from + i) nan))) in (
       omega arith,
       k .put-sample .kept .1 .0 ∙ l .loop .inv .1,
-      ap length (k .put-sample .ensures) ∙ simp length-set (l .loop .inv .2),
+      rw (k .put-sample .ensures, length-set (placesOf (a .format) now') at) (l .loop .inv .2),
       subst (λ (ps : List (List ℕ)). PlacesCopied (bytesFor (a .format) nan) (i + 1) (a .from) (map (bytesFor (a .format)) (now (a .run))) (a .to) (placesOf (a .format) (now (a .bytes))) ps) (sym stored)
           (copied-more (a .from) (map (bytesFor (a .format)) (now (a .run))) (a .to) (placesOf (a .format) (now (a .bytes))) i (placesOf (a .format) now') (omega arith) (l .loop .inv .3)),
     )

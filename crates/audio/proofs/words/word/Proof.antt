@@ -1,8 +1,6 @@
 -- `word`: the eight bytes, joined.
-use mathlib.Core.Path.{sym, ap, _∙_}
 use denote.Ref.{now}
 use borrow.Author.Needs.{needs}
-use Rattle.audio.specs.Bytes.{wordOf}
 use Rattle.audio.proofs.Numbers.{take-eight}
 use Rattle.audio.proofs.words.word.Statement.{statement}
 use Rattle.audio.proofs.words.word.Tie as tie
@@ -58,7 +56,7 @@ joined-requires c κs = search needs
 returns : tie.Need-returns
 returns c =
     let s = c .before .before .before .before .before .before .before .before .before .before in
-    c .joined .ensures ∙ ap wordOf (sym (take-eight (now (s .args .bytes)) (s .args .at) (s .pre)))
+    rw (take-eight (now (s .args .bytes)) (s .args .at) (s .pre)) (c .joined .ensures)
 
 pub word-spec : {M : Type 1} → statement M
 word-spec =

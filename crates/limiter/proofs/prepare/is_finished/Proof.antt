@@ -1,7 +1,7 @@
 -- `is_finished`: by the answer's case.
 use mathlib.Core.Path.{refl}
 use borrow.Author.Needs.{needs}
-use Rattle.limiter.proofs.Answer.{other-case}
+use Rattle.limiter.proofs.Judge.{other-case}
 use Rattle.limiter.proofs.prepare.is_finished.Statement.{statement}
 use Rattle.limiter.proofs.prepare.is_finished.Tie as tie
 

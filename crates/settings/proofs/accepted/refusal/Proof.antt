@@ -62,7 +62,7 @@ returns c =
       c .before .before .before .before .before .before .before .before .before .before .unless2 .ensures,
       c .before .before .before .before .before .before .before .before .before .before .before .channels-taken .ensures,
       c .before .before .before .before .before .before .before .before .before .before .before .before .unless .ensures,
-      c .before .before .before .before .before .before .before .before .before .before .before .before .before .look .ensures,
+      c .before .before .before .before .before .before .before .before .before .before .before .before .before .before .look .ensures,
     )
     refl
 

@@ -16,11 +16,14 @@ fill-requires-2 c κs = search needs
 fill-requires-3 : tie.Need-fill-requires-3
 fill-requires-3 c κs = search needs
 
+spec-requires : tie.Need-spec-requires
+spec-requires c κs = search needs
+
 started-requires : tie.Need-started-requires
 started-requires c κs =
-    let a = c .before .before .before .before .before .before .before .before .before .before .before .before .before .before .before in
+    let a = c .before .before .before .before .before .before .before .before .before .before .before .before .before .before .before .before in
     let t = prepared-is (a .args .self) (a .pre) .rules in
-    (t .release-is, t .rate-is)
+    (t .release-is, rw (c .spec .ensures) (t .rate-is))
 
 same-length : tie.Need-same-length
 same-length c = search needs
@@ -33,7 +36,10 @@ same-length-3 c = search needs
 
 returns : tie.Need-returns
 unfolding ofBits resetOf
-returns c marks minima weights = rw (c .started .ensures, c .before .before .before .fill3 .ensures, c .before .before .before .before .before .before .before .fill2 .ensures, c .before .before .before .before .before .before .before .before .before .before .before .fill .ensures) refl
+returns c marks minima weights =
+    let d = c .before .before .before .before in
+    let r = d .before .before .before .before in
+    rw (c .started .ensures, c .before .spec .ensures, d .fill3 .ensures, r .fill2 .ensures, r .before .before .before .before .fill .ensures) refl
 
 pub reset-prepared-spec : {M : Type 1} → statement M
 reset-prepared-spec =
@@ -42,6 +48,7 @@ reset-prepared-spec =
     fill-requires
     fill-requires-2
     fill-requires-3
+    spec-requires
     started-requires
     same-length
     same-length-2

@@ -4,8 +4,8 @@ use Prim.Native.Nat.{_*_, _≤_}
 use native.Mathlib.Nat.{mul-le-mul}
 use native.Mathlib.Omega.{arith}
 use borrow.Author.Needs.{needs}
-use Rattle.limiter.proofs.prepare.lengths_fit.Statement.{statement}
-use Rattle.limiter.proofs.prepare.lengths_fit.Tie as tie
+use Rattle.limiter.proofs.stores.lengths_fit.Statement.{statement}
+use Rattle.limiter.proofs.stores.lengths_fit.Tie as tie
 
 product : (c : tie.Start) → c .args .channels * c .args .look ≤ 32768
 product c = mul-le-mul (c .pre .0) (c .pre .1)

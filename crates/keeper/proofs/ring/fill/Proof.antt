@@ -2,9 +2,9 @@
 use Prim.Native.Nat.{_-_}
 use native.Mathlib.Omega.{arith}
 use lib.ListN.{length}
 use Rattle.keeper.proofs.Loops.{Cleared, clear-start, clear-more, clear-done}
-use Rattle.limiter.proofs.stores.fill.Statement.{statement}
-use Rattle.limiter.proofs.stores.fill.Tie as tie
+use Rattle.keeper.proofs.ring.fill.Statement.{statement}
+use Rattle.keeper.proofs.ring.fill.Tie as tie
 
 abbrev Inv-loop : tie.InvT-loop
 Inv-loop s₀ value i₀ s i = Cleared value s₀ s i
