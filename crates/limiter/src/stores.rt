@@ -2,7 +2,6 @@
 ghost use mathlib.Core.Path.{_≡_};
 ghost use Prim.Native.Nat.{_≤_};
 ghost use Rattle.limiter.specs.Stores.{atEntry, lengthsOf, lengthsFit};
-
 pub use keeper::fill;
 
 // The stores' lengths, in document 01's order.
