@@ -1,18 +1,17 @@
 -- What the branches of the leaf functions come to, case by case, on plain values.
 use mathlib.Core.Path.{_≡_, refl, sym, ap, _∙_, subst}
-use mathlib.Core.Bool.{Bool, true, false, not, _&&_, _||_, cond, Bool·beq}
-use Prim.Native.Nat.{ℕ, zero, suc, _+_, _-_, _*_, _^_, _≤_, _<_}
-use native.Mathlib.Nat.{mul-one, zero-mul, one-mul, sub-self, mul-pos, pow-suc, eq-zero-or-pos, le-refl}
+use mathlib.Core.Bool.{Bool, true, false, not, Bool·beq}
+use Prim.Native.Nat.{ℕ, zero, suc, _+_, _*_, _^_, _<_}
+use native.Mathlib.Nat.{zero-mul, sub-self, mul-pos, pow-suc, eq-zero-or-pos, le-refl}
 use native.Mathlib.Omega.{arith}
-use mathlib.Core.Logic.{_⊎_, inl, inr}
+use mathlib.Core.Logic.{inl, inr}
 use lib.Dec.{T, ltb, eqb, lit<}
-use lib.Pow.{pow-pos}
 use lib.IntN.{ℤ, pos, negsuc}
-use lib.Ieee.{Float, nan, inf, fin, binary64, up, down, lt, eq, ne, neg, add, sub, div, sum, round, fits, isNan}
+use lib.Ieee.{Float, nan, inf, fin, binary64, up, down, lt, eq, ne, neg, sub, div, sum, round, fits, isNan}
 use lib.Ieee.Scale.{finite}
 use lib.Ieee.Fits.{up-pos, down-pos}
 use lib.Ieee.Exact.{HasValue, round-exact}
-use borrow.Author.Tests.{ltb-true, ltb-false, eqb-true, eqb-false, eq-eqb, le-ltb, lt-ltb}
+use borrow.Author.Tests.{ltb-true, ltb-false, eqb-true, eqb-false, eq-eqb, le-ltb}
 use Rattle.arithmetic.specs.Number.{absOf, signOf, withSign, copysignOf, clampOf}
 use Rattle.arithmetic.specs.Number
 use Rattle.arithmetic.specs.Sanitize.{finiteOrZero, denormalFloor, flushDenormal, unitGain}

@@ -1,19 +1,19 @@
 -- −k is at most 1010 for −700 to 0: the steps from −x to it keep the order, and at 700 they end at 1010.39.
 use mathlib.Core.Path.{_≡_, refl, sym, ap, _∙_, subst}
-use mathlib.Core.Bool.{Bool, true, false, not, _&&_, cond}
-use Prim.Native.Nat.{ℕ, zero, suc, _+_, _-_, _*_, _/_, _%_, _^_, _≤_, _<_, min}
-use native.Mathlib.Nat.{add-mul, mul-assoc, mul-comm, mul-left-comm, mul-le-mul-right, mul-le-mul-left, mul-one, mul-pos, zero-mul, zero-div, div-lt-iff-lt-mul}
+use mathlib.Core.Bool.{Bool, true, false, not, cond}
+use Prim.Native.Nat.{ℕ, zero, suc, _+_, _*_, _/_, _^_, _≤_, _<_}
+use native.Mathlib.Nat.{mul-assoc, mul-comm, mul-left-comm, mul-le-mul-left, mul-one, mul-pos, zero-mul, zero-div, div-lt-iff-lt-mul}
 use native.Mathlib.Omega.{arith}
 use lib.Dec.{T, ltb, lit<}
 use lib.IntN.{ℤ, pos, negsuc}
-use lib.Ieee.{Float, nan, inf, fin, Format, binary64, prec, emax, low, up, down, odd, units, round, neg, add, sub, mul, lt, le, size, toBits, toUnsigned, ofBits}
+use lib.Ieee.{Float, nan, inf, fin, Format, binary64, prec, emax, low, up, down, odd, units, round, neg, add, sub, mul, lt, le, toBits, toUnsigned, ofBits}
 use lib.Ieee.Bits.{is-true}
 use lib.Ieee.Fits.{round-is, down-pos}
 use lib.Ieee.Order.{round-mono}
 use lib.Ieee.Scale.{finite}
-use borrow.Author.Tests.{leb-true, ltb-true, le-leb}
+use borrow.Author.Tests.{leb-true}
 use Rattle.arithmetic.specs.Number
-use Rattle.arithmetic.specs.Number.{signOf, within}
+use Rattle.arithmetic.specs.Number.{signOf}
 use Rattle.arithmetic.specs.Exp.{half, minus700, inDomain, highOf, cutting}
 use Rattle.arithmetic.proofs.Order.{left, right, le-is, clash, and-true, lt-then-le, le-then-lt}
 use Rattle.arithmetic.proofs.Within.{within→finite}

@@ -1,17 +1,16 @@
 -- The order of finite values, once for every layer: total, transitive, and blind to a zero's sign. Tests are stated as `≡ true` and `≡ false`, as the code's branches give them.
 -- A finite value is (plus − minus) / den, one of plus and minus being 0; so both comparisons are comparisons of whole numbers, at which `omega` goes on.
-use mathlib.Core.Path.{_≡_, refl, sym, ap, _∙_, subst}
+use mathlib.Core.Path.{_≡_, refl, sym, _∙_}
 use mathlib.Core.Logic.{_⊎_, inl, inr}
-use mathlib.Core.Bool.{Bool, true, false, not, _&&_, _||_, cond}
+use mathlib.Core.Bool.{Bool, true, false, _&&_, _||_}
 use Prim.Native.Nat.{ℕ, _+_, _*_, _≤_, _<_}
 use native.Mathlib.Nat.{add-comm, mul-comm, mul-assoc, mul-left-comm, add-mul, mul-le-mul-right, le-of-mul-le-mul-right, add-zero, zero-add, zero-mul, le-refl, le-antisymm, eq-or-lt-of-le}
 use native.Mathlib.Omega.{arith}
 use lib.Dec.{T, ltb, leb, eqb}
-use lib.IntN.{ℤ, pos}
 use lib.Ieee.{Float, nan, inf, fin, up, down, lt, eq, le}
 use lib.Ieee.Scale.{finite}
 use lib.Ieee.Fits.{down-pos}
-use borrow.Author.Tests.{leb-true, leb-false, le-leb, lt-leb, ltb-true, ltb-false, lt-ltb, le-ltb, eqb-true, eqb-false, eq-eqb, ne-eqb}
+use borrow.Author.Tests.{leb-true, le-leb, ltb-true, ltb-false, lt-ltb, le-ltb, eqb-true, eq-eqb}
 
 abbrev pub plus : Float → ℕ
 plus nan = 0
@@ -49,10 +48,6 @@ and-true false q h = (h, elim-false h)
   where
     elim-false : false ≡ true → q ≡ true
     elim-false e = cc
-
-pub or-false : (p q : Bool) → p || q ≡ false → (p ≡ false) × (q ≡ false)
-or-false true q h = (h, cc)
-or-false false q h = (refl, h)
 
 pub or-true : (p q : Bool) → p || q ≡ true → (p ≡ true) ⊎ (q ≡ true)
 or-true true q h = inl refl
@@ -137,12 +132,6 @@ module _ (x y : Float) (p : T (finite x)) (q : T (finite y)) where
   pub le→not-lt : le y x ≡ true → lt x y ≡ false
   le→not-lt h = lt-is x y p q ∙ le-ltb (left x y) (right x y) (leb-true (left y x) (right y x) (sym (le-is y x q p) ∙ h))
 
-  pub not-le→lt : le y x ≡ false → lt x y ≡ true
-  not-le→lt h = lt-is x y p q ∙ lt-ltb (left x y) (right x y) (leb-false (left y x) (right y x) (sym (le-is y x q p) ∙ h))
-
-  pub lt→not-le : lt x y ≡ true → le y x ≡ false
-  lt→not-le h = le-is y x q p ∙ lt-leb (left y x) (right y x) (ltb-true (left x y) (right x y) (sym (lt-is x y p q) ∙ h))
-
 pub lt→le : (x y : Float) → lt x y ≡ true → le x y ≡ true
 unfolding le
 lt→le x y h = rw h refl
@@ -153,9 +142,6 @@ eq→le x y h = rw h (or-yes (lt x y))
 
 pub le-self : (x : Float) → T (finite x) → le x x ≡ true
 le-self x p = le-is x x p p ∙ le-leb (left x x) (right x x) (le-refl (left x x))
-
-pub lt-self : (x : Float) → T (finite x) → lt x x ≡ false
-lt-self x p = le→not-lt x x p p (le-self x p)
 
 -- (a − a') / d ≤ (b − b') / e ≤ (c − c') / f
 through : (a a' d b b' e c c' f : ℕ) → 0 < e → a * e + b' * d ≤ b * d + a' * e → b * f + c' * e ≤ c * e + b' * f → a * f + c' * d ≤ c * d + a' * f

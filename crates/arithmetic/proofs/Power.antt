@@ -1,12 +1,12 @@
 -- 2 to the −n by its bit pattern: the exponent's field alone, 1023 − n.
-use mathlib.Core.Path.{_≡_, refl, sym, ap, _∙_, subst}
-use mathlib.Core.Bool.{Bool, true, false, cond}
-use Prim.Native.Nat.{ℕ, zero, suc, _+_, _-_, _*_, _/_, _%_, _^_, _≤_, _<_}
+use mathlib.Core.Path.{_≡_, refl, ap, _∙_}
+use mathlib.Core.Bool.{false}
+use Prim.Native.Nat.{ℕ, zero, suc, _+_, _-_, _*_, _^_, _≤_, _<_}
 use native.Mathlib.Nat.{mul-div-cancel, mul-mod-left, mod-eq-of-lt}
 use native.Mathlib.Omega.{arith}
-use lib.Dec.{leb, eqb, lit<}
-use lib.IntN.{ℤ, pos, negsuc}
-use lib.Ieee.{Float, fin, binary64, minus, odd, ofFields, ofBits, isNan, nanBits}
+use lib.Dec.{lit<}
+use lib.IntN.{ℤ, negsuc}
+use lib.Ieee.{fin, binary64, minus, ofFields, ofBits, nanBits}
 use lib.Ieee.Bits.{nanBits-above}
 use borrow.Author.Tests.{lt-leb, le-ltb, ne-eqb}
 use Rattle.arithmetic.specs.Exp.{powerOf}

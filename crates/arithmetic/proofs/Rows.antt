@@ -2,7 +2,7 @@
 use mathlib.Core.Path.{_≡_, refl}
 use mathlib.Core.Bool.{true, false}
 use mathlib.Core.List.{[], _∷_}
-use lib.Ieee.{Float, round, add, sub, mul, div, le, neg, ofInt, ofBits, toBits, toUnsigned}
+use lib.Ieee.{Float, add, sub, mul, div, le, neg, ofInt, ofBits, toBits, toUnsigned}
 use Rattle.arithmetic.specs.Number.{bits}
 use Rattle.arithmetic.specs.Reply.{finished, refused, float}
 use Rattle.arithmetic.specs.Exp.{inDomain, expOf, expReply}

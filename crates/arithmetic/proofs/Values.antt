@@ -1,11 +1,10 @@
 -- Values that are not negative, each by any fraction a / c that it equals (`HasValue x false a c`): their order is the fractions', and a sum is the fractions' sum rounded.
-use mathlib.Core.Path.{_≡_, refl, sym, ap, _∙_, subst}
-use mathlib.Core.Bool.{Bool, true, false, true≢false}
-use Prim.Native.Nat.{ℕ, _+_, _*_, _≤_, _<_}
+use mathlib.Core.Path.{_≡_, refl, sym, ap, _∙_}
+use mathlib.Core.Bool.{true, false, true≢false}
+use Prim.Native.Nat.{ℕ, _+_, _*_, _<_}
 use native.Mathlib.Nat.{add-mul, mul-comm, mul-assoc, mul-left-comm, mul-pos, not-le-of-lt, lt-of-not-le}
 use native.Mathlib.Omega.{arith}
-use lib.Dec.{T, ltb}
-use lib.IntN.{ℤ}
+use lib.Dec.{ltb}
 use lib.Ieee.{Float, nan, inf, fin, Format, up, down, lt, add, round}
 use lib.Ieee.Fits.{down-pos}
 use lib.Ieee.Exact.{HasValue}

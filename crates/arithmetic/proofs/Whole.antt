@@ -1,17 +1,17 @@
 -- `round` and `ceil`: the whole part of a value above zero, and what lies past it.
 use mathlib.Core.Path.{_≡_, refl, sym, ap, _∙_, subst}
-use mathlib.Core.Bool.{Bool, true, false, not, _&&_, cond}
-use Prim.Native.Nat.{ℕ, zero, suc, _+_, _-_, _*_, _/_, _%_, _^_, _≤_, _<_, min}
-use native.Mathlib.Nat.{mul-one, one-mul, mul-assoc, mul-comm, mul-pos, lt-trans, lt-of-lt-of-le, div-lt-iff-lt-mul, le-div-iff-mul-le, div-mul-le-self, lt-div-mul-add, div-eq-of-lt-le, div-eq-of-lt, div-one, zero-mul, mul-left-comm, add-mul, pow-suc}
+use mathlib.Core.Bool.{Bool, true, false, _&&_}
+use Prim.Native.Nat.{ℕ, zero, suc, _+_, _*_, _/_, _%_, _^_, _≤_, _<_, min}
+use native.Mathlib.Nat.{mul-one, one-mul, mul-assoc, lt-trans, div-lt-iff-lt-mul, le-div-iff-mul-le, div-mul-le-self, lt-div-mul-add, div-eq-of-lt-le, div-eq-of-lt, div-one, zero-mul, mul-left-comm, add-mul, pow-suc}
 use native.Mathlib.Omega.{arith}
-use lib.Dec.{T, leb, ltb, eqb, lit<, lit≤, ltb→lt, lt→ltb}
-use lib.Pow.{pow-pos, shl-lt, pow-lt, pow-mono}
+use lib.Dec.{T, leb, ltb, eqb, lit<, lt→ltb}
+use lib.Pow.{pow-pos, shl-lt, pow-lt}
 use lib.IntN.{ℤ, pos, negsuc}
-use lib.Ieee.{Float, nan, inf, fin, binary64, up, down, lt, add, round, fits, ofInt, toUnsigned}
-use lib.Ieee.Fits.{up-pos, down-pos, and-l, and-r}
+use lib.Ieee.{Float, nan, inf, fin, binary64, up, down, lt, add, fits, ofInt, toUnsigned}
+use lib.Ieee.Fits.{down-pos}
 use lib.Ieee.Exact.{HasValue, round-exact}
 use lib.Ieee.Back.{round-whole}
-use borrow.Author.Tests.{ltb-true, ltb-false, lt-ltb, le-ltb}
+use borrow.Author.Tests.{ltb-true, ltb-false}
 use Rattle.arithmetic.specs.Number
 use Rattle.arithmetic.specs.Number.{largest, wholeBy, halvesUp, upward}
 use Rattle.arithmetic.specs.Part.{Rule, Parted, allWhole}

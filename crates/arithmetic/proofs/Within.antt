@@ -1,13 +1,12 @@
 -- Values within two ends: what is clamped lies within them, and what lies within them is left alone. Sanitizing leaves a finite value alone. A gain lies within 0 and 1.
-use mathlib.Core.Path.{_≡_, refl, sym, ap, _∙_, subst}
-use mathlib.Core.Bool.{Bool, true, false, _&&_, _||_, cond}
+use mathlib.Core.Path.{_≡_, refl, sym}
+use mathlib.Core.Bool.{Bool, true, false}
 use lib.Dec.{T}
-use lib.IntN.{pos}
-use lib.Ieee.{Float, nan, inf, fin, lt, eq, le, isNan}
+use lib.Ieee.{Float, nan, inf, fin, lt, le}
 use lib.Ieee.Scale.{finite}
-use Rattle.arithmetic.specs.Number.{zero, one, within, notBelow, notAbove, clampOf, minOf, maxOf}
+use Rattle.arithmetic.specs.Number.{zero, one, within, notAbove, clampOf}
 use Rattle.arithmetic.specs.Sanitize.{finiteOrZero, unitGain}
-use Rattle.arithmetic.proofs.Order.{and-true, clash, not-lt→le, le→not-lt, lt→le, le-self}
+use Rattle.arithmetic.proofs.Order.{and-true, clash, not-lt→le, le→not-lt, le-self}
 
 -- ---- what lies between finite ends is finite
 above-low : (lo : Float) (s : Bool) → T (finite lo) → le lo (inf s) ≡ true → s ≡ false
@@ -75,28 +74,3 @@ gain-within x = clamp-within zero one tt tt (finiteOrZero x) (sanitized-finite x
 
 pub unit→finite : (x : Float) → within zero one x ≡ true → T (finite x)
 unit→finite x h = within→finite zero one tt tt x h
-
-pub gain-same : (x : Float) → within zero one x ≡ true → unitGain x ≡ x
-gain-same x h = rw (sanitized-same x (unit→finite x h)) (clamp-inside zero one tt tt x h)
-
--- ---- the smaller and the larger of two finite values
-pub finite-not-nan : (x : Float) → T (finite x) → isNan x ≡ false
-unfolding isNan
-finite-not-nan nan p = absurd p
-finite-not-nan (inf s) p = refl
-finite-not-nan (fin s m e) p = refl
-
-module _ (a b : Float) (p : T (finite a)) (q : T (finite b)) where
-  pub min-below : (le (minOf a b) a ≡ true) × (le (minOf a b) b ≡ true)
-  min-below = go (lt b a) refl
-    where
-      go : (t : Bool) → lt b a ≡ t → (le (minOf a b) a ≡ true) × (le (minOf a b) b ≡ true)
-      go true e = (rw e (lt→le b a e), rw e (le-self b q))
-      go false e = (simp (e, finite-not-nan a p, le-self a p), simp (e, finite-not-nan a p, not-lt→le b a q p e))
-
-  pub max-above : (le a (maxOf a b) ≡ true) × (le b (maxOf a b) ≡ true)
-  max-above = go (lt a b) refl
-    where
-      go : (t : Bool) → lt a b ≡ t → (le a (maxOf a b) ≡ true) × (le b (maxOf a b) ≡ true)
-      go true e = (rw e (lt→le a b e), rw e (le-self b q))
-      go false e = (simp (e, finite-not-nan a p, le-self a p), simp (e, finite-not-nan a p, not-lt→le a b p q e))

@@ -1,6 +1,6 @@
 -- Module 2 of document 01, `math.rs`: `exp` alone, by the steps of musl's e_exp.c, for −700 to 0. Each operation is rounded, in the order written.
 use Prim.Native.Nat.{ℕ, _/_, _%_, _^_}
-use mathlib.Core.Bool.{Bool, true, false, cond, _&&_}
+use mathlib.Core.Bool.{Bool, false, cond, _&&_}
 use mathlib.Core.List.{[], _∷_}
 use lib.Dec.{leb, ltb}
 use lib.IntN.{pos}

@@ -1,9 +1,9 @@
 -- The small helpers that document 01 names in place of Rust's methods on f64, for every f64: NaN, infinities, both zeros and subnormals.
 use Prim.Native.Nat.{ℕ, _+_, _-_, _*_, _/_, _^_, min}
-use mathlib.Core.Bool.{Bool, true, false, cond, _&&_, _||_}
+use mathlib.Core.Bool.{Bool, false, cond, _&&_, _||_}
 use lib.Dec.{eqb}
 use lib.IntN.{pos}
-use lib.Ieee.{Float, nan, inf, fin, binary64, up, down, lt, le, isNan, ofBits, toBits}
+use lib.Ieee.{Float, nan, inf, fin, binary64, up, down, mul, lt, le, isNan, ofInt, ofBits, toBits}
 
 -- the f64 that a bit pattern stands for
 abbrev pub bits : ℕ → Float
@@ -14,6 +14,14 @@ zero = fin false 0 (pos 0)
 
 abbrev pub one : Float
 one = fin false 1 (pos 0)
+
+-- 1e-3
+abbrev pub thousandth : Float
+thousandth = bits 0x3f50_624d_d2f1_a9fc
+
+-- milliseconds as frames: (ms × 1e-3) × rate
+abbrev pub framesOfMs : Float → ℕ → Float
+framesOfMs ms rate = mul binary64 (mul binary64 ms thousandth) (ofInt binary64 (pos rate))
 
 -- Rust's `abs`: the sign is cleared, a zero's too
 abbrev pub absOf : Float → Float

@@ -6,19 +6,18 @@ use Prim.Native.Nat.{ℕ, zero, suc, _+_, _≤_, _<_}
 use native.Mathlib.Nat.{add-zero, zero-add, add-suc, suc-add}
 use native.Mathlib.Omega.{arith}
 use lib.Dec.{T, eqb, leb, ltb}
-use lib.ListN.{length, set, take, length-take}
+use lib.ListN.{length, take, length-take}
 use lib.Seq.{getD-take}
-use lib.IntN.{pos}
-use lib.Ieee.{Float, binary64, mul, div, ofInt, lt, eq, isNan, fits}
+use lib.Ieee.{Float, binary64, div, lt, eq, isNan, fits}
 use lib.Ieee.Scale.{finite}
 use lib.Ieee.Fits.{cond-fits, div-fits}
-use borrow.Author.Tests.{eq-eqb, ne-eqb, eqb-true, ltb-false, le-leb}
-use Rattle.arithmetic.specs.Number.{bits, one, within, sameValue}
-use Rattle.arithmetic.specs.Reply.{Reply, finished, refused}
+use borrow.Author.Tests.{eq-eqb, eqb-true, ltb-false, le-leb}
+use Rattle.arithmetic.specs.Number.{bits, one, framesOfMs, within, sameValue}
+use Rattle.arithmetic.specs.Reply.{Reply, refused}
 use Rattle.arithmetic.proofs.Order.{and-true, and-yes, clash}
 use Rattle.bank.specs.Param.{faultOf, faultReply, rangeHolds, timeHolds}
-use Rattle.bank.specs.Smoother.{milli, changed, ranged, infoOf, derived, slotPrepared, smootherOf, stepsOf, coeffOf, targetSet, aimed, immediateSet, resetOne, stepped}
-use Rattle.bank.specs.Bank.{settled, unset, firstFault, declaredReply, slotsOf, setUpOf, allPrepared, prepared, withSlots, slotAt, firstMapped, slotMapped, allChanged, oneChanged, callReply, callOf, turnReply, turnOf, setTargetOf, setImmediateOf, stepOf, resetOf}
+use Rattle.bank.specs.Smoother.{changed, ranged, infoOf, derived, slotPrepared, smootherOf, stepsOf, coeffOf, targetSet, aimed, stepped}
+use Rattle.bank.specs.Bank.{settled, unset, firstFault, declaredReply, slotsOf, setUpOf, allPrepared, prepared, withSlots, slotAt, firstMapped, slotMapped, allChanged, oneChanged, callReply, callOf, turnReply, turnOf, setTargetOf, stepOf}
 use Rattle.bank.specs.declared.param.ParamInfo.{ParamInfo}
 use Rattle.bank.specs.declared.param.Smoothing.{Smoothing}
 use Rattle.bank.specs.declared.param.Smoothing.the-variants.{Step, Linear, OnePole}
@@ -36,9 +35,9 @@ one-fits = tt
 pub steps-fit : (ms : Float) (rate : ℕ) → T (fits binary64 (stepsOf ms rate))
 unfolding stepsOf
 steps-fit ms rate =
-    let samples = mul binary64 (mul binary64 ms milli) (ofInt binary64 (pos rate)) in
-    let n = div binary64 samples (bits 0x4040_0000_0000_0000) in
-    cond-fits binary64 (lt n one || isNan n) one n one-fits (div-fits binary64 samples (bits 0x4040_0000_0000_0000))
+    let frames = framesOfMs ms rate in
+    let n = div binary64 frames (bits 0x4040_0000_0000_0000) in
+    cond-fits binary64 (lt n one || isNan n) one n one-fits (div-fits binary64 frames (bits 0x4040_0000_0000_0000))
 
 -- ---- one smoother: 18 does not look at value, target, updates left and step size
 module _ (rate index : ℕ) (s : Smoother) where
@@ -48,14 +47,6 @@ module _ (rate index : ℕ) (s : Smoother) where
 
   step-slot : slotPrepared rate index (stepped s) ≡ slotPrepared rate index s
   step-slot = let m = stepped-is s in ap (slotPrepared rate index) (m .is) ∙ changed-prepared _ (s .target) (m .left) (s .«step_delta»)
-
-  reset-slot : slotPrepared rate index (resetOne s) ≡ slotPrepared rate index s
-  unfolding resetOne
-  reset-slot = changed-prepared (s .default) (s .default) 0 (s .«step_delta»)
-
-  immediate-slot : (v : Float) → slotPrepared rate index (immediateSet v s) ≡ slotPrepared rate index s
-  unfolding immediateSet
-  immediate-slot v = changed-prepared (ranged s v) (ranged s v) 0 (s .«step_delta»)
 
   aimed-slot : (k : Smoothing) (t : Float) → slotPrepared rate index (aimed k t s) ≡ slotPrepared rate index s
   aimed-slot Step t = changed-prepared (s .cur) t (s .«updates_remaining») (s .«step_delta»)
@@ -111,14 +102,8 @@ module _ (b : SmootherBank) where
   pub step-prepared : prepared (stepOf b .bank) ≡ prepared b
   step-prepared = turn-prepared stepped (step-slot (b .rate))
 
-  pub reset-prepared : prepared (resetOf b .bank) ≡ prepared b
-  reset-prepared = turn-prepared resetOne (reset-slot (b .rate))
-
   pub target-prepared : (id : ℕ) (v : Float) → prepared (setTargetOf b id v .bank) ≡ prepared b
   target-prepared id v = call-prepared (targetSet v) (λ i s. target-slot (b .rate) i s v) id v
-
-  pub immediate-prepared : (id : ℕ) (v : Float) → prepared (setImmediateOf b id v .bank) ≡ prepared b
-  immediate-prepared id v = call-prepared (immediateSet v) (λ i s. immediate-slot (b .rate) i s v) id v
 
 -- ---- setup
 module _ (rate : ℕ) where
@@ -156,11 +141,7 @@ pub set-up-prepared : (ps : List ParamInfo) (n rate : ℕ) → setUpOf ps n rate
 unfolding setUpOf prepared
 set-up-prepared ps n rate h = let d = declared-finished ps n h in rw (eq-eqb (declaredReply ps n .number) 0 h, le-leb n 8 (d .0), all-new rate 0 n ps (d .1)) refl
 
--- a refused one the bank that was never set up, which every later call refuses
-pub set-up-unset : (ps : List ParamInfo) (n rate : ℕ) → (setUpOf ps n rate .reply .number ≡ 0 → ⊥) → setUpOf ps n rate .bank ≡ unset
-unfolding setUpOf
-set-up-unset ps n rate h = rw (ne-eqb (declaredReply ps n .number) 0 h) refl
-
+-- every call refuses the bank that was never set up
 pub unset-refused : prepared unset ≡ false
 unfolding prepared
 unset-refused = refl

@@ -15,7 +15,7 @@ use Rattle.arithmetic.proofs.Order.{left, right, eq-is, le-is, clash, and-true,
 use Rattle.arithmetic.proofs.Within.{within→finite, clamp-inside, clamp-within, sanitized-finite, sanitized-same}
 use Rattle.bank.specs.Param.{rangeHolds}
 use Rattle.bank.specs.Smoother.{changed, ranged, targetSet, linearMoved, movedBy, moved, kept, stepped, after}
-use Rattle.bank.proofs.One.{target-kept, target-linear, linear-still, linear-lands, linear-goes}
+use Rattle.bank.proofs.One.{target-linear, linear-still, linear-lands, linear-goes}
 use Rattle.bank.specs.declared.param.Smoothing.{Smoothing}
 use Rattle.bank.specs.declared.param.Smoothing.the-variants.{Step, Linear, OnePole}
 use Rattle.bank.specs.declared.smoother.Smoother.{Smoother}
@@ -161,10 +161,6 @@ pub reaches : (n : ℕ) (s : Smoother) → Ramp s → s .«updates_remaining» �
 reaches zero s r h = first-update zero s r h (λ k. absurd (omega arith))
 reaches (suc n) s r h =
     first-update (suc n) s r h (λ k. reaches n (changed (gone s r) (s .target) (s .«updates_remaining» - 1) (s .«step_delta») s) (on s r (gone s r) (s .«updates_remaining» - 1)) (omega arith))
-
--- a target that equals the present one, as IEEE compares, restarts nothing and keeps every bit
-pub equal-target : (s : Smoother) (v : Float) → eq (ranged s v) (s .target) ≡ true → targetSet v s ≡ s
-equal-target s v h = sym (target-kept v (ranged s v) s refl h)
 
 -- at least one step is at least one update
 ceil-least : (x : Float) → le one x ≡ true → 1 ≤ ceilOf x

@@ -1,24 +1,20 @@
 -- −1 dB to −4 dB at 48,000, computed: the limiter's threshold, Linear, 5 ms, −30 to 0, is exactly −4 after 8 updates and not after 7.
 use mathlib.Core.Path.{_≡_, refl}
-use mathlib.Core.Bool.{true, false}
+use mathlib.Core.Bool.{false}
 use mathlib.Core.List.{List, [], _∷_}
 use lib.Ieee.{Float, eq, lt, le, isNan, ofBits, toBits, add, sub, mul, div, ofInt}
 use Rattle.arithmetic.specs.Number.{bits, zero}
 use Rattle.arithmetic.specs.Reply.{finished, float}
 use Rattle.bank.specs.Param.{faultOf}
-use Rattle.bank.specs.Smoother.{ranged, stepsOf, coeffOf, smootherOf, derived, slotPrepared, targetSet, stepped}
+use Rattle.bank.specs.Smoother.{stepsOf, coeffOf, smootherOf, derived, slotPrepared, targetSet, stepped}
 use Rattle.bank.specs.Bank.{firstFault, declaredReply, slotsOf, setUpOf, allPrepared, prepared, firstMapped, callReply, callOf, turnReply, turnOf, setTargetOf, valueOf, bankAfter}
 use Rattle.bank.specs.declared.param.ParamInfo.{ParamInfo}
 use Rattle.bank.specs.declared.param.Smoothing.the-variants.{Linear}
 use Rattle.bank.specs.declared.smoother_bank.SmootherBank.{SmootherBank}
-use Rattle.bank.proofs.Ramp.{equal-target}
 
 -- the threshold at −1 dB; the other places of the eight are not read
 abbrev pub threshold : ParamInfo
 threshold = record { id = 0; low = bits 0xc03e_0000_0000_0000; high = zero; default = bits 0xbff0_0000_0000_0000; «smoothing_ms» = bits 0x4014_0000_0000_0000; smoothing = Linear }
-
-abbrev pub atZero : ParamInfo
-atZero = record { id = 0; low = bits 0xc03e_0000_0000_0000; high = zero; default = zero; «smoothing_ms» = bits 0x4014_0000_0000_0000; smoothing = Linear }
 
 abbrev pub declarations : List ParamInfo
 declarations = threshold ∷ threshold ∷ threshold ∷ threshold ∷ threshold ∷ threshold ∷ threshold ∷ threshold ∷ []
@@ -39,11 +35,3 @@ pub minus-one-to-minus-four :
     (valueOf (bankAfter 8 aimedBank) 0 ≡ finished (float minus4 ∷ [])) × (valueOf (bankAfter 7 aimedBank) 0 ≡ finished (float afterSeven ∷ [])) × (eq afterSeven minus4 ≡ false)
 unfolding aimedBank setUpOf declaredReply firstFault faultOf slotsOf smootherOf stepsOf coeffOf callOf callReply prepared allPrepared slotPrepared derived targetSet bankAfter turnOf turnReply firstMapped stepped valueOf ofBits toBits le lt eq isNan add sub mul div ofInt
 minus-one-to-minus-four = (refl, refl, refl)
-
--- the threshold's smoother at 0: a target of minus zero equals it, restarts nothing and leaves the old bits
-pub minus-zero-kept : targetSet (bits 0x8000_0000_0000_0000) (smootherOf 48000 atZero) ≡ smootherOf 48000 atZero
-unfolding smootherOf
-minus-zero-kept = equal-target (smootherOf 48000 atZero) (bits 0x8000_0000_0000_0000) equal
-  where
-    equal : eq (ranged (smootherOf 48000 atZero) (bits 0x8000_0000_0000_0000)) zero ≡ true
-    equal = unfold ofBits lt eq in refl

@@ -1,10 +1,10 @@
 -- A prepared bank over its updates, parameter by parameter: what holds of one smoother holds of each slot below the count.
 use mathlib.Core.Path.{_≡_, refl, ap, ap₂, _∙_}
-use mathlib.Core.Bool.{Bool, true, false, cond}
+use mathlib.Core.Bool.{true, false}
 use mathlib.Core.List.{List, [], _∷_}
 use Prim.Native.Nat.{ℕ, zero, suc, _≤_, _<_}
 use native.Mathlib.Omega.{arith}
-use lib.Dec.{T, eqb}
+use lib.Dec.{T}
 use lib.ListN.{length, length-set}
 use lib.Seq.{getD-set-same}
 use lib.Ieee.{Float, binary64, eq, le, fits}
@@ -33,22 +33,6 @@ unfolding firstMapped
 mapped-length f zero ss = refl
 mapped-length f (suc n) [] = refl
 mapped-length f (suc n) (s ∷ ss) = ap suc (mapped-length f n ss)
-
-mapped-past-count : (f : Smoother → Smoother) (i n : ℕ) (ss : List Smoother) → n ≤ i → slotAt i (firstMapped f n ss) ≡ slotAt i ss
-unfolding firstMapped
-mapped-past-count f i zero ss h = refl
-mapped-past-count f i (suc n) [] h = refl
-mapped-past-count f zero (suc n) (s ∷ ss) h = absurd (omega arith)
-mapped-past-count f (suc i) (suc n) (s ∷ ss) h = mapped-past-count f i n ss (omega arith)
-
--- a slot at or past the count is carried
-pub carried : (f : Smoother → Smoother) (b : SmootherBank) (i : ℕ) → b .count ≤ i → slotAt i (turnOf f b .bank .smoothers) ≡ slotAt i (b .smoothers)
-unfolding turnOf
-carried f b i h = go (eqb (turnReply b .number) 0)
-  where
-    go : (t : Bool) → slotAt i (cond t (allChanged f b) b .smoothers) ≡ slotAt i (b .smoothers)
-    go true = mapped-past-count f i (b .count) (b .smoothers) h
-    go false = refl
 
 -- a parameter of a prepared bank: its index is below the count, and there is a slot for it
 pub record Known (b : SmootherBank) (i : ℕ) : Type 0 where

@@ -18,12 +18,12 @@ use Rattle.bank.specs.declared.smoother_bank.BankParamSet.{BankParamSet}
 use Rattle.bank.specs.declared.smoother_bank.BankStepped.{BankStepped}
 
 -- what a call leaves: its reply and the bank
-pub record Outcome : Type 0 where
+pub record BankLeft : Type 0 where
   pub reply : Reply
   pub bank : SmootherBank
 
 -- the bank changes where the work is finished, and nowhere else
-abbrev pub settled : Reply → SmootherBank → SmootherBank → Outcome
+abbrev pub settled : Reply → SmootherBank → SmootherBank → BankLeft
 settled reply new old = record { reply = reply; bank = cond (eqb (reply .number) 0) new old }
 
 -- ---- setup
@@ -51,7 +51,7 @@ unset = record {
   ready = false;
 }
 
-unfoldable pub setUpOf : List ParamInfo → ℕ → ℕ → Outcome
+unfoldable pub setUpOf : List ParamInfo → ℕ → ℕ → BankLeft
 setUpOf params n rate = settled (declaredReply params n) (record { smoothers = slotsOf rate n params; count = n; rate = rate; ready = true }) unset
 
 -- ---- 18
@@ -95,26 +95,26 @@ callReply b id v =
     (cond (not (finite v)) (refused 23 (count id ∷ float v ∷ []))
     (cond (leb (b .count) id) (refused 24 []) (finished [])))
 
-unfoldable pub callOf : (Smoother → Smoother) → SmootherBank → ℕ → Float → Outcome
+unfoldable pub callOf : (Smoother → Smoother) → SmootherBank → ℕ → Float → BankLeft
 callOf f b id v = settled (callReply b id v) (oneChanged f id b) b
 
-abbrev pub setTargetOf : SmootherBank → ℕ → Float → Outcome
+abbrev pub setTargetOf : SmootherBank → ℕ → Float → BankLeft
 setTargetOf b id v = callOf (targetSet v) b id v
 
-abbrev pub setImmediateOf : SmootherBank → ℕ → Float → Outcome
+abbrev pub setImmediateOf : SmootherBank → ℕ → Float → BankLeft
 setImmediateOf b id v = callOf (immediateSet v) b id v
 
 -- a call for the whole bank: 18
 unfoldable pub turnReply : SmootherBank → Reply
 turnReply b = cond (not (prepared b)) (refused 18 []) (finished [])
 
-unfoldable pub turnOf : (Smoother → Smoother) → SmootherBank → Outcome
+unfoldable pub turnOf : (Smoother → Smoother) → SmootherBank → BankLeft
 turnOf f b = settled (turnReply b) (allChanged f b) b
 
-abbrev pub stepOf : SmootherBank → Outcome
+abbrev pub stepOf : SmootherBank → BankLeft
 stepOf b = turnOf stepped b
 
-abbrev pub resetOf : SmootherBank → Outcome
+abbrev pub resetOf : SmootherBank → BankLeft
 resetOf b = turnOf resetOne b
 
 -- 18, then 24; a reading changes nothing
@@ -127,11 +127,11 @@ bankAfter zero b = b
 bankAfter (suc n) b = bankAfter n (stepOf b .bank)
 
 -- ---- what the functions answer
-abbrev pub setUpAt : BankSetUp → Outcome
+abbrev pub setUpAt : BankSetUp → BankLeft
 setUpAt r = record { reply = setUpReply (r .answer); bank = r .bank }
 
-abbrev pub paramSetAt : BankParamSet → Outcome
+abbrev pub paramSetAt : BankParamSet → BankLeft
 paramSetAt r = record { reply = paramSetReply (r .answer); bank = r .bank }
 
-abbrev pub bankSteppedAt : BankStepped → Outcome
+abbrev pub bankSteppedAt : BankStepped → BankLeft
 bankSteppedAt r = record { reply = bankStepReply (r .answer); bank = r .bank }

@@ -2,9 +2,8 @@
 use Prim.Native.Nat.{ℕ, suc, _-_}
 use mathlib.Core.Bool.{Bool, cond, _&&_}
 use lib.Dec.{eqb, leb}
-use lib.IntN.{pos}
-use lib.Ieee.{Float, binary64, add, sub, mul, div, eq, ofInt}
-use Rattle.arithmetic.specs.Number.{bits, zero, one, absOf, maxOf, clampOf, copysignOf, ceilOf, sameValue}
+use lib.Ieee.{Float, binary64, add, sub, mul, div, eq}
+use Rattle.arithmetic.specs.Number.{bits, zero, one, framesOfMs, absOf, maxOf, clampOf, copysignOf, ceilOf, sameValue}
 use Rattle.arithmetic.specs.Sanitize.{finiteOrZero}
 use Rattle.arithmetic.specs.Exp.{expOf}
 use Rattle.bank.specs.Param.{faultOf}
@@ -15,13 +14,9 @@ use Rattle.bank.specs.declared.smoother.Smoother.{Smoother}
 use Rattle.bank.specs.declared.smoother.Change.{Change}
 
 -- ---- derived values
--- 1e-3
-abbrev pub milli : Float
-milli = bits 0x3f50_624d_d2f1_a9fc
-
 -- steps: ((smoothing time × 1e-3) × rate) / 32, at least 1
 unfoldable pub stepsOf : Float → ℕ → Float
-stepsOf ms rate = maxOf (div binary64 (mul binary64 (mul binary64 ms milli) (ofInt binary64 (pos rate))) (bits 0x4040_0000_0000_0000)) one
+stepsOf ms rate = maxOf (div binary64 (framesOfMs ms rate) (bits 0x4040_0000_0000_0000)) one
 
 -- coefficient: 1 − exp(−1 / steps) for OnePole, else 1
 unfoldable pub coeffOf : Smoothing → Float → Float

@@ -1,13 +1,13 @@
 -- A gain step keeps the envelope in order, and its gain lies within 0 and 1.
-use mathlib.Core.Path.{_≡_, refl, sym, ap, _∙_, subst}
-use mathlib.Core.Bool.{Bool, true, false, cond, _&&_}
+use mathlib.Core.Path.{_≡_, refl, sym, _∙_}
+use mathlib.Core.Bool.{Bool, true, false, cond}
 use mathlib.Core.List.{List, [], _∷_}
 use Prim.Native.Nat.{ℕ, zero, suc, _+_, _≤_, _<_}
 use native.Mathlib.Omega.{arith}
 use lib.Arith.{lt-of-le-ne}
-use lib.Dec.{eqb, ltb}
+use lib.Dec.{eqb}
 use lib.ListN.{length, set, length-set}
-use lib.Ieee.{Float, nan}
+use lib.Ieee.{Float}
 use borrow.Author.Tests.{eq-eqb, eqb-true, eqb-false, lt-ltb}
 use Rattle.arithmetic.specs.Number
 use Rattle.arithmetic.specs.Number.{one, within}
@@ -16,14 +16,14 @@ use Rattle.arithmetic.proofs.Order.{and-true}
 use Rattle.arithmetic.proofs.Within.{gain-within}
 use Rattle.keeper.specs.Ring.{Entry, frontOf, ringStep, dropBack, dropFront}
 use Rattle.keeper.specs.InOrder.{unitMinima, mostFrames}
-use Rattle.keeper.specs.Keeper.{Keeping, Stepped, steppedOf, Ready, entriesOf, ordered}
+use Rattle.keeper.specs.Keeper.{Keeping, Stepped, steppedOf, Ready, entriesOf}
 use Rattle.keeper.proofs.Step.{ring-after, order-after, order-of, ready-after}
 use Rattle.envelope.specs.Row.{Rowed, allUnit, tallyOf, nextPos, pushed, rowInOrder, newestFirst}
 use Rattle.envelope.specs.Mean.{meanOf}
-use Rattle.envelope.specs.Step.{Enveloped, GainStepped, enveloped, gainStepped, gainStepOf, EnvReady}
+use Rattle.envelope.specs.Step.{Enveloped, enveloped, gainStepped, gainStepOf, EnvReady}
 use Rattle.envelope.specs.Follow.{followed, moved}
 use Rattle.envelope.specs.declared.row.AttackRow.{AttackRow}
-use Rattle.envelope.proofs.Tally.{Ordered, ordered as row-ordered}
+use Rattle.envelope.proofs.Tally.{ordered as row-ordered}
 
 -- ---- the floor of a step lies within 0 and 1
 front-unit : (e : Entry) (es : List Entry) → unitMinima (e ∷ es) ≡ true → within Number.zero one (frontOf e es .minimum) ≡ true

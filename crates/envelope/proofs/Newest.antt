@@ -1,16 +1,15 @@
 -- A floor that is pushed comes first, and the row newest first goes on as it was, without its oldest: whatever the ring's position.
 use mathlib.Core.Path.{_≡_, refl, sym, ap, _∙_}
 use mathlib.Core.Bool.{Bool, true, false, cond}
-use mathlib.Core.List.{List, [], _∷_, _++_}
-use Prim.Native.Nat.{ℕ, zero, suc, _+_, _-_, _≤_, _<_}
+use mathlib.Core.List.{List, _∷_, _++_}
+use Prim.Native.Nat.{ℕ, zero, suc, _+_, _-_, _<_}
 use native.Mathlib.Omega.{arith}
-use lib.Arith.{lt-of-le-ne}
 use lib.Dec.{eqb}
-use lib.ListN.{length, getD, set, take, length-set}
+use lib.ListN.{length, set, take, length-set}
 use lib.Seq.{take-append-le, take-append-add, take-all, getD-set-same, getD-set-other}
 use lib.Ieee.{Float, nan}
-use borrow.Author.Tests.{eqb-true, eqb-false}
-use Rattle.envelope.specs.Row.{down, newestFirst, nextPos, pushed}
+use borrow.Author.Tests.{eqb-true}
+use Rattle.envelope.specs.Row.{down, newestFirst, pushed}
 use Rattle.envelope.specs.declared.row.AttackRow.{AttackRow}
 use Rattle.envelope.proofs.Weighted.{length-down}
 

@@ -12,7 +12,7 @@ use Rattle.arithmetic.specs.Number
 use Rattle.arithmetic.specs.Reply.{finished, refused}
 use Rattle.arithmetic.proofs.Order.{and-true}
 use Rattle.keeper.specs.InOrder.{mostFrames, countsInOrder, ringInOrder, inOrder}
-use Rattle.keeper.specs.Keeper.{Keeping, keepingAt, entriesOf, ordered, lookTaken, storesFit, Outcome, freshKeeper, setupOf, Stepped, steppedOf, Ready, finishedStep, stepOf}
+use Rattle.keeper.specs.Keeper.{Keeping, keepingAt, entriesOf, ordered, lookTaken, storesFit, KeeperLeft, freshKeeper, setupOf, Stepped, steppedOf, Ready, finishedStep, stepOf}
 
 pub look-most : (look : ℕ) → lookTaken look ≡ true → look ≤ 4096
 look-most look h = leb-true look 4096 (and-true (leb 11 look) (leb look 4096) h .1)
@@ -48,7 +48,7 @@ module _ (k : Keeping) where
 
 -- ---- setup
 module _ (look : ℕ) (marks : List ℕ) (minima : List Float) where
-  abbrev pub refusedSetup : ℕ → Outcome
+  abbrev pub refusedSetup : ℕ → KeeperLeft
   refusedSetup n = record { reply = refused n []; keeping = keepingAt (freshKeeper 0) marks minima }
 
   pub setup-12 : lookTaken look ≡ false → refusedSetup 12 ≡ setupOf look marks minima
@@ -61,7 +61,7 @@ module _ (look : ℕ) (marks : List ℕ) (minima : List Float) where
 
   pub setup-0 : lookTaken look ≡ true → storesFit look marks minima ≡ true →
       (cleared : List ℕ) (zeros : List Float) → cleared ≡ replicate (length marks) 0 → zeros ≡ replicate (length minima) Number.zero →
-      _≡_ {A = Outcome} (record { reply = finished []; keeping = keepingAt (freshKeeper look) cleared zeros }) (setupOf look marks minima)
+      _≡_ {A = KeeperLeft} (record { reply = finished []; keeping = keepingAt (freshKeeper look) cleared zeros }) (setupOf look marks minima)
   unfolding setupOf
   setup-0 h k cleared zeros p q =
       let f = both-fit look marks minima k in
@@ -69,7 +69,7 @@ module _ (look : ℕ) (marks : List ℕ) (minima : List Float) where
 
 -- ---- step
 module _ (k : Keeping) (x : Float) where
-  abbrev pub refusedStep : ℕ → Outcome
+  abbrev pub refusedStep : ℕ → KeeperLeft
   refusedStep n = record { reply = refused n []; keeping = k }
 
   pub step-12 : lookTaken (k .keeper .look) ≡ false → refusedStep 12 ≡ stepOf k x

@@ -34,7 +34,7 @@ use Rattle.arithmetic.specs.Sanitize.{unitGain}
 use Rattle.arithmetic.specs.Reply.{Reply, finished, refused, count, float}
 use Rattle.arithmetic.proofs.Within.{gain-within, unit→finite}
 use Rattle.keeper.specs.InOrder.{mostFrames, inOrder}
-use Rattle.keeper.specs.Keeper.{Keeping, entriesOf, ordered, lookTaken, storesFit, Outcome, setupOf, steppedOf, Ready, finishedStep, stepOf}
+use Rattle.keeper.specs.Keeper.{Keeping, entriesOf, ordered, lookTaken, storesFit, KeeperLeft, setupOf, steppedOf, Ready, finishedStep, stepOf}
 use Rattle.keeper.specs.Floor.{floorOf}
 use Rattle.keeper.specs.History.{ringAfter, keepingAfter, dropsIn, dropsSince, Start}
 use Rattle.keeper.proofs.Step.{order-is, order-of, ring-after, marks-after, minima-after, order-after, drops-after, look-after, frame-after}
@@ -148,7 +148,7 @@ module _ (k : Keeping) (s : Start k) where
   -- a list of calls as long as one may wish
   finished-more : (x : Float) (xs : List Float) → length xs < mostFrames → After k xs → After k (x ∷ xs)
   finished-more x xs h a =
-      let e : stepOf (keepingAfter k xs) x .keeping ≡ steppedOf (keepingAfter k xs) x .keeping = ap (λ (o : Outcome). o .keeping) (finishes-after x xs h a) in
+      let e : stepOf (keepingAfter k xs) x .keeping ≡ steppedOf (keepingAfter k xs) x .keeping = ap (λ (o : KeeperLeft). o .keeping) (finishes-after x xs h a) in
       record {
         follows =
             subst (λ (q : Keeping). Follows q (map unitGain (counted (x ∷ xs)))) (sym e)
@@ -159,7 +159,7 @@ module _ (k : Keeping) (s : Start k) where
 
   spent-more : (x : Float) (xs : List Float) → mostFrames ≤ length xs → After k xs → After k (x ∷ xs)
   spent-more x xs h a =
-      let e : stepOf (keepingAfter k xs) x .keeping ≡ keepingAfter k xs = ap (λ (o : Outcome). o .keeping) (spent-after x xs h a) in
+      let e : stepOf (keepingAfter k xs) x .keeping ≡ keepingAfter k xs = ap (λ (o : KeeperLeft). o .keeping) (spent-after x xs h a) in
       record {
         follows =
             subst (λ (q : Keeping). Follows q (map unitGain (counted (x ∷ xs)))) (sym e)
@@ -184,7 +184,7 @@ module _ (k : Keeping) (s : Start k) where
   floor-true x xs h =
       let a = after xs in
       let d = steppedOf (keepingAfter k xs) x in
-      subst (λ (o : Outcome). o .reply ≡ finished (float (floorOf (k .keeper .look) (unitGain x) (map unitGain xs)) ∷ count (d .dropped) ∷ count (o .keeping .keeper .len) ∷ [])) (sym (finishes-after x xs h a))
+      subst (λ (o : KeeperLeft). o .reply ≡ finished (float (floorOf (k .keeper .look) (unitGain x) (map unitGain xs)) ∷ count (d .dropped) ∷ count (o .keeping .keeper .len) ∷ [])) (sym (finishes-after x xs h a))
       (ap (λ (v : Float). finished (float v ∷ count (d .dropped) ∷ count (d .keeping .keeper .len) ∷ []))
       (follows-floor (keepingAfter k xs) (map unitGain xs) (all-follow xs h a) x ∙ ap (λ (n : ℕ). floorOf n (unitGain x) (map unitGain xs)) (a .same-look)))
 
@@ -214,7 +214,7 @@ module _ (k : Keeping) (s : Start k) where
   drops-kept [] = rw (s .no-entry, s .no-frame) refl
   drops-kept (x ∷ xs) = go (decLt (length xs) mostFrames) (drops-kept xs)
     where
-      balanced : Outcome → Type 0
+      balanced : KeeperLeft → Type 0
       balanced o = dropsIn (o .reply .values) + dropsSince k xs + o .keeping .keeper .len ≡ o .keeping .keeper .frame
 
       go : Dec (length xs < mostFrames) → dropsSince k xs + keepingAfter k xs .keeper .len ≡ keepingAfter k xs .keeper .frame → balanced (stepOf (keepingAfter k xs) x)
@@ -231,7 +231,7 @@ setup-start look marks minima h = go (lookTaken look) (storesFit look marks mini
     go : (b d : Bool) → lookTaken look ≡ b → storesFit look marks minima ≡ d → Start (setupOf look marks minima .keeping)
     go true true u v =
         let f = both-fit look marks minima v in
-        subst Start (ap (λ (o : Outcome). o .keeping) (setup-0 look marks minima u v (replicate (length marks) 0) (replicate (length minima) Number.zero) refl refl))
+        subst Start (ap (λ (o : KeeperLeft). o .keeping) (setup-0 look marks minima u v (replicate (length marks) 0) (replicate (length minima) Number.zero) refl refl))
         (record {
           taken = u;
           fit = both (eqb (length (replicate (length marks) 0)) (look + 1)) (eqb (length (replicate (length minima) Number.zero)) (look + 1)) (eq-eqb (length (replicate (length marks) 0)) (look + 1) (length-replicate (length marks) 0 ∙ f .0)) (eq-eqb (length (replicate (length minima) Number.zero)) (look + 1) (length-replicate (length minima) Number.zero ∙ f .1));
@@ -240,10 +240,10 @@ setup-start look marks minima h = go (lookTaken look) (storesFit look marks mini
           no-frame = refl;
         })
     go true false u v =
-        let z : _≡_ {A = ℕ} 16 0 = ap (λ (o : Outcome). o .reply .number) (setup-16 look marks minima u v) ∙ ap (λ (r : Reply). r .number) h in
+        let z : _≡_ {A = ℕ} 16 0 = ap (λ (o : KeeperLeft). o .reply .number) (setup-16 look marks minima u v) ∙ ap (λ (r : Reply). r .number) h in
         absurd (omega arith)
     go false d u v =
-        let z : _≡_ {A = ℕ} 12 0 = ap (λ (o : Outcome). o .reply .number) (setup-12 look marks minima u) ∙ ap (λ (r : Reply). r .number) h in
+        let z : _≡_ {A = ℕ} 12 0 = ap (λ (o : KeeperLeft). o .reply .number) (setup-12 look marks minima u) ∙ ap (λ (r : Reply). r .number) h in
         absurd (omega arith)
 
 -- ---- the plain-scan floor

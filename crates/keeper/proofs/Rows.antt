@@ -15,9 +15,6 @@ use Rattle.keeper.specs.History.{repliesAfter}
 abbrev pub half : Float
 half = bits 0x3fe0_0000_0000_0000
 
-abbrev pub threeQuarters : Float
-threeQuarters = bits 0x3fe8_0000_0000_0000
-
 -- a keeper that was set up with look 11
 unfoldable pub setUp11 : Keeping
 unfolding setupOf
@@ -32,12 +29,6 @@ pub gains-count : map unitGain (nan ∷ inf false ∷ bits 0xbfd0_0000_0000_0000
 unfolding ofBits lt
 gains-count = refl
 
--- the same of the step itself: each one alone, as the first gain, gives that floor
-pub gains-floor : map (λ (x : Float). stepOf setUp11 x .reply) (nan ∷ inf false ∷ bits 0xbfd0_0000_0000_0000 ∷ bits 0x3ff8_0000_0000_0000 ∷ [])
-    ≡ tells zero 0 1 ∷ tells zero 0 1 ∷ tells zero 0 1 ∷ tells one 0 1 ∷ []
-unfolding ofBits lt le eq setUp11 stepOf steppedOf inOrder
-gains-floor = refl
-
 -- * Look 11, gain 0.5 then only 1.0: floor 0.5 through frame 11, 1.0 at frame 12, which drops 2 and keeps 1. Newest first: the head is frame 12, the end frame 0.
 pub half-then-ones : repliesAfter setUp11 (one ∷ one ∷ one ∷ one ∷ one ∷ one ∷ one ∷ one ∷ one ∷ one ∷ one ∷ one ∷ half ∷ [])
     ≡ tells one 2 1
@@ -48,8 +39,3 @@ pub half-then-ones : repliesAfter setUp11 (one ∷ one ∷ one ∷ one ∷ one �
     ∷ []
 unfolding ofBits lt le eq setUp11 stepOf steppedOf inOrder
 half-then-ones = refl
-
--- the numbers of the starred output of `floors`: look 11, gains 1, 0.5, 0.75
-pub floors-told : repliesAfter setUp11 (threeQuarters ∷ half ∷ one ∷ []) ≡ tells half 0 2 ∷ tells half 1 1 ∷ tells one 0 1 ∷ []
-unfolding ofBits lt le eq setUp11 stepOf steppedOf inOrder
-floors-told = refl

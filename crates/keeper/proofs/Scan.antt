@@ -5,29 +5,11 @@ use mathlib.Core.List.{List, [], _∷_}
 use Prim.Native.Nat.{ℕ, zero, suc, _≤_, _<_}
 use native.Mathlib.Omega.{arith}
 use lib.Dec.{T}
-use lib.IntN.{pos}
 use lib.ListN.{length, getD, take}
-use lib.Ieee.{Float, fin, lt, le}
+use lib.Ieee.{Float, lt, le}
 use lib.Ieee.Scale.{finite}
-use Rattle.arithmetic.specs.Number
 use Rattle.arithmetic.proofs.Order.{clash, le-self, le-then-le, lt→le, not-lt→le, lt-not-lt}
-use Rattle.keeper.specs.Floor.{leastOf, floorOf}
-
--- ---- minus zero equals zero, so the later of them is the floor, and the window reaches look frames back
-abbrev minusZero : Float
-minusZero = fin true 0 (pos 0)
-
-pub later-minus-zero : leastOf minusZero (Number.zero ∷ []) ≡ minusZero
-unfolding lt
-later-minus-zero = refl
-
-pub later-zero : leastOf Number.zero (minusZero ∷ []) ≡ Number.zero
-unfolding lt
-later-zero = refl
-
-pub window-reaches : floorOf 2 Number.one (Number.one ∷ Number.zero ∷ []) ≡ Number.zero
-unfolding lt
-window-reaches = refl
+use Rattle.keeper.specs.Floor.{leastOf}
 
 -- ---- what holds of all gains
 abbrev pub All : (Float → Type 0) → List Float → Type 0

@@ -57,15 +57,15 @@ abbrev pub storesFit : ℕ → List ℕ → List Float → Bool
 storesFit look marks minima = eqb (length marks) (look + 1) && eqb (length minima) (look + 1)
 
 -- what a call leaves: its reply, and keeper and stores
-pub record Outcome : Type 0 where
+pub record KeeperLeft : Type 0 where
   pub reply : Reply
   pub keeping : Keeping
 
 -- read off the result and the stores at exit
-abbrev pub setupAt : KeeperSetUp → List ℕ → List Float → Outcome
+abbrev pub setupAt : KeeperSetUp → List ℕ → List Float → KeeperLeft
 setupAt r marks minima = record { reply = setupReply (r .answer); keeping = keepingAt (r .keeper) marks minima }
 
-abbrev pub stepAt : KeeperStepped → List ℕ → List Float → Outcome
+abbrev pub stepAt : KeeperStepped → List ℕ → List Float → KeeperLeft
 stepAt r marks minima = record { reply = stepReply (r .answer); keeping = keepingAt (r .keeper) marks minima }
 
 -- ---- setup
@@ -78,7 +78,7 @@ abbrev pub setupRefusal : ℕ → List ℕ → List Float → ℕ
 setupRefusal look marks minima = unless (lookTaken look) 12 (unless (storesFit look marks minima) 16 0)
 
 -- success fills both stores with 0; a refused setup leaves the stores alone and the keeper not set up
-unfoldable pub setupOf : ℕ → List ℕ → List Float → Outcome
+unfoldable pub setupOf : ℕ → List ℕ → List Float → KeeperLeft
 setupOf look marks minima =
     cond (eqb (setupRefusal look marks minima) 0)
     (record { reply = finished []; keeping = keepingAt (freshKeeper look) (replicate (look + 1) 0) (replicate (look + 1) Number.zero) })
@@ -130,13 +130,13 @@ stepRefusal k =
     (unless (storesFit (k .keeper .look) (k .marks) (k .minima)) 16 (unless (ordered k) 19 (unless (leb (k .keeper .frame + 1) mostFrames) 22 0)))
 
 -- a finished step replies floor, drops and entries kept
-abbrev pub finishedStep : Stepped → Outcome
+abbrev pub finishedStep : Stepped → KeeperLeft
 finishedStep s = record {
   reply = finished (float (s .floor) ∷ count (s .dropped) ∷ count (s .keeping .keeper .len) ∷ []);
   keeping = s .keeping;
 }
 
 -- a refused step changes nothing
-unfoldable pub stepOf : Keeping → Float → Outcome
+unfoldable pub stepOf : Keeping → Float → KeeperLeft
 stepOf k x =
     cond (eqb (stepRefusal k) 0) (finishedStep (steppedOf k x)) (record { reply = refused (stepRefusal k) []; keeping = k })

@@ -1,8 +1,8 @@
 -- What a run asks, from what 18, 16 and 19 judge.
-use mathlib.Core.Path.{_≡_, refl, sym, _∙_}
-use mathlib.Core.Bool.{Bool, true, false, _&&_}
+use mathlib.Core.Path.{_≡_, sym, _∙_}
+use mathlib.Core.Bool.{true, _&&_}
 use mathlib.Core.List.{List}
-use Prim.Native.Nat.{ℕ, _+_, _-_, _≤_, _<_}
+use Prim.Native.Nat.{ℕ, _+_, _≤_, _<_}
 use native.Mathlib.Omega.{arith}
 use lib.Dec.{leb, ltb}
 use lib.ListN.{length, replicate, length-replicate}
@@ -15,7 +15,7 @@ use Rattle.keeper.specs.Keeper.{keepingAt, ordered}
 use Rattle.envelope.specs.Row.{rowInOrder}
 use Rattle.settings.specs.Derived.{lookOf}
 use Rattle.frame.specs.Run.{RunReady}
-use Rattle.limiter.specs.Stores.{Stores, lengthsOf, lengthsFit}
+use Rattle.limiter.specs.Stores.{Stores, lengthsOf}
 use Rattle.limiter.specs.Order.{prepared, inOrder}
 use Rattle.limiter.specs.Run.{movingOf, KernelReady}
 use Rattle.limiter.specs.declared.state.Limiter.{Limiter}

@@ -1,18 +1,17 @@
 -- The kernel's share of 18 and 19 over setup and reset, and what they say.
-use mathlib.Core.Path.{_≡_, refl, sym, ap, _∙_}
-use mathlib.Core.Bool.{Bool, true, false, cond, _&&_}
-use mathlib.Core.List.{List, [], _∷_}
-use Prim.Native.Nat.{ℕ, zero, suc, _+_, _-_, _≤_, _<_}
+use mathlib.Core.Path.{_≡_, refl}
+use mathlib.Core.Bool.{Bool, true, false, _&&_}
+use mathlib.Core.List.{List}
+use Prim.Native.Nat.{ℕ, zero, suc, _≤_, _<_}
 use native.Mathlib.Omega.{arith}
-use lib.Dec.{eqb, leb, ltb}
-use lib.ListN.{length, replicate, length-replicate}
+use lib.Dec.{eqb, leb}
+use lib.ListN.{replicate, length-replicate}
 use lib.Ieee.{Float, le, ne}
-use borrow.Author.Tests.{eqb-true, eq-eqb, ne-eqb, leb-true, le-leb, lt-ltb}
+use borrow.Author.Tests.{eqb-true, eq-eqb, leb-true, le-leb, lt-ltb}
 use Rattle.arithmetic.specs.Number
 use Rattle.arithmetic.specs.Number.{one, within, sameValue}
 use Rattle.arithmetic.proofs.Order.{and-true}
 use Rattle.arithmetic.proofs.Same.{same-self}
-use Rattle.keeper.specs.Keeper.{keepingAt, ordered}
 use Rattle.keeper.proofs.Floor.{empty-order}
 use Rattle.envelope.specs.Row.{allUnit, tallyOf, rowInOrder}
 use Rattle.settings.specs.Derived.{lookOf, rowOf, coefficientOf}

@@ -1,12 +1,8 @@
-<<<<<<< HEAD
-// Fills of the lent stores.
-pub use keeper::fill;
-=======
 // Lengths and fills of the lent stores.
 ghost use mathlib.Core.Path.{_≡_};
 ghost use Prim.Native.Nat.{_≤_};
-ghost use lib.ListN.{length, replicate};
 ghost use Rattle.limiter.specs.Stores.{atEntry, lengthsOf, lengthsFit};
+pub use keeper::fill;
 
 // The stores' lengths, in document 01's order.
 pub struct StoreLengths {
@@ -52,15 +48,3 @@ pub fn lengths_fit(channels: usize, look: usize, l: StoreLengths) -> bool
         & (l.row == row)
         & (l.detector == channels * 12)
 }
-
-// Every place holds the value.
-pub fn fill(s: &mut [f64], value: f64)
-    ensures { λ _. ⌜ now (s .exit) ≡ replicate (length (now (s .entry))) value ⌝ }
-{
-    let mut i: usize = 0;
-    while i < s.len() {
-        s[i] = value;
-        i += 1;
-    }
-}
->>>>>>> 3a979e296a4c81de42bb514147449d8b6f3b37b8

@@ -4,7 +4,7 @@ use mathlib.Core.List.{List, [], _∷_, map}
 use lib.ListN.{getD}
 use lib.Ieee.{Float}
 use Rattle.arithmetic.specs.Reply.{Value, count, float}
-use Rattle.keeper.specs.Keeper.{Outcome}
+use Rattle.keeper.specs.Keeper.{KeeperLeft}
 use Rattle.keeper.specs.declared.FloorKeeper.{FloorKeeper}
 use Rattle.probe.specs.Out.{valueOr}
 
@@ -25,7 +25,7 @@ pub record Left : Type 0 where
 abbrev pub leftAt : ℕ → List ℕ → List ℕ → List Float → Left
 leftAt number state marks minima = record { number = number; state = state; marks = marks; minima = minima }
 
-abbrev pub leftBy : Outcome → Left
+abbrev pub leftBy : KeeperLeft → Left
 leftBy o = leftAt (o .reply .number) (wordsOf (o .keeping .keeper)) (o .keeping .marks) (o .keeping .minima)
 
 -- the place of the counts afterwards: those of the reply's values, behind the floor, or what it held
@@ -46,5 +46,5 @@ pub record Told : Type 0 where
 abbrev pub toldAt : Left → Float → List ℕ → Told
 toldAt left floor counts = record { left = left; floor = floor; counts = counts }
 
-abbrev pub toldBy : Float → List ℕ → Outcome → Told
+abbrev pub toldBy : Float → List ℕ → KeeperLeft → Told
 toldBy floor counts o = toldAt (leftBy o) (valueOr floor (o .reply .values)) (countsOr counts (o .reply .values))

@@ -8,7 +8,7 @@ use lib.Ieee.{Float, nan}
 use Rattle.arithmetic.specs.Reply.{Value, count, float}
 use Rattle.bank.specs.Answers.{bankValueReply}
 use Rattle.bank.specs.Smoother.{infoOf}
-use Rattle.bank.specs.Bank.{Outcome, slotAt, setTargetOf, setImmediateOf, stepOf, resetOf, valueOf}
+use Rattle.bank.specs.Bank.{BankLeft, slotAt, setTargetOf, setImmediateOf, stepOf, resetOf, valueOf}
 use Rattle.bank.specs.declared.param.ParamInfo.{ParamInfo}
 use Rattle.bank.specs.declared.param.Smoothing.{Smoothing}
 use Rattle.bank.specs.declared.param.Smoothing.the-variants.{Step, Linear, OnePole}
@@ -96,15 +96,15 @@ floatIn old [] = old
 floatIn old (count n ∷ vs) = valueOr old vs
 floatIn old (float v ∷ vs) = v
 
-abbrev pub doneBy : Float → Outcome → Done
+abbrev pub doneBy : Float → BankLeft → Done
 doneBy old o = record { number = o .reply .number; count = countIn (o .reply .values); value = floatIn old (o .reply .values); bank = o .bank }
 
 -- a reading leaves the bank as it is
-abbrev pub readBy : BankValue → SmootherBank → Outcome
+abbrev pub readBy : BankValue → SmootherBank → BankLeft
 readBy answer b = record { reply = bankValueReply answer; bank = b }
 
 -- the call by its number: 0 `set_target`, 1 `set_immediate`, 2 `step`, 3 `reset`, else `value`
-abbrev pub calledBy : ℕ → SmootherBank → ℕ → Float → Outcome
+abbrev pub calledBy : ℕ → SmootherBank → ℕ → Float → BankLeft
 calledBy op b id v =
     cond (eqb op 0) (setTargetOf b id v)
     (cond (eqb op 1) (setImmediateOf b id v) (cond (eqb op 2) (stepOf b) (cond (eqb op 3) (resetOf b) (record { reply = valueOf b id; bank = b }))))

@@ -1,13 +1,17 @@
 // What setup derives and judges.
 ghost use mathlib.Core.Path.{_≡_};
 ghost use mathlib.Core.Bool.{_&&_};
-ghost use Rattle.settings.specs.Settings.{settingsOf};
+ghost use Rattle.settings.specs.Settings.{settingsOf, processSpec};
 ghost use Rattle.settings.specs.Derived.{lookOf};
 ghost use Rattle.settings.specs.Target.{targetOf};
 ghost use Rattle.settings.specs.Accepted.{rateTaken, releaseTaken, refusalOf};
+ghost use Rattle.settings.specs.declared.memory.Cap.{Cap};
 ghost use Rattle.probe.specs.Setup.{weightsTaken, coeffOr};
 use arithmetic::number::is_finite;
 use settings::LimiterSettings;
+use settings::ProcessSpec;
+use settings::accepted::SettingsJudged;
+use settings::memory::Cap;
 
 #[no_mangle]
 pub extern "C" fn probe_look(ms: f64, rate: u32) -> u64
@@ -54,7 +58,8 @@ pub extern "C" fn probe_refusal(
     channels: usize,
     max_block: usize,
 ) -> u32
-    ensures { λ r. ⌜ r ≡ refusalOf (settingsOf threshold margin lookahead release) rate channels «max_block» ⌝ }
+    ensures { λ r. ⌜ r
+        ≡ refusalOf (settingsOf threshold margin lookahead release) (processSpec rate channels «max_block» Cap.Unlimited) ⌝ }
 {
     let s = LimiterSettings {
         threshold_db: threshold,
@@ -62,7 +67,16 @@ pub extern "C" fn probe_refusal(
         lookahead_ms: lookahead,
         release_ms: release,
     };
-    settings::accepted::refusal(s, rate, channels, max_block)
+    let spec = ProcessSpec {
+        rate,
+        channels,
+        max_block,
+        cap: Cap::Unlimited,
+    };
+    match settings::accepted::refusal(s, spec) {
+        SettingsJudged::Passed => 0,
+        SettingsJudged::Refused(why) => settings::accepted::refusal_number(why),
+    }
 }
 
 // The weights rule; more than 4,096 weights, which no look has, are not accepted.

@@ -16,13 +16,13 @@ use lib.Ieee.Positive as P
 use lib.Ieee.Scale.{finite, round-same}
 use borrow.Author.Tests.{leb-true, ltb-true, ltb-false, lt-ltb, ne-eqb, not-true}
 use Rattle.arithmetic.specs.Number
-use Rattle.arithmetic.specs.Number.{signOf}
+use Rattle.arithmetic.specs.Number.{thousandth, framesOfMs, signOf}
 use Rattle.arithmetic.specs.Exp.{minus700, inDomain}
 use Rattle.arithmetic.proofs.Order.{not-lt→le, clash, and-true, or-yes}
 use Rattle.arithmetic.proofs.Cut.{neg-round, sign-round}
 use Rattle.arithmetic.proofs.Exp.{in-domain}
 use Rattle.arithmetic.proofs.UnitBound.{le→numbers, numbers→le}
-use Rattle.settings.specs.Derived.{thousandth, minusOne, framesOf}
+use Rattle.settings.specs.Derived.{minusOne}
 use Rattle.settings.specs.Accepted.{rateTaken, releaseTaken}
 use Rattle.settings.specs.Target.{kept}
 
@@ -89,10 +89,10 @@ abbrev most : Float
 most = Number.bits 0x40c3_8800_0000_0000
 
 abbrev leastFrames : Float
-leastFrames = framesOf least 8000
+leastFrames = framesOfMs least 8000
 
 abbrev mostFrames : Float
-mostFrames = framesOf most 192000
+mostFrames = framesOfMs most 192000
 
 module _ (rate : ℕ) (taken : rateTaken rate ≡ true) where
   least-rate : T (le (ofInt binary64 (pos 8000)) (ofInt binary64 (pos rate)))
@@ -106,13 +106,13 @@ module _ (rate : ℕ) (taken : rateTaken rate ≡ true) where
   rate-positive : T (positive (ofInt binary64 (pos rate)))
   rate-positive = P.between (ofInt binary64 (pos 8000)) (ofInt binary64 (pos rate)) (ofInt binary64 (pos 192000)) (unfold ofInt in tt) (unfold ofInt in tt) least-rate most-rate
 
-  no-frames : (s : Bool) (m : ℕ) (e : ℤ) → m * up e ≡ 0 → eq (framesOf (fin s m e) rate) Number.zero ≡ true
+  no-frames : (s : Bool) (m : ℕ) (e : ℤ) → m * up e ≡ 0 → eq (framesOfMs (fin s m e) rate) Number.zero ≡ true
   unfolding ofBits eq
   no-frames s m e z =
       rw (zero-times s m e thousandth z tt, zero-times (unlike s false) 0 (pos 0) (ofInt binary64 (pos rate)) refl (positive-finite (ofInt binary64 (pos rate)) rate-positive)) (or-yes (Bool·beq (unlike (unlike s false) (signOf (ofInt binary64 (pos rate)))) false))
 
   -- a release time from 0.01 on
-  frames-low : (ms : Float) → T (positive ms) → le least ms ≡ true → le ms most ≡ true → T (positive (framesOf ms rate)) × T (le leastFrames (framesOf ms rate))
+  frames-low : (ms : Float) → T (positive ms) → le least ms ≡ true → le ms most ≡ true → T (positive (framesOfMs ms rate)) × T (le leastFrames (framesOfMs ms rate))
   unfolding ofBits
   frames-low ms p h k =
       let a = mul-mono binary64 least ms thousandth thousandth tt p tt tt (yes (le least ms) h) (unfold le in tt) in
@@ -121,10 +121,10 @@ module _ (rate : ℕ) (taken : rateTaken rate ≡ true) where
       let r = ofInt binary64 (pos rate) in
       let c = mul-mono binary64 (mul binary64 least thousandth) (mul binary64 ms thousandth) (ofInt binary64 (pos 8000)) r (unfold mul in tt) q (unfold ofInt in tt) rate-positive a least-rate in
       let d = mul-mono binary64 (mul binary64 ms thousandth) (mul binary64 most thousandth) r (ofInt binary64 (pos 192000)) q (unfold mul in tt) rate-positive (unfold ofInt in tt) b most-rate in
-      (P.between leastFrames (framesOf ms rate) mostFrames (unfold mul in unfold ofInt in tt) (unfold mul in unfold ofInt in tt) c d, c)
+      (P.between leastFrames (framesOfMs ms rate) mostFrames (unfold mul in unfold ofInt in tt) (unfold mul in unfold ofInt in tt) c d, c)
 
   -- what is not 0 is at least that
-  frames-above : (ms : Float) → releaseTaken ms ≡ true → eq (framesOf ms rate) Number.zero ≡ false → T (positive (framesOf ms rate)) × T (le leastFrames (framesOf ms rate))
+  frames-above : (ms : Float) → releaseTaken ms ≡ true → eq (framesOfMs ms rate) Number.zero ≡ false → T (positive (framesOfMs ms rate)) × T (le leastFrames (framesOfMs ms rate))
   frames-above nan t n = clash false t refl
   frames-above (inf s) t n = clash false t refl
   frames-above (fin s m e) t n =
@@ -163,5 +163,5 @@ inverse (fin false n d) p h =
     thirteen : round binary64 false 13 1 ≡ fin false 13 (pos 0)
     thirteen = unfold round in refl
 
-pub release-within : (ms : Float) (rate : ℕ) → releaseTaken ms ≡ true → rateTaken rate ≡ true → eq (framesOf ms rate) Number.zero ≡ false → inDomain (div binary64 minusOne (framesOf ms rate)) ≡ true
-release-within ms rate t r n = let k = frames-above rate r ms t n in inverse (framesOf ms rate) (k .0) (k .1)
+pub release-within : (ms : Float) (rate : ℕ) → releaseTaken ms ≡ true → rateTaken rate ≡ true → eq (framesOfMs ms rate) Number.zero ≡ false → inDomain (div binary64 minusOne (framesOfMs ms rate)) ≡ true
+release-within ms rate t r n = let k = frames-above rate r ms t n in inverse (framesOfMs ms rate) (k .0) (k .1)

@@ -1,8 +1,8 @@
 -- The product of a weight and 2^60 is exact, so its whole part is the definition's.
 use mathlib.Core.Path.{_≡_, refl, sym, ap, _∙_, subst}
-use mathlib.Core.Bool.{Bool, true, false, not, _&&_, cond}
-use Prim.Native.Nat.{ℕ, zero, suc, _+_, _-_, _*_, _/_, _%_, _^_, _≤_, _<_, min}
-use native.Mathlib.Nat.{mul-assoc, mul-comm, mul-left-comm, mul-one, one-mul, mul-le-mul-right, mul-lt-mul-of-pos-right, le-trans, le-of-eq, mul-pos, lt-of-le-of-lt, not-le-of-lt, lt-trans, sub-add-cancel, div-le-of-le-mul}
+use mathlib.Core.Bool.{Bool, true, false, _&&_}
+use Prim.Native.Nat.{ℕ, zero, suc, _+_, _-_, _*_, _/_, _%_, _^_, _≤_, _<_}
+use native.Mathlib.Nat.{mul-assoc, mul-one, one-mul, mul-le-mul-right, le-trans, le-of-eq, mul-pos, lt-of-le-of-lt, not-le-of-lt, lt-trans, sub-add-cancel, div-le-of-le-mul}
 use native.Mathlib.Omega.{arith}
 use lib.Dec.{T, leb, ltb, eqb, lit<, lt→ltb}
 use lib.Pow.{pow-add, pow-pos, pow-lt, shl-lt}

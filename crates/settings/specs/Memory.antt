@@ -1,6 +1,6 @@
 -- Module 5 of document 01, `memory.rs`: the byte count, and a cap.
 use Prim.Native.Nat.{ℕ, _+_, _-_, _*_}
-use mathlib.Core.Bool.{Bool, true, false, cond, _&&_}
+use mathlib.Core.Bool.{Bool, true, cond, _&&_}
 use mathlib.Core.List.{[], _∷_}
 use lib.Dec.{leb}
 use Rattle.arithmetic.specs.Number.{largest}

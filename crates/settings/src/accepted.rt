@@ -24,6 +24,21 @@ pub enum SettingsJudged {
     Refused(SettingsRefusal),
 }
 
+// Document 01's number of a refusal.
+pub fn refusal_number(why: SettingsRefusal) -> u32
+    ensures { λ r. ⌜ r ≡ refusalNumber why ⌝ }
+{
+    match why {
+        SettingsRefusal::Rate => 8,
+        SettingsRefusal::Margin => 9,
+        SettingsRefusal::Lookahead => 10,
+        SettingsRefusal::Release => 11,
+        SettingsRefusal::Look => 12,
+        SettingsRefusal::Channels => 13,
+        SettingsRefusal::Block => 14,
+    }
+}
+
 fn rate_taken(rate: u32) -> bool
     ensures { λ r. ⌜ r ≡ rateTaken rate ⌝ }
 {

@@ -1,13 +1,14 @@
 // Look and release coefficient, in the Rust's order of operations (`prepare` of limiter.rs).
 ghost use mathlib.Core.Path.{_≡_};
 ghost use mathlib.Core.Bool.{true};
-ghost use Rattle.settings.specs.Derived.{framesOf, lookOf, coefficientOf};
+ghost use Rattle.arithmetic.specs.Number.{framesOfMs};
+ghost use Rattle.settings.specs.Derived.{lookOf, coefficientOf};
 ghost use Rattle.settings.specs.Accepted.{rateTaken, releaseTaken};
 use arithmetic::math::ExpAnswer;
 
 // Milliseconds as frames.
 fn frames(ms: f64, rate: u32) -> f64
-    ensures { λ r. ⌜ r ≡ framesOf ms rate ⌝ }
+    ensures { λ r. ⌜ r ≡ framesOfMs ms rate ⌝ }
 {
     ms * 1e-3 * (rate as f64)
 }

@@ -7,7 +7,7 @@ use mathlib.Core.List.{List}
 use lib.ListN.{length, take, drop}
 use Rattle.floors_text.specs.Lines.{linesOf, firstOf}
 use denote.Ref.{now}
-use Rattle.keeper.specs.Keeper.{keepingAt, Outcome}
+use Rattle.keeper.specs.Keeper.{keepingAt, KeeperLeft}
 use Rattle.floors_text.proofs.Turns.{line-is, line-ends}
 use Rattle.floors_text.proofs.Going.{Going, going-start, going-few, going-ready, going-done, going-stops, refusal-room, frame-room, going-turn, setup-opened}
 use Rattle.floors_text.proofs.Puts.{put-length}
@@ -50,7 +50,7 @@ setup-requires c κs = search needs
 loop-holds : tie.Need-loop-holds Inv-loop μ-loop
 loop-holds c =
     let s = c .before .before .before .before .before .before .before .before .before .before .before .before in
-    going-start (now (s .args .input)) (s .args .from) (s .args .look) (now (s .args .output)) (s .pre .0 .0) (s .pre .0 .3) (s .pre .0 .1) (keepingAt (c .before .before .before .before .before .setup .result .keeper) (c .before .before .before .before .before .setup .last .1 .0) (c .before .before .before .before .before .setup .last .1 .1 .0)) (ap (λ (o : Outcome). o .keeping) (c .before .before .before .before .before .setup .ensures) ∙ setup-opened (s .args .look) (now (s .args .marks)) (now (s .args .minima)) (s .pre .0 .2) (s .pre .0 .3) (s .pre .1 .0) (s .pre .1 .1))
+    going-start (now (s .args .input)) (s .args .from) (s .args .look) (now (s .args .output)) (s .pre .0 .0) (s .pre .0 .3) (s .pre .0 .1) (keepingAt (c .before .before .before .before .before .setup .result .keeper) (c .before .before .before .before .before .setup .last .1 .0) (c .before .before .before .before .before .setup .last .1 .1 .0)) (ap (λ (o : KeeperLeft). o .keeping) (c .before .before .before .before .before .setup .ensures) ∙ setup-opened (s .args .look) (now (s .args .marks)) (now (s .args .minima)) (s .pre .0 .2) (s .pre .0 .3) (s .pre .1 .0) (s .pre .1 .1))
 
 line-end-requires : tie.Need-line-end-requires Inv-loop μ-loop
 line-end-requires c κs = c .before .loop .inv .within

@@ -1,5 +1,5 @@
 -- `abs`: the sign is what the tests against 0 tell. A zero has its one form, since it fits.
-use lib.Ieee.{ofBits, neg}
+use lib.Ieee.{ofBits}
 use Rattle.arithmetic.proofs.Cases.{sign-below, sign-other, abs-sign, neg-sign, abs-zero}
 use Rattle.arithmetic.proofs.number.abs.Statement.{statement}
 use Rattle.arithmetic.proofs.number.abs.Tie as tie

@@ -3,7 +3,6 @@ use mathlib.Core.Path.{_≡_, refl, sym, _∙_}
 use Prim.Native.Nat.{_+_, _≤_}
 use native.Mathlib.Omega.{arith}
 use denote.Ref.{now}
-use borrow.Author.Needs.{needs}
 use lib.ListN.{drop}
 use Rattle.envelope.specs.Row.{down}
 use Rattle.envelope.specs.Mean.{weightedFrom}

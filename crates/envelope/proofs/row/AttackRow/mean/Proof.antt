@@ -1,7 +1,6 @@
 -- `mean`: a tally of 0 says that all are 1.0; else the two parts of the row, one after the other.
 use mathlib.Core.Path.{sym, _∙_}
 use native.Mathlib.Omega.{arith}
-use borrow.Author.Needs.{needs}
 use denote.Ref.{now}
 use lib.Ieee.{ofBits}
 use Rattle.envelope.proofs.Tally.{Ordered, ordered}

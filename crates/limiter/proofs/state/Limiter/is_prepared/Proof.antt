@@ -1,5 +1,5 @@
 -- `is_prepared`: the settings first, then what they derive.
-use mathlib.Core.Path.{_≡_, sym, ap, _∙_}
+use mathlib.Core.Path.{_≡_}
 use borrow.Author.Needs.{needs}
 use Rattle.settings.specs.Accepted.{refusalOf}
 use Rattle.settings.proofs.Taken.{taken, settings-passed, settings-refused}
