@@ -8,6 +8,7 @@ use lib.Ieee.{Float}
 use lib.Ieee.Scale.{finite}
 use borrow.Author.Tests.{eqb-true, not-true, not-false}
 use Rattle.arithmetic.specs.Reply.{Reply, finished, refused, numbered, count, float, andThen, must}
+use Rattle.arithmetic.proofs.Passed.{passed-unless}
 use Rattle.limiter.specs.Stores.{Stores}
 use Rattle.limiter.specs.Reset
 use Rattle.limiter.specs.declared.state.Limiter.{Limiter}
@@ -17,7 +18,7 @@ use Rattle.bank.specs.Bank.{oneChanged, allChanged, callReply, callOf, setImmed
 use Rattle.bank.specs.declared.smoother_bank.SmootherBank.{SmootherBank}
 use Rattle.driver.specs.Machine.{Machine, machineOf, prepared, resetRefusal}
 use Rattle.driver.specs.Calls.{left, settled, parameterReply, parameterOf, resetOf}
-use Rattle.driver.proofs.Judged.{prepared-is, kept-first}
+use Rattle.driver.proofs.Judged.{prepared-is}
 
 -- ---- parameter call
 -- a bank that changes by a reply is a machine that does
@@ -43,10 +44,10 @@ module _ (m : Machine) (id : ℕ) (v : Float) where
         go true false = refl
         go false k = refl
 
-    pub param-called : (o : Bank.Outcome) → o ≡ setImmediateOf (m .bank) id v → left (o .reply) (machineOf (m .limiter) (o .bank) (m .stores)) ≡ parameterOf m id v
+    pub param-called : (o : Bank.BankLeft) → o ≡ setImmediateOf (m .bank) id v → left (o .reply) (machineOf (m .limiter) (o .bank) (m .stores)) ≡ parameterOf m id v
     unfolding parameterOf callOf
     param-called o e =
-        ap (λ (o : Bank.Outcome). left (o .reply) (machineOf (m .limiter) (o .bank) (m .stores))) e
+        ap (λ (o : Bank.BankLeft). left (o .reply) (machineOf (m .limiter) (o .bank) (m .stores))) e
         ∙ ap (λ (r : Reply). left r (machineOf (m .limiter) (cond (eqb (r .number) 0) (oneChanged (immediateSet v) id (m .bank)) (m .bank)) (m .stores))) reply-is
         ∙ bank-settled (parameterReply m id v) (m .limiter) (oneChanged (immediateSet v) id (m .bank)) (m .bank) (m .stores)
 
@@ -64,7 +65,7 @@ module _ (m : Machine) (r : Reply) (R : r ≡ numbered (resetRefusal m)) (b : Bo
 
   pub reset-prepared : not b ≡ false → prepared (m .limiter) (m .bank) ≡ true
   unfolding resetRefusal
-  reset-prepared f = kept-first (prepared (m .limiter) (m .bank)) 17 _ (none f) .0
+  reset-prepared f = passed-unless (prepared (m .limiter) (m .bank)) 17 _ (none f) .0
 
   pub reset-done : not b ≡ false → (o : Reset.Reset) → o ≡ Reset.resetOf (m .limiter) (m .stores) → (bank : SmootherBank) → bank ≡ allChanged resetOne (m .bank) → left (finished []) (machineOf (o .limiter) bank (o .stores)) ≡ resetOf m
   unfolding resetOf

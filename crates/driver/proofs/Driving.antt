@@ -20,7 +20,7 @@ use Rattle.bank.specs.declared.smoother_bank.SmootherBank.{SmootherBank}
 use Rattle.driver.specs.Machine.{Machine, machineOf}
 use Rattle.driver.specs.Events.{Event, eventsOf, latchedAll}
 use Rattle.driver.specs.Block.{Renderer, rendered, renderedIn, runAt, runsFrom, runsOf, Turn, turnOf, Ran, runsThrough, outputsOf, blockDone}
-use Rattle.driver.specs.Inner.{waitingAt, RunsReady, Lends, leftOf, standsAt, turnAt, TurnAsked, TurnGiven, BlockAsked, driven}
+use Rattle.driver.specs.Inner.{waitingAt, RunsReady, Lends, Joins, leftOf, standsAt, turnAt, TurnAsked, TurnGiven, BlockAsked, driven}
 use Rattle.driver.specs.declared.turn.Unfinished.{Unfinished}
 use Rattle.driver.proofs.Rendering.{shown-many, channels-kept, settings-kept, audio-small}
 
@@ -158,9 +158,11 @@ module _ (format : Format) (position frames : ℕ) (words bytes₀ : List ℕ) (
       -- the frames of the audio now are those of the audio at the start
       frames-now : gs ≡ take n (framesAt nan frames k first (frames - first) samples)
       frames-now =
-          rw (d .frames-is, d .channels-are, d .audio-is)
-          (samples-ahead format frames k bytes₀ (asked .lends .audio-fit) small first n (outputsOf (d .shown)) outputs-many (run-inside .2)
-          ∙ sym (frames-take nan frames k first n (frames - first) samples (omega (arith, run-inside .2))))
+          ap (λ (w : ℕ). framesAt nan w (m .limiter .channels) first n (samplesOf format bytes)) (d .frames-is)
+          ∙ ap (λ (c : ℕ). framesAt nan frames c first n (samplesOf format bytes)) (d .channels-are)
+          ∙ ap (λ (b : List ℕ). framesAt nan frames k first n (samplesOf format b)) (d .audio-is)
+          ∙ samples-ahead format frames k bytes₀ (asked .lends .audio-fit) small first n (outputsOf (d .shown)) outputs-many (run-inside .2)
+          ∙ sym (frames-take nan frames k first n (frames - first) samples (omega (arith, run-inside .2)))
 
       frames-left : framesAt nan frames k (first + n) (frames - (first + n)) samples ≡ drop n (framesAt nan frames k first (frames - first) samples)
       frames-left =
@@ -176,6 +178,11 @@ module _ (format : Format) (position frames : ℕ) (words bytes₀ : List ℕ) (
           (framesAt nan frames k (first + n) (frames - (first + n)) samples) m turn (omega (arith, more)) (d .enough) n-is (omega arith) (omega arith) frames-now frames-left turn-is
           ∙ rw (r .machine-is, r .waiting-is) refl
 
+      joins : Joins format frames k first n bytes (outputsOf (turn .frames)) bytes'
+      joins =
+          subst (λ (c : ℕ). Joins format frames c first n bytes (outputsOf (turn .frames)) bytes') (d .channels-are)
+          (subst (λ (w : ℕ). Joins format w (m .limiter .channels) first n bytes (outputsOf (turn .frames)) bytes') (d .frames-is) (r .audio-is))
+
       pub driven-more : Driven next after bytes' run'
       driven-more =
           let e = r .rendered-is in
@@ -187,8 +194,8 @@ module _ (format : Format) (position frames : ℕ) (words bytes₀ : List ℕ) (
                 length-append (d .shown) (turn .frames)
                 ∙ rw (d .many, shown-many (rulesOf (m .limiter .settings) format) (m .limiter) _ (m .stores) gs, frames-at-length nan (block .frames) (m .limiter .channels) first n (samplesOf format bytes)) (sym e);
             most = d .most - 1;
-            enough = rw e (omega (arith, d .enough, run-inside .0));
-            inside = rw e (run-inside .2);
+            enough = omega (arith, e, d .enough, run-inside .0);
+            inside = omega (arith, e, run-inside .2);
             events-left = r .events-left;
             channels-are = channels-kept (rulesOf (m .limiter .settings) format) (m .limiter) _ (m .stores) gs (after .limiter) (ap (λ (z : Machine). z .limiter) (r .machine-is)) ∙ d .channels-are;
             settings-are = settings-kept (rulesOf (m .limiter .settings) format) (m .limiter) _ (m .stores) gs (after .limiter) (ap (λ (z : Machine). z .limiter) (r .machine-is)) ∙ d .settings-are;
@@ -196,9 +203,9 @@ module _ (format : Format) (position frames : ℕ) (words bytes₀ : List ℕ) (
                 rw e
                 (sym (joined-joined (d .shown) (turn .frames) (rest (d .most - 1) (first + n) (next .latched) after)) ∙ ap (joined (d .shown)) (sym step) ∙ d .same);
             audio-is =
-                rw e
-                (r .audio-is bytes₀ (outputsOf (d .shown)) outputs-many (rw (d .channels-are, d .frames-is) (asked .lends .audio-fit)) (rw (d .channels-are, d .frames-is) (d .audio-is))
-                ∙ rw (d .channels-are, d .frames-is) (ap (writtenBytes format frames k (first + n) bytes₀) (sym (map-append (λ (f : Framed). f .outputs) (d .shown) (turn .frames)))));
+                joins bytes₀ (outputsOf (d .shown)) outputs-many (asked .lends .audio-fit) (d .audio-is)
+                ∙ ap (writtenBytes format frames k (first + n) bytes₀) (sym (map-append (λ (f : Framed). f .outputs) (d .shown) (turn .frames)))
+                ∙ ap (λ (i : ℕ). writtenBytes format frames k i bytes₀ (outputsOf (d .shown ++ turn .frames))) (sym e);
             ready = subst (λ (f : ℕ). RunsReady (after .limiter) (f - next .rendered) (after .stores)) (r .frames-is ∙ d .frames-is) (r .ready);
             run-fit = R ∙ d .run-fit;
           }

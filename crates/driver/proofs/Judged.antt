@@ -2,13 +2,12 @@
 use mathlib.Core.Path.{_≡_, refl}
 use mathlib.Core.Bool.{Bool, true, false, _&&_}
 use mathlib.Core.List.{List, [], _∷_}
-use Prim.Native.Nat.{ℕ, suc}
 use native.Mathlib.Omega.{arith}
 use lib.Dec.{eqb}
 use lib.ListN.{length, getD}
 use borrow.Author.Tests.{eqb-true}
 use Rattle.arithmetic.proofs.Order.{and-true}
-use Rattle.arithmetic.specs.Reply.{numbered, unless, must}
+use Rattle.arithmetic.specs.Reply.{numbered, must}
 use Rattle.limiter.specs.Order
 use Rattle.limiter.specs.declared.state.Limiter.{Limiter}
 use Rattle.bank.specs.Bank
@@ -42,11 +41,6 @@ first-slot [] d e = absurd (omega (arith, e))
 first-slot (s ∷ ss) d e = refl
 
 -- ---- the refusals in turn
--- no refusal: neither the first nor any after it
-pub kept-first : (b : Bool) (k rest : ℕ) → unless b (suc k) rest ≡ 0 → (b ≡ true) × (rest ≡ 0)
-kept-first true k rest z = (refl, z)
-kept-first false k rest z = absurd (omega (arith, z))
-
 module _ (m : Machine) where
   pub not-set-up : prepared (m .limiter) (m .bank) ≡ false → numbered 18 ≡ numbered (readyRefusal m)
   unfolding readyRefusal

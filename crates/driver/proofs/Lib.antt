@@ -5,6 +5,7 @@ pub mod Started
 pub mod Stepped
 pub mod Latching
 pub mod Rendering
+pub mod Turning
 pub mod Driving
 pub mod Refusing
 pub mod Draining

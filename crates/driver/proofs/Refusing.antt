@@ -11,6 +11,7 @@ use lib.Ieee.{Float}
 use borrow.Author.Tests.{eqb-true, eqb-false, eq-eqb, ne-eqb, leb-true, leb-false, le-leb, lt-leb, not-true, not-false}
 use Rattle.arithmetic.specs.Reply.{Reply, finished, numbered, unless, andThen, must}
 use Rattle.arithmetic.proofs.Order.{and-true}
+use Rattle.arithmetic.proofs.Passed.{passed-must, passed-then}
 use Rattle.audio.specs.Format.{sizeOf, writtenBytes}
 use Rattle.audio.specs.declared.format.Format.{Format}
 use Rattle.detector.specs.Run.{runLength}
@@ -32,13 +33,6 @@ use Rattle.driver.specs.declared.answers.FlushAnswer.{FlushAnswer}
 use Rattle.driver.proofs.Judged.{prepared-is}
 
 -- ---- replies in turn
-pub both-finished : (r next : Reply) → andThen r next .number ≡ 0 → (r .number ≡ 0) × (next .number ≡ 0)
-both-finished r next z = go (eqb (r .number) 0) refl
-  where
-    go : (b : Bool) → eqb (r .number) 0 ≡ b → (r .number ≡ 0) × (next .number ≡ 0)
-    go true e = (eqb-true (r .number) 0 e, rw e at z)
-    go false e = absurd (eqb-false (r .number) 0 e (rw e at z))
-
 -- a first reply that is refused stands, and one that is finished gives way
 module _ (r first next : Reply) (R : r ≡ first) (b : Bool) (B : b ≡ eqb (r .number) 0) where
   pub first-refused : not b ≡ true → r ≡ andThen first next
@@ -49,10 +43,6 @@ module _ (r first next : Reply) (R : r ≡ first) (b : Bool) (B : b ≡ eqb (r .
 
   pub first-finished : not b ≡ false → first .number ≡ 0
   first-finished f = sym (ap (λ (x : Reply). x .number) R) ∙ eqb-true (r .number) 0 (sym B ∙ not-false b f)
-
-pub must-passed : (b : Bool) (n : ℕ) → must b (suc n) .number ≡ 0 → b ≡ true
-must-passed true n z = refl
-must-passed false n z = absurd (omega (arith, z))
 
 -- ---- 18, 16 and 19
 module _ (m : Machine) where
@@ -135,11 +125,11 @@ module _ (format : Format) (m : Machine) (position frames : ℕ) (events : List 
       let l = m .limiter in
       let geometry = must (sized m (l .«max_block») frames size) 20 in
       let far = must (reaches position frames && hasRoom m frames) 22 in
-      let a = both-finished (numbered (readyRefusal m)) (andThen geometry (andThen (eventsReply frames 0 0 events) far)) z in
-      let b = both-finished geometry (andThen (eventsReply frames 0 0 events) far) (a .1) in
-      let c = both-finished (eventsReply frames 0 0 events) far (b .1) in
-      let g = and-true (leb frames (l .«max_block»)) (eqb size (l .channels * frames)) (must-passed (sized m (l .«max_block») frames size) 19 (b .0)) in
-      let o = and-true (reaches position frames) (hasRoom m frames) (must-passed (reaches position frames && hasRoom m frames) 21 (c .1)) in
+      let a = passed-then (numbered (readyRefusal m)) (andThen geometry (andThen (eventsReply frames 0 0 events) far)) z in
+      let b = passed-then geometry (andThen (eventsReply frames 0 0 events) far) (a .1) in
+      let c = passed-then (eventsReply frames 0 0 events) far (b .1) in
+      let g = and-true (leb frames (l .«max_block»)) (eqb size (l .channels * frames)) (passed-must (sized m (l .«max_block») frames size) 19 (b .0)) in
+      let o = and-true (reaches position frames) (hasRoom m frames) (passed-must (reaches position frames && hasRoom m frames) 21 (c .1)) in
       let few = leb-true frames (l .«max_block») (g .0) in
       record {
         ready = ready-is m (a .0) frames (leb-true (l .env .keeper .frame + frames) mostFrames (o .1));
@@ -185,12 +175,12 @@ module _ (format : Format) (m : Machine) (frames : ℕ) (bytes : List ℕ) (size
   abbrev l : Limiter
   l = m .limiter
 
-  reply-is : drainReply m frames (sizeOf format bytes) ≡ answerReply r
-  reply-is = ap (drainReply m frames) (sym S) ∙ sym N
+  drain-reply-is : drainReply m frames (sizeOf format bytes) ≡ answerReply r
+  drain-reply-is = ap (drainReply m frames) (sym S) ∙ sym N
 
   pub drain-left : (why : Refusal) → r ≡ Answer.Refused why → record { reply = flushReply (FlushAnswer.Refused why); machine = m; bytes = bytes } ≡ seen (drainOf format m frames bytes)
   unfolding drainBy
-  drain-left why W = rw (reply-is, W, refused-some why) refl
+  drain-left why W = rw (drain-reply-is, W, refused-some why) refl
 
   -- where nothing is refused
   module _ (F : r ≡ Answer.Finished) where
@@ -206,10 +196,10 @@ module _ (format : Format) (m : Machine) (frames : ℕ) (bytes : List ℕ) (size
     drain-may =
         let geometry = must (sized m longestDrain frames size) 20 in
         let far = must (hasRoom m frames) 22 in
-        let a = both-finished (numbered (readyRefusal m)) (andThen geometry far) (ap (λ (x : Reply). x .number) (sym N ∙ ap answerReply F)) in
-        let b = both-finished geometry far (a .1) in
-        let g = and-true (leb frames longestDrain) (eqb size (l .channels * frames)) (must-passed (sized m longestDrain frames size) 19 (b .0)) in
-        let r = ready-is m (a .0) frames (leb-true (l .env .keeper .frame + frames) mostFrames (must-passed (hasRoom m frames) 21 (b .1))) in
+        let a = passed-then (numbered (readyRefusal m)) (andThen geometry far) (ap (λ (x : Reply). x .number) (sym N ∙ ap answerReply F)) in
+        let b = passed-then geometry far (a .1) in
+        let g = and-true (leb frames longestDrain) (eqb size (l .channels * frames)) (passed-must (sized m longestDrain frames size) 19 (b .0)) in
+        let r = ready-is m (a .0) frames (leb-true (l .env .keeper .frame + frames) mostFrames (passed-must (hasRoom m frames) 21 (b .1))) in
         record {
           ready = r;
           short = leb-true frames longestDrain (g .0);
@@ -232,4 +222,4 @@ module _ (format : Format) (m : Machine) (frames : ℕ) (bytes : List ℕ) (size
         → (let o = silent format l (m .stores) k in after ≡ withDrained (o .limiter) (l .drained + k) → stores ≡ o .stores → bytes' ≡ writtenBytes format frames (l .channels) k bytes (outputsOf (o .frames))
         → record { reply = flushReply (FlushAnswer.Finished k done); machine = machineOf after (m .bank) stores; bytes = bytes' } ≡ seen (drainOf format m frames bytes))
     unfolding drainBy
-    drain-finished k done after stores bytes' K D A T W = rw (reply-is, F, A, T, W, D, K) refl
+    drain-finished k done after stores bytes' K D A T W = rw (drain-reply-is, F, A, T, W, D, K) refl

@@ -6,15 +6,16 @@ use Prim.Native.Nat.{ℕ}
 use lib.Dec.{eqb}
 use lib.ListN.{replicate}
 use borrow.Author.Tests.{ne-eqb}
-use Rattle.arithmetic.specs.Reply.{Reply, finished}
+use Rattle.arithmetic.specs.Reply.{Reply, finished, andThen}
 use Rattle.arithmetic.proofs.Order.{clash}
-use Rattle.settings.specs.Memory.{fitsCap, leftOf}
+use Rattle.settings.specs.Memory.{fitsCap}
 use Rattle.settings.specs.declared.LimiterSettings.{LimiterSettings}
 use Rattle.settings.specs.declared.memory.Cap.{Cap}
+use Rattle.settings.specs.declared.ProcessSpec.{ProcessSpec}
 use Rattle.limiter.specs.State.{notSetUp, started}
 use Rattle.limiter.specs.Stores.{Stores, lengthsOf, filled}
 use Rattle.limiter.specs.Prepare
-use Rattle.limiter.specs.Prepare.{prepareRefusal, outcome, prepareOf}
+use Rattle.limiter.specs.Prepare.{prepareRefusal, limiterLeft, prepareOf}
 use Rattle.limiter.specs.declared.state.Limiter.{Limiter}
 use Rattle.bank.specs.Answers.{refusalReply}
 use Rattle.bank.specs.Bank
@@ -25,8 +26,7 @@ use Rattle.bank.specs.declared.smoother_bank.BankSetUp.{BankSetUp}
 use Rattle.bank.specs.declared.smoother_bank.SmootherBank.{SmootherBank}
 use Rattle.bank.proofs.Slots.{above-zero}
 use Rattle.driver.specs.Machine.{Machine, machineOf, thresholdParam}
-use Rattle.driver.specs.Block.{andThen}
-use Rattle.driver.specs.Calls.{Left, left, settled, bankBytes, budgetReply, setupOf}
+use Rattle.driver.specs.Calls.{Left, left, settled, bankBytes, budgetReply, withRest, setupOf}
 
 -- 7, by the test
 over : (cap : Cap) → fitsCap bankBytes cap ≡ false → eqb (budgetReply cap .number) 0 ≡ false
@@ -41,38 +41,38 @@ stopped : (r : Reply) (new old : Machine) → eqb (r .number) 0 ≡ false → le
 stopped r new old h = rw h refl
 
 -- the limiter's outcome, with the bank where it is finished: a machine that changes by the reply
-carried : (r : Reply) (l : Limiter) (filled stores : Stores) (b : SmootherBank) → (let o = cond (eqb (r .number) 0) (outcome r l filled) (outcome r notSetUp stores) in
+carried : (r : Reply) (l : Limiter) (filled stores : Stores) (b : SmootherBank) → (let o = cond (eqb (r .number) 0) (limiterLeft r l filled) (limiterLeft r notSetUp stores) in
     left (o .reply) (machineOf (o .limiter) (cond (eqb (o .reply .number) 0) b unset) (o .stores)) ≡ settled (o .reply) (machineOf (o .limiter) b (o .stores)) (machineOf notSetUp unset stores))
 carried r l filled stores b = go (eqb (r .number) 0) refl
   where
-    go : (t : Bool) → eqb (r .number) 0 ≡ t → (let o = cond t (outcome r l filled) (outcome r notSetUp stores) in
+    go : (t : Bool) → eqb (r .number) 0 ≡ t → (let o = cond t (limiterLeft r l filled) (limiterLeft r notSetUp stores) in
         left (o .reply) (machineOf (o .limiter) (cond (eqb (o .reply .number) 0) b unset) (o .stores)) ≡ settled (o .reply) (machineOf (o .limiter) b (o .stores)) (machineOf notSetUp unset stores))
     go true e = rw e refl
     go false e = rw e refl
 
-module _ (s : LimiterSettings) (rate channels block : ℕ) (cap : Cap) (stores : Stores) (set : BankSetUp) (E : Bank.setUpAt set ≡ setUpOf (replicate 8 (thresholdParam s)) 1 rate) where
-  abbrev joined : Bank.Outcome → Prepare.Outcome → Left
-  joined b l = settled (andThen (b .reply) (andThen (budgetReply cap) (l .reply))) (machineOf (l .limiter) (b .bank) (l .stores)) (machineOf notSetUp unset stores)
+module _ (s : LimiterSettings) (spec : ProcessSpec) (stores : Stores) (set : BankSetUp) (E : Bank.setUpAt set ≡ setUpOf (replicate 8 (thresholdParam s)) 1 (spec .rate)) where
+  abbrev joined : Bank.BankLeft → Prepare.LimiterLeft → Left
+  joined b l = settled (andThen (b .reply) (andThen (budgetReply (spec .cap)) (l .reply))) (machineOf (l .limiter) (b .bank) (l .stores)) (machineOf notSetUp unset stores)
 
-  abbrev share : Prepare.Outcome
-  share = prepareOf s rate channels block (leftOf bankBytes cap) stores
+  abbrev share : Prepare.LimiterLeft
+  share = prepareOf s (withRest spec) stores
 
-  whole : setupOf s rate channels block cap stores ≡ joined (Bank.setUpAt set) share
+  whole : setupOf s spec stores ≡ joined (Bank.setUpAt set) share
   unfolding setupOf
-  whole = ap (λ (b : Bank.Outcome). joined b share) (sym E)
+  whole = ap (λ (b : Bank.BankLeft). joined b share) (sym E)
 
-  pub bank-refused : (why : BankRefusal) → set .answer ≡ BankAnswer.Refused why → (r : Left) → r ≡ left (refusalReply why) (machineOf notSetUp unset stores) → r ≡ setupOf s rate channels block cap stores
+  pub bank-refused : (why : BankRefusal) → set .answer ≡ BankAnswer.Refused why → (r : Left) → r ≡ left (refusalReply why) (machineOf notSetUp unset stores) → r ≡ setupOf s spec stores
   bank-refused why k r e =
       let n = ne-eqb (refusalReply why .number) 0 (above-zero why) in
       rw (e, whole, k, n) (stopped (refusalReply why) (machineOf (share .limiter) (set .bank) (share .stores)) (machineOf notSetUp unset stores) n)
 
   module _ (k : set .answer ≡ BankAnswer.Finished) where
-    pub over-budget : fitsCap bankBytes cap ≡ false → (b : Reply) → b ≡ budgetReply cap → (r : Left) → r ≡ left b (machineOf notSetUp unset stores) → r ≡ setupOf s rate channels block cap stores
-    over-budget h b B r e = rw (e, B, whole, k, over cap h) (stopped (budgetReply cap) (machineOf (share .limiter) (set .bank) (share .stores)) (machineOf notSetUp unset stores) (over cap h))
+    pub over-budget : fitsCap bankBytes (spec .cap) ≡ false → (b : Reply) → b ≡ budgetReply (spec .cap) → (r : Left) → r ≡ left b (machineOf notSetUp unset stores) → r ≡ setupOf s spec stores
+    over-budget h b B r e = rw (e, B, whole, k, over (spec .cap) h) (stopped (budgetReply (spec .cap)) (machineOf (share .limiter) (set .bank) (share .stores)) (machineOf notSetUp unset stores) (over (spec .cap) h))
 
-    pub limiter-told : fitsCap bankBytes cap ≡ true → (rest : Cap) → rest ≡ leftOf bankBytes cap → (o : Prepare.Outcome) → o ≡ prepareOf s rate channels block rest stores → (b : SmootherBank) → b ≡ cond (eqb (o .reply .number) 0) (set .bank) unset
-        → left (o .reply) (machineOf (o .limiter) b (o .stores)) ≡ setupOf s rate channels block cap stores
+    pub limiter-told : fitsCap bankBytes (spec .cap) ≡ true → (rest : ProcessSpec) → rest ≡ withRest spec → (o : Prepare.LimiterLeft) → o ≡ prepareOf s rest stores → (b : SmootherBank) → b ≡ cond (eqb (o .reply .number) 0) (set .bank) unset
+        → left (o .reply) (machineOf (o .limiter) b (o .stores)) ≡ setupOf s spec stores
     unfolding prepareOf
     limiter-told h rest c o e b j =
-        rw (j, e, c, whole, k, within cap h)
-        (carried (prepareRefusal s rate channels block (leftOf bankBytes cap) (lengthsOf stores) (stores .weights)) (started s rate channels block) (filled stores) stores (set .bank))
+        rw (j, e, c, whole, k, within (spec .cap) h)
+        (carried (prepareRefusal s (withRest spec) (lengthsOf stores) (stores .weights)) (started s (withRest spec)) (filled stores) stores (set .bank))

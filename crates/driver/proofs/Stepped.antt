@@ -7,6 +7,7 @@ use lib.ListN.{length}
 use lib.Ieee.{Float}
 use borrow.Author.Tests.{eqb-true, leb-true, not-true, not-false}
 use Rattle.arithmetic.proofs.Order.{and-true}
+use Rattle.arithmetic.proofs.Passed.{passed-unless}
 use Rattle.keeper.specs.InOrder.{mostFrames}
 use Rattle.envelope.specs.Step.{GainStepped, envelopedAt, EnvReady}
 use Rattle.arithmetic.specs.Reply.{Reply, numbered, must}
@@ -22,7 +23,6 @@ use Rattle.driver.specs.Answers.{answerReply, gainReplyOf}
 use Rattle.driver.specs.declared.answers.Answer.{Answer}
 use Rattle.driver.specs.declared.answers.GainAnswer.{GainAnswer}
 use Rattle.driver.specs.declared.answers.Refusal.{Refusal}
-use Rattle.driver.proofs.Judged.{kept-first}
 use Rattle.driver.proofs.Refusing.{refused-some}
 
 -- ---- 16 of the four stores
@@ -92,10 +92,10 @@ module _ (m : Machine) (x : Float) (r : Answer) (R : answerReply r ≡ numbered 
     unfolding gainReply inOrder
     gain-ready =
         let k = Order.inOrder (m .limiter) (m .stores .marks) (m .stores .minima) (m .stores .row) in
-        let p = kept-first (prepared (m .limiter) (m .bank)) 17 _ none in
-        let f = kept-first (gainFits (m .limiter) (m .stores)) 15 _ (p .1) in
-        let o = kept-first (k && targetInRange (m .bank)) 18 _ (f .1) in
-        let r = kept-first (hasRoom m 1) 21 0 (o .1) in
+        let p = passed-unless (prepared (m .limiter) (m .bank)) 17 _ none in
+        let f = passed-unless (gainFits (m .limiter) (m .stores)) 15 _ (p .1) in
+        let o = passed-unless (k && targetInRange (m .bank)) 18 _ (f .1) in
+        let r = passed-unless (hasRoom m 1) 21 0 (o .1) in
         let fit = gain-fit (m .limiter) (m .stores) (f .0) in
         let order = order-is (m .limiter) (m .stores .marks) (m .stores .minima) (m .stores .row) (and-true k (targetInRange (m .bank)) (o .0) .0) in
         record {

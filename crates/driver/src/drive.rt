@@ -40,7 +40,17 @@ impl KernelProcessor {
         };
         while block.rendered < frames {
             let t = p.turn(
-                block, format, events, audio, run, delay, marks, minima, weights, row, detector,
+                block,
+                format,
+                events,
+                audio,
+                run,
+                delay,
+                marks,
+                minima,
+                weights,
+                row,
+                detector,
             );
             let next = t.processor;
             let left = t.block;

@@ -64,7 +64,17 @@ fn drain_frames(
     let mut first: usize = 0;
     while first < n {
         let len = tail_run(n - first);
-        l = l.drain(format, len, run, delay, marks, minima, weights, row, detector);
+        l = l.drain(
+            format,
+            len,
+            run,
+            delay,
+            marks,
+            minima,
+            weights,
+            row,
+            detector,
+        );
         scatter(format, channels, len, run, width, first, audio);
         first += len;
     }
@@ -143,7 +153,18 @@ impl KernelProcessor {
         let done = limiter.env.keeper.look <= limiter.drained + n;
         let mut run = run_room();
         let after = drain_frames(
-            limiter, format, n, frames, audio, &mut run, delay, marks, minima, weights, row, detector,
+            limiter,
+            format,
+            n,
+            frames,
+            audio,
+            &mut run,
+            delay,
+            marks,
+            minima,
+            weights,
+            row,
+            detector,
         );
         Flushed {
             answer: FlushAnswer::Finished { written: n, done },

@@ -89,7 +89,16 @@ impl KernelProcessor {
     {
         let size = size_of(format, audio);
         let answer = self.judge_block(
-            position, frames, events, size, delay, marks, minima, weights, row, detector,
+            position,
+            frames,
+            events,
+            size,
+            delay,
+            marks,
+            minima,
+            weights,
+            row,
+            detector,
         );
         if !answer.is_finished() {
             return Called {
@@ -99,7 +108,17 @@ impl KernelProcessor {
         }
         let mut run = run_room();
         let processor = self.drive(
-            format, position, frames, events, audio, &mut run, delay, marks, minima, weights, row,
+            format,
+            position,
+            frames,
+            events,
+            audio,
+            &mut run,
+            delay,
+            marks,
+            minima,
+            weights,
+            row,
             detector,
         );
         Called {

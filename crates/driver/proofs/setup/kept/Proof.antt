@@ -1,7 +1,7 @@
 -- `kept`: by the answer's case.
 use mathlib.Core.Path.{refl, sym}
 use borrow.Author.Needs.{needs}
-use Rattle.limiter.proofs.Answer.{other-case}
+use Rattle.limiter.proofs.Judge.{other-case}
 use Rattle.driver.proofs.setup.kept.Statement.{statement}
 use Rattle.driver.proofs.setup.kept.Tie as tie
 

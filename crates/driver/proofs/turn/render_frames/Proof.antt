@@ -1,32 +1,30 @@
 -- `render_frames`: gathered, rendered, scattered.
-use mathlib.Core.Path.{_∙_}
-use native.Mathlib.Omega.{arith}
+use mathlib.Core.Path.{sym, _∙_}
 use borrow.Author.Needs.{needs}
 use denote.Ref.{now}
 use Rattle.limiter.specs.Stores.{storesAt}
-use Rattle.driver.proofs.Rendering.{kernel-asks, run-room, run-given}
+use Rattle.limiter.proofs.Frames.{bounds-of}
+use Rattle.driver.proofs.Rendering.{kernel-asks, run-given}
 use Rattle.driver.proofs.turn.render_frames.Statement.{statement}
 use Rattle.driver.proofs.turn.render_frames.Tie as tie
 
-carry-requires : tie.Need-carry-requires
-carry-requires c κs =
+gather-requires : tie.Need-gather-requires
+gather-requires c κs =
     let a = c .before .before .before .before .before .before .before .before .before .before .args in
     let p = c .before .before .before .before .before .before .before .before .before .before .pre in
-    let room = run-room (a .limiter) (now (a .run)) (p .ready .set-up) (p .run-fit) in
-    (omega (arith, p .inside), (omega (arith, p .audio-fit), (omega (arith, p .short), room)))
+    (bounds-of (a .limiter) (p .ready .set-up) .most, (p .lends .short, (sym (p .lends .audio-fit), (p .inside, (p .short, p .lends .run-fit)))))
 
 render-requires : tie.Need-render-requires
 render-requires c κs =
     let a = c .before .before .before .before .before .before .before .before .before .before .before .before .before .before .before .before .before .before .before .args in
     let p = c .before .before .before .before .before .before .before .before .before .before .before .before .before .before .before .before .before .before .before .pre in
-    kernel-asks (a .limiter) (a .n) (storesAt (now (a .delay)) (now (a .marks)) (now (a .minima)) (now (a .weights)) (now (a .row)) (now (a .detector))) (c .before .before .before .before .before .before .before .before .carry .last .1 .1 .1 .1 .1 .1 .1 .0) (p .ready) (p .some) (p .short) (c .before .before .before .before .before .before .before .before .carry .kept .1 .1 .1 .1 .1 .1 .1 .0 ∙ p .run-fit)
+    kernel-asks (a .limiter) (a .n) (storesAt (now (a .delay)) (now (a .marks)) (now (a .minima)) (now (a .weights)) (now (a .row)) (now (a .detector))) (c .before .before .before .before .before .before .before .before .gather .last .1 .1 .1 .1 .1 .1 .0) (p .ready) (p .some) (p .short) (c .before .before .before .before .before .before .before .before .gather .kept .1 .1 .1 .1 .1 .1 .0 ∙ p .lends .run-fit)
 
-carry-requires-2 : tie.Need-carry-requires-2
-carry-requires-2 c κs =
+scatter-requires : tie.Need-scatter-requires
+scatter-requires c κs =
     let a = c .before .before .before .before .before .before .before .before .before .before .before .before .before .before .before .before .before .before .before .before .before .before .before .before .before .before .before .before .before .before .before .before .before .before .args in
     let p = c .before .before .before .before .before .before .before .before .before .before .before .before .before .before .before .before .before .before .before .before .before .before .before .before .before .before .before .before .before .before .before .before .before .before .pre in
-    let room = run-room (a .limiter) (c .before .before .before .before .before .before .before .before .before .before .before .before .before .before .render .last .1 .1 .1 .0) (p .ready .set-up) (c .before .before .before .before .before .before .before .before .before .before .before .before .before .before .render .kept .1 .1 .1 .0 ∙ c .before .before .before .before .before .before .before .before .before .before .before .before .before .before .before .before .before .before .before .before .before .before .before .carry .kept .1 .1 .1 .1 .1 .1 .1 .0 ∙ p .run-fit) in
-    (omega (arith, p .short), (room, (omega (arith, p .inside), omega (arith, p .audio-fit))))
+    (bounds-of (a .limiter) (p .ready .set-up) .most, (p .lends .short, (sym (p .lends .audio-fit), (p .inside, (p .short, c .before .before .before .before .before .before .before .before .before .before .before .before .before .before .render .kept .1 .1 .1 .1 .0 ∙ c .before .before .before .before .before .before .before .before .before .before .before .before .before .before .before .before .before .before .before .before .before .before .before .gather .kept .1 .1 .1 .1 .1 .1 .0 ∙ p .lends .run-fit)))))
 
 same-length : tie.Need-same-length
 same-length c = search needs
@@ -52,21 +50,13 @@ same-length-7 c = search needs
 returns : tie.Need-returns
 returns c =
     let a = c .before .before .before .before .before .before .before .before .before .before .before .before .before .before .before .before .before .before .before .before .before .before .before .before .before .before .before .before .before .before .before .before .before .before .before .before .before .args in
-    run-given (a .limiter) (a .target) (a .width) (a .first) (a .n) (storesAt (now (a .delay)) (now (a .marks)) (now (a .minima)) (now (a .weights)) (now (a .row)) (now (a .detector))) (now (a .audio)) (now (a .run)) (c .before .before .before .before .before .before .before .before .before .before .before .before .before .before .before .before .before .before .before .before .before .before .before .before .before .before .carry .last .1 .1 .1 .1 .1 .1 .1 .0) (c .before .before .before .before .before .before .before .before .before .before .before .before .before .before .before .before .before .render .last .1 .1 .1 .0) (c .before .before .carry2 .last .1 .1 .1 .1 .1 .1 .1 .0) (c .before .before .before .before .before .before .before .before .before .before .before .before .before .before .before .before .before .render .result)
-    (storesAt (c .before .before .before .before .before .before .before .before .before .before .before .before .before .before .before .before .before .render .last .1 .1 .1 .1 .0) (c .before .before .before .before .before .before .before .before .before .before .before .before .before .before .before .before .before .render .last .1 .1 .1 .1 .1 .0) (c .before .before .before .before .before .before .before .before .before .before .before .before .before .before .before .before .before .render .last .1 .1 .1 .1 .1 .1 .0) (now (a .weights)) (c .before .before .before .before .before .before .before .before .before .before .before .before .before .before .before .before .before .render .last .1 .1 .1 .1 .1 .1 .1 .1 .0) (c .before .before .before .before .before .before .before .before .before .before .before .before .before .before .before .before .before .render .last .1 .1 .1 .1 .1 .1 .1 .1 .1 .0)) (c .before .before .before .before .before .before .before .before .before .before .before .before .before .before .before .before .before .before .before .before .before .before .before .before .before .before .before .before .before .before .before .before .before .before .before .before .before .pre) (c .before .before .before .before .before .before .before .before .before .before .before .before .before .before .before .before .before .before .before .before .before .before .before .before .before .before .carry .kept .1 .1 .1 .1 .1 .1 .1 .0) (c .before .before .before .before .before .before .before .before .before .before .before .before .before .before .before .before .before .before .before .before .before .before .before .before .before .before .carry .ensures) (c .before .before .before .before .before .before .before .before .before .before .before .before .before .before .before .before .before .render .ensures) (c .before .before .carry2 .ensures) (c .before .before .carry2 .kept .1 .1 .1 .1 .1 .1 .1 .0)
+    let g = c .before .before .before .before .before .before .before .before .before .before .before .before .before .before .before .before .before .before .before .before .before .before .before .before .before .before .gather in
+    let r = c .before .before .before .before .before .before .before .before .before .before .before .before .before .before .before .before .before .render in
+    let s = c .before .before .scatter in
+    run-given (a .limiter) (a .format) (a .target) (a .width) (a .first) (a .n) (storesAt (now (a .delay)) (now (a .marks)) (now (a .minima)) (now (a .weights)) (now (a .row)) (now (a .detector))) (now (a .audio)) (now (a .run)) (g .last .1 .1 .1 .1 .1 .1 .0) (r .last .1 .1 .1 .1 .0) (s .last .1 .1 .1 .1 .1 .1 .0) (r .result)
+    (storesAt (r .last .1 .1 .1 .1 .1 .0) (r .last .1 .1 .1 .1 .1 .1 .0) (r .last .1 .1 .1 .1 .1 .1 .1 .0) (now (a .weights)) (r .last .1 .1 .1 .1 .1 .1 .1 .1 .1 .0) (r .last .1 .1 .1 .1 .1 .1 .1 .1 .1 .1 .0)) (c .before .before .before .before .before .before .before .before .before .before .before .before .before .before .before .before .before .before .before .before .before .before .before .before .before .before .before .before .before .before .before .before .before .before .before .before .before .pre) (g .kept .1 .1 .1 .1 .1 .1 .0) (g .ensures) (r .ensures) (s .ensures)
 
 pub render-frames-spec : {M : Type 1} → statement M
 render-frames-spec =
     tie.close
-    (tie.spec
-    carry-requires
-    render-requires
-    carry-requires-2
-    same-length
-    same-length-2
-    same-length-3
-    same-length-4
-    same-length-5
-    same-length-6
-    same-length-7
-    returns)
+    (tie.spec gather-requires render-requires scatter-requires same-length same-length-2 same-length-3 same-length-4 same-length-5 same-length-6 same-length-7 returns)

@@ -1,134 +1,94 @@
--- `drive`: a turn of the loop is a run.
+-- `drive`: each turn of the loop is a turn of the block.
 use mathlib.Core.Path.{_≡_, refl, _∙_}
 use Prim.Native.Nat.{_-_}
 use native.Mathlib.Omega.{arith}
 use lib.ListN.{length}
 use denote.Ref.{now}
 use Rattle.limiter.specs.Stores.{storesAt}
-use Rattle.driver.specs.Machine.{machineOf, machineAt, thresholdOf}
-use Rattle.driver.proofs.Driving.{Driven, driven-start, run-inside, driven-asks, driven-more, driven-machine, driven-audio}
+use Rattle.driver.specs.Machine.{machineAt}
+use Rattle.driver.proofs.Driving.{Driven, driven-start, driven-asks, driven-more, driven-less, driven-machine, driven-audio}
 use Rattle.driver.proofs.state.KernelProcessor.drive.Statement.{statement}
 use Rattle.driver.proofs.state.KernelProcessor.drive.Tie as tie
 
 abbrev Inv-loop : tie.InvT-loop
-Inv-loop position frames events audio₀ run₀ delay₀ marks₀ minima₀ weights row₀ detector₀ limiter₀ bank₀ cursor₀ first₀ audio run delay marks minima row detector limiter bank cursor first =
-    Driven position frames events audio₀ (machineOf limiter₀ bank₀ (storesAt delay₀ marks₀ minima₀ weights row₀ detector₀)) first cursor (machineOf limiter bank (storesAt delay marks minima weights row detector)) audio run
+Inv-loop format position frames events audio₀ run₀ delay₀ marks₀ minima₀ weights row₀ detector₀ p₀ block₀ audio run delay marks minima row detector p block =
+    Driven format position frames events audio₀ (machineAt p₀ (storesAt delay₀ marks₀ minima₀ weights row₀ detector₀)) block (machineAt p (storesAt delay marks minima weights row detector)) audio run
     × (length audio ≡ length audio₀) × (length run ≡ length run₀) × (length delay ≡ length delay₀) × (length marks ≡ length marks₀) × (length minima ≡ length minima₀) × (length row ≡ length row₀) × (length detector ≡ length detector₀)
 
 abbrev μ-loop : tie.MeasureT-loop
-μ-loop position frames events audio₀ run₀ delay₀ marks₀ minima₀ weights row₀ detector₀ limiter₀ bank₀ cursor₀ first₀ audio run delay marks minima row detector limiter bank cursor first =
-    frames - first
+μ-loop format position frames events audio₀ run₀ delay₀ marks₀ minima₀ weights row₀ detector₀ p₀ block₀ audio run delay marks minima row detector p block =
+    frames - block .rendered
 
 loop-holds : tie.Need-loop-holds Inv-loop μ-loop
 loop-holds c =
-    let a = c .before .before .before .before .before .before .before .before .before .before .before .args in
-    (driven-start (a .position) (a .frames) (now (a .events)) (now (a .audio)) (machineAt (a .self) (storesAt (now (a .delay)) (now (a .marks)) (now (a .minima)) (now (a .weights)) (now (a .row)) (now (a .detector)))) (now (a .run)) (c .before .before .before .before .before .before .before .before .before .before .before .pre), refl, refl, refl, refl, refl, refl, refl)
+    let a = c .before .before .before .before .before .before .before .before .before .args in
+    (driven-start (a .format) (a .position) (a .frames) (now (a .events)) (now (a .audio)) (machineAt (a .self) (storesAt (now (a .delay)) (now (a .marks)) (now (a .minima)) (now (a .weights)) (now (a .row)) (now (a .detector)))) (now (a .run)) (c .before .before .before .before .before .before .before .before .before .pre) _ refl, refl, refl, refl, refl, refl, refl, refl)
 
-add-at : tie.Need-add-at Inv-loop μ-loop
-add-at c = omega (arith, c .before .before .before .before .before .before .before .before .before .before .before .before .before .pre .far, c .before .loop .inv .0 .inside)
-
-sub-run-length : tie.Need-sub-run-length Inv-loop μ-loop
-sub-run-length c = omega arith
-
-run-length-requires : tie.Need-run-length-requires Inv-loop μ-loop
-run-length-requires c κs = tt
-
-before-run-requires : tie.Need-before-run-requires Inv-loop μ-loop
-before-run-requires c κs = c .before .before .loop .inv .0 .events-left
-
-target-now-requires : tie.Need-target-now-requires Inv-loop μ-loop
-target-now-requires c κs = tt
-
-render-frames-requires : tie.Need-render-frames-requires Inv-loop μ-loop
-render-frames-requires c κs =
-    let a = c .before .before .before .before .before .before .before .before .before .before .before .before .before .before .before .before .before .before .before .before .before .before .before .before .args in
-    let l = c .before .before .before .before .before .before .before .before .before .before .before .before .loop in
-    driven-asks (a .position) (a .frames) (now (a .events)) (now (a .audio)) (machineAt (a .self) (storesAt (now (a .delay)) (now (a .marks)) (now (a .minima)) (now (a .weights)) (now (a .row)) (now (a .detector)))) (c .before .before .before .before .before .before .before .before .before .before .before .before .before .before .before .before .before .before .before .before .before .before .before .before .pre .audio-fit) (l .first) (l .cursor) (c .before .before .before .before .before .before .before .before .before .before .run-length .result) (machineOf (l .limiter) (l .bank) (storesAt (l .delay) (l .marks) (l .minima) (now (a .weights)) (l .row) (l .detector))) (l .audio) (l .run) (l .inv .0) (c .before .before .before .before .before .before .before .before .before .before .before .loop-test .taken) (c .before .before .before .before .before .before .before .before .before .before .run-length .ensures) (thresholdOf (c .before .before .before .before .before .before .before .before .before .before-run .result .bank) .cur) (l .limiter .settings .«true_peak_margin_db») (c .before .before .before .before .before .before .before .target-now .result) (c .before .before .before .before .before .before .before .target-now .ensures)
-
-add-first : tie.Need-add-first Inv-loop μ-loop
-add-first c =
-    let a = c .before .before .before .before .before .before .before .before .before .before .before .before .before .before .before .before .before .before .before .before .before .before .before .before .before .before .before .before .before .before .before .before .before .before .before .before .before .before .before .args in
-    let l = c .before .before .before .before .before .before .before .before .before .before .before .before .before .before .before .before .before .before .before .before .before .before .before .before .before .before .before .loop in
-    let n = run-inside (a .position) (a .frames) (now (a .events)) (now (a .audio)) (machineAt (a .self) (storesAt (now (a .delay)) (now (a .marks)) (now (a .minima)) (now (a .weights)) (now (a .row)) (now (a .detector)))) (c .before .before .before .before .before .before .before .before .before .before .before .before .before .before .before .before .before .before .before .before .before .before .before .before .before .before .before .before .before .before .before .before .before .before .before .before .before .before .before .pre .audio-fit) (l .first) (l .cursor) (c .before .before .before .before .before .before .before .before .before .before .before .before .before .before .before .before .before .before .before .before .before .before .before .before .before .run-length .result) (machineOf (l .limiter) (l .bank) (storesAt (l .delay) (l .marks) (l .minima) (now (a .weights)) (l .row) (l .detector))) (l .audio) (l .run) (l .inv .0) (c .before .before .before .before .before .before .before .before .before .before .before .before .before .before .before .before .before .before .before .before .before .before .before .before .before .before .loop-test .taken) (c .before .before .before .before .before .before .before .before .before .before .before .before .before .before .before .before .before .before .before .before .before .before .before .before .before .run-length .ensures) in
-    omega (arith, n .2, c .before .before .before .before .before .before .before .before .before .before .before .before .before .before .before .before .before .before .before .before .before .before .before .before .before .before .before .before .before .before .before .before .before .before .before .before .before .before .before .pre .short)
+turn-requires : tie.Need-turn-requires Inv-loop μ-loop
+turn-requires c κs =
+    let a = c .before .before .before .before .before .before .before .before .before .before .before .before .before .before .before .before .before .before .before .args in
+    let l = c .before .before .before .before .before .before .before .before .before .loop in
+    driven-asks (a .format) (a .position) (a .frames) (now (a .events)) (now (a .audio)) (machineAt (a .self) (storesAt (now (a .delay)) (now (a .marks)) (now (a .minima)) (now (a .weights)) (now (a .row)) (now (a .detector)))) (now (a .run)) (c .before .before .before .before .before .before .before .before .before .before .before .before .before .before .before .before .before .before .before .pre) (l .block) (machineAt (l .p) (storesAt (l .delay) (l .marks) (l .minima) (now (a .weights)) (l .row) (l .detector))) (l .audio) (l .run) (l .inv .0) (c .before .before .before .before .before .before .before .if1 .taken)
 
 loop-less : tie.Need-loop-less Inv-loop μ-loop
 loop-less c =
-    let a = c .before .before .before .before .before .before .before .before .before .before .before .before .before .before .before .before .before .before .before .before .before .before .before .before .before .before .before .before .before .before .before .before .before .before .before .before .before .before .before .args in
-    let l = c .before .before .before .before .before .before .before .before .before .before .before .before .before .before .before .before .before .before .before .before .before .before .before .before .before .before .before .loop in
-    let n = run-inside (a .position) (a .frames) (now (a .events)) (now (a .audio)) (machineAt (a .self) (storesAt (now (a .delay)) (now (a .marks)) (now (a .minima)) (now (a .weights)) (now (a .row)) (now (a .detector)))) (c .before .before .before .before .before .before .before .before .before .before .before .before .before .before .before .before .before .before .before .before .before .before .before .before .before .before .before .before .before .before .before .before .before .before .before .before .before .before .before .pre .audio-fit) (l .first) (l .cursor) (c .before .before .before .before .before .before .before .before .before .before .before .before .before .before .before .before .before .before .before .before .before .before .before .before .before .run-length .result) (machineOf (l .limiter) (l .bank) (storesAt (l .delay) (l .marks) (l .minima) (now (a .weights)) (l .row) (l .detector))) (l .audio) (l .run) (l .inv .0) (c .before .before .before .before .before .before .before .before .before .before .before .before .before .before .before .before .before .before .before .before .before .before .before .before .before .before .loop-test .taken) (c .before .before .before .before .before .before .before .before .before .before .before .before .before .before .before .before .before .before .before .before .before .before .before .before .before .run-length .ensures) in
-    omega (arith, n .0, n .2)
+    let a = c .before .before .before .before .before .before .before .before .before .before .before .before .before .before .before .before .before .before .before .before .before .before .before .before .before .before .before .before .before .before .before .before .before .before .before .before .args in
+    let l = c .before .before .before .before .before .before .before .before .before .before .before .before .before .before .before .before .before .before .before .before .before .before .before .before .before .before .loop in
+    let t = c .before .before .before .before .before .before .before .before .before .before .before .before .before .before .before .before .turn in
+    driven-less (a .format) (a .position) (a .frames) (now (a .events)) (now (a .audio)) (machineAt (a .self) (storesAt (now (a .delay)) (now (a .marks)) (now (a .minima)) (now (a .weights)) (now (a .row)) (now (a .detector)))) (now (a .run)) (c .before .before .before .before .before .before .before .before .before .before .before .before .before .before .before .before .before .before .before .before .before .before .before .before .before .before .before .before .before .before .before .before .before .before .before .before .pre) (l .block) (machineAt (l .p) (storesAt (l .delay) (l .marks) (l .minima) (now (a .weights)) (l .row) (l .detector))) (l .audio) (l .run) (l .inv .0) (c .before .before .before .before .before .before .before .before .before .before .before .before .before .before .before .before .before .before .before .before .before .before .before .before .if1 .taken)
+    (machineAt (t .result .processor) (storesAt (t .last .1 .1 .1 .1 .1 .1 .0) (t .last .1 .1 .1 .1 .1 .1 .1 .0) (t .last .1 .1 .1 .1 .1 .1 .1 .1 .0) (now (a .weights)) (t .last .1 .1 .1 .1 .1 .1 .1 .1 .1 .1 .0) (t .last .1 .1 .1 .1 .1 .1 .1 .1 .1 .1 .1 .0))) (t .result .block) (t .last .1 .1 .1 .1 .0) (t .last .1 .1 .1 .1 .1 .0) (t .ensures) (t .kept .1 .1 .1 .1 .1 .0)
 
 loop-again : tie.Need-loop-again Inv-loop μ-loop
 loop-again c =
-    let a = c .before .before .before .before .before .before .before .before .before .before .before .before .before .before .before .before .before .before .before .before .before .before .before .before .before .before .before .before .before .before .before .before .before .before .before .before .before .before .before .args in
-    let l = c .before .before .before .before .before .before .before .before .before .before .before .before .before .before .before .before .before .before .before .before .before .before .before .before .before .before .before .loop in (
-      driven-more (a .position) (a .frames) (now (a .events)) (now (a .audio)) (machineAt (a .self) (storesAt (now (a .delay)) (now (a .marks)) (now (a .minima)) (now (a .weights)) (now (a .row)) (now (a .detector)))) (c .before .before .before .before .before .before .before .before .before .before .before .before .before .before .before .before .before .before .before .before .before .before .before .before .before .before .before .before .before .before .before .before .before .before .before .before .before .before .before .pre .audio-fit) (l .first) (l .cursor) (c .before .before .before .before .before .before .before .before .before .before .before .before .before .before .before .before .before .before .before .before .before .before .before .before .before .run-length .result) (machineOf (l .limiter) (l .bank) (storesAt (l .delay) (l .marks) (l .minima) (now (a .weights)) (l .row) (l .detector))) (l .audio) (l .run) (l .inv .0) (c .before .before .before .before .before .before .before .before .before .before .before .before .before .before .before .before .before .before .before .before .before .before .before .before .before .before .loop-test .taken) (c .before .before .before .before .before .before .before .before .before .before .before .before .before .before .before .before .before .before .before .before .before .before .before .before .before .run-length .ensures) (c .before .before .before .before .before .before .before .before .before .before .before .before .before .before .before .before .before .before .before .before .before .before .before .before .before-run .result .cursor) (c .before .before .before .before .before .before .before .before .before .before .before .before .before .before .before .before .before .before .before .before .before .before .before .before .before-run .result .bank) (c .before .before .before .before .before .before .before .before .before .before .before .before .before .before .before .before .before .before .before .before .before .before .target-now .result) (c .before .before .before .before .before .before .before .before .before .before .before .before .before .before .render-frames .result)
-          (storesAt (c .before .before .before .before .before .before .before .before .before .before .before .before .before .before .render-frames .last .1 .1 .1 .1 .1 .1 .1 .0) (c .before .before .before .before .before .before .before .before .before .before .before .before .before .before .render-frames .last .1 .1 .1 .1 .1 .1 .1 .1 .0) (c .before .before .before .before .before .before .before .before .before .before .before .before .before .before .render-frames .last .1 .1 .1 .1 .1 .1 .1 .1 .1 .0) (now (a .weights)) (c .before .before .before .before .before .before .before .before .before .before .before .before .before .before .render-frames .last .1 .1 .1 .1 .1 .1 .1 .1 .1 .1 .1 .0) (c .before .before .before .before .before .before .before .before .before .before .before .before .before .before .render-frames .last .1 .1 .1 .1 .1 .1 .1 .1 .1 .1 .1 .1 .0)) (c .before .before .before .before .before .before .before .before .before .before .before .before .before .before .render-frames .last .1 .1 .1 .1 .1 .0) (c .before .before .before .before .before .before .before .before .before .before .before .before .before .before .render-frames .last .1 .1 .1 .1 .1 .1 .0)
-          (c .before .before .before .before .before .before .before .before .before .before .before .before .before .before .before .before .before .before .before .before .before .before .before .before .before-run .ensures .0) (c .before .before .before .before .before .before .before .before .before .before .before .before .before .before .before .before .before .before .before .before .before .before .before .before .before-run .ensures .1) (c .before .before .before .before .before .before .before .before .before .before .before .before .before .before .before .before .before .before .before .before .before .before .target-now .ensures) (c .before .before .before .before .before .before .before .before .before .before .before .before .before .before .render-frames .ensures) (c .before .before .before .before .before .before .before .before .before .before .before .before .before .before .render-frames .kept .1 .1 .1 .1 .1 .1 .0),
-      _∙_ {b = length (l .audio)} (c .before .before .before .before .before .before .before .before .before .before .before .before .before .before .render-frames .kept .1 .1 .1 .1 .1 .0) (l .inv .1),
-      _∙_ {b = length (l .run)} (c .before .before .before .before .before .before .before .before .before .before .before .before .before .before .render-frames .kept .1 .1 .1 .1 .1 .1 .0) (l .inv .2),
-      _∙_ {b = length (l .delay)} (c .before .before .before .before .before .before .before .before .before .before .before .before .before .before .render-frames .kept .1 .1 .1 .1 .1 .1 .1 .0) (l .inv .3),
-      _∙_ {b = length (l .marks)} (c .before .before .before .before .before .before .before .before .before .before .before .before .before .before .render-frames .kept .1 .1 .1 .1 .1 .1 .1 .1 .0) (l .inv .4),
-      _∙_ {b = length (l .minima)} (c .before .before .before .before .before .before .before .before .before .before .before .before .before .before .render-frames .kept .1 .1 .1 .1 .1 .1 .1 .1 .1 .0) (l .inv .5),
-      _∙_ {b = length (l .row)} (c .before .before .before .before .before .before .before .before .before .before .before .before .before .before .render-frames .kept .1 .1 .1 .1 .1 .1 .1 .1 .1 .1 .1 .0) (l .inv .6),
-      _∙_ {b = length (l .detector)} (c .before .before .before .before .before .before .before .before .before .before .before .before .before .before .render-frames .kept .1 .1 .1 .1 .1 .1 .1 .1 .1 .1 .1 .1 .0) (l .inv .7),
+    let a = c .before .before .before .before .before .before .before .before .before .before .before .before .before .before .before .before .before .before .before .before .before .before .before .before .before .before .before .before .before .before .before .before .before .before .before .before .args in
+    let l = c .before .before .before .before .before .before .before .before .before .before .before .before .before .before .before .before .before .before .before .before .before .before .before .before .before .before .loop in
+    let t = c .before .before .before .before .before .before .before .before .before .before .before .before .before .before .before .before .turn in (
+      driven-more (a .format) (a .position) (a .frames) (now (a .events)) (now (a .audio)) (machineAt (a .self) (storesAt (now (a .delay)) (now (a .marks)) (now (a .minima)) (now (a .weights)) (now (a .row)) (now (a .detector)))) (now (a .run)) (c .before .before .before .before .before .before .before .before .before .before .before .before .before .before .before .before .before .before .before .before .before .before .before .before .before .before .before .before .before .before .before .before .before .before .before .before .pre) (l .block) (machineAt (l .p) (storesAt (l .delay) (l .marks) (l .minima) (now (a .weights)) (l .row) (l .detector))) (l .audio) (l .run) (l .inv .0) (c .before .before .before .before .before .before .before .before .before .before .before .before .before .before .before .before .before .before .before .before .before .before .before .before .if1 .taken)
+          (machineAt (t .result .processor) (storesAt (t .last .1 .1 .1 .1 .1 .1 .0) (t .last .1 .1 .1 .1 .1 .1 .1 .0) (t .last .1 .1 .1 .1 .1 .1 .1 .1 .0) (now (a .weights)) (t .last .1 .1 .1 .1 .1 .1 .1 .1 .1 .1 .0) (t .last .1 .1 .1 .1 .1 .1 .1 .1 .1 .1 .1 .0))) (t .result .block) (t .last .1 .1 .1 .1 .0) (t .last .1 .1 .1 .1 .1 .0) (t .ensures) (t .kept .1 .1 .1 .1 .1 .0),
+      _∙_ {b = length (l .audio)} (t .kept .1 .1 .1 .1 .0) (l .inv .1),
+      _∙_ {b = length (l .run)} (t .kept .1 .1 .1 .1 .1 .0) (l .inv .2),
+      _∙_ {b = length (l .delay)} (t .kept .1 .1 .1 .1 .1 .1 .0) (l .inv .3),
+      _∙_ {b = length (l .marks)} (t .kept .1 .1 .1 .1 .1 .1 .1 .0) (l .inv .4),
+      _∙_ {b = length (l .minima)} (t .kept .1 .1 .1 .1 .1 .1 .1 .1 .0) (l .inv .5),
+      _∙_ {b = length (l .row)} (t .kept .1 .1 .1 .1 .1 .1 .1 .1 .1 .1 .0) (l .inv .6),
+      _∙_ {b = length (l .detector)} (t .kept .1 .1 .1 .1 .1 .1 .1 .1 .1 .1 .1 .0) (l .inv .7),
     )
 
 latch-rest-requires : tie.Need-latch-rest-requires Inv-loop μ-loop
-latch-rest-requires c κs = c .before .loop .inv .0 .events-left
+latch-rest-requires c κs = c .before .before .before .before .loop .inv .0 .events-left
 
 same-length : tie.Need-same-length Inv-loop μ-loop
-same-length c = c .before .before .loop .inv .1
+same-length c = c .before .before .before .before .before .loop .inv .1
 
 same-length-2 : tie.Need-same-length-2 Inv-loop μ-loop
-same-length-2 c = c .before .before .loop .inv .2
+same-length-2 c = c .before .before .before .before .before .loop .inv .2
 
 same-length-3 : tie.Need-same-length-3 Inv-loop μ-loop
-same-length-3 c = c .before .before .loop .inv .3
+same-length-3 c = c .before .before .before .before .before .loop .inv .3
 
 same-length-4 : tie.Need-same-length-4 Inv-loop μ-loop
-same-length-4 c = c .before .before .loop .inv .4
+same-length-4 c = c .before .before .before .before .before .loop .inv .4
 
 same-length-5 : tie.Need-same-length-5 Inv-loop μ-loop
-same-length-5 c = c .before .before .loop .inv .5
+same-length-5 c = c .before .before .before .before .before .loop .inv .5
 
 same-length-6 : tie.Need-same-length-6 Inv-loop μ-loop
-same-length-6 c = c .before .before .loop .inv .6
+same-length-6 c = c .before .before .before .before .before .loop .inv .6
 
 same-length-7 : tie.Need-same-length-7 Inv-loop μ-loop
-same-length-7 c = c .before .before .loop .inv .7
+same-length-7 c = c .before .before .before .before .before .loop .inv .7
 
 returns : tie.Need-returns Inv-loop μ-loop
 returns c =
-    let a = c .before .before .before .before .before .before .before .before .before .before .before .before .before .before .args in
-    let l = c .before .before .loop in (
-      driven-machine (a .position) (a .frames) (now (a .events)) (now (a .audio)) (machineAt (a .self) (storesAt (now (a .delay)) (now (a .marks)) (now (a .minima)) (now (a .weights)) (now (a .row)) (now (a .detector)))) (l .first) (l .cursor) (machineOf (l .limiter) (l .bank) (storesAt (l .delay) (l .marks) (l .minima) (now (a .weights)) (l .row) (l .detector))) (l .audio) (l .run) (l .inv .0) (c .before .loop-test .left) (c .latch-rest .result) (c .latch-rest .ensures),
-      driven-audio (a .position) (a .frames) (now (a .events)) (now (a .audio)) (machineAt (a .self) (storesAt (now (a .delay)) (now (a .marks)) (now (a .minima)) (now (a .weights)) (now (a .row)) (now (a .detector)))) (l .first) (l .cursor) (machineOf (l .limiter) (l .bank) (storesAt (l .delay) (l .marks) (l .minima) (now (a .weights)) (l .row) (l .detector))) (l .audio) (l .run) (l .inv .0) (c .before .loop-test .left) (c .latch-rest .result) (c .latch-rest .ensures),
+    let a = c .before .before .before .before .before .before .before .before .before .before .before .before .before .before .before .args in
+    let l = c .before .before .before .before .before .loop in
+    let m = machineAt (l .p) (storesAt (l .delay) (l .marks) (l .minima) (now (a .weights)) (l .row) (l .detector)) in
+    let rest = c .latch-rest in (
+      driven-machine (a .format) (a .position) (a .frames) (now (a .events)) (now (a .audio)) (machineAt (a .self) (storesAt (now (a .delay)) (now (a .marks)) (now (a .minima)) (now (a .weights)) (now (a .row)) (now (a .detector)))) (l .block) m (l .audio) (l .run) (l .inv .0) (c .before .before .before .if1 .left) (rest .result) (rest .ensures),
+      driven-audio (a .format) (a .position) (a .frames) (now (a .events)) (now (a .audio)) (machineAt (a .self) (storesAt (now (a .delay)) (now (a .marks)) (now (a .minima)) (now (a .weights)) (now (a .row)) (now (a .detector)))) (l .block) m (l .audio) (l .run) (l .inv .0) (c .before .before .before .if1 .left) (rest .result) (rest .ensures),
     )
 
 pub drive-spec : {M : Type 1} → statement M
 drive-spec =
     tie.close
-    (tie.spec
-    Inv-loop
-    μ-loop
-    loop-holds
-    add-at
-    sub-run-length
-    run-length-requires
-    before-run-requires
-    target-now-requires
-    render-frames-requires
-    add-first
-    loop-less
-    loop-again
-    latch-rest-requires
-    same-length
-    same-length-2
-    same-length-3
-    same-length-4
-    same-length-5
-    same-length-6
-    same-length-7
-    returns)
+    (tie.spec Inv-loop μ-loop loop-holds turn-requires loop-less loop-again latch-rest-requires same-length same-length-2 same-length-3 same-length-4 same-length-5 same-length-6 same-length-7 returns)

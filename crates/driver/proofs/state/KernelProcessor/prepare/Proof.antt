@@ -25,12 +25,8 @@ refused-requires c κs = search needs
 
 returns : tie.Need-returns
 returns c =
-    let b = c .before .before .before .before .before in
-    let s = b .before .before .before .before .before .before .before in
-    let a = s .args in
-    let first = c .before .before .first in
-    bank-refused (a .s) (a .rate) (a .channels) (a .«max-block») (a .cap) (stores s) (b .bank-of .result) (b .bank-of .ensures) (first .given .0 .0) (first .given .1)
-    (setUpAt (c .refused .result) (stores s)) (c .refused .ensures (stores s))
+    let a = c .before .before .before .before .before .before .before .before .before .before .before .before .args in
+    bank-refused (a .s) (a .spec) (stores (c .before .before .before .before .before .before .before .before .before .before .before .before)) (c .before .before .before .before .before .bank-of .result) (c .before .before .before .before .before .bank-of .ensures) (c .before .before .first .given .0 .0) (c .before .before .first .given .1) (setUpAt (c .refused .result) (stores (c .before .before .before .before .before .before .before .before .before .before .before .before))) (c .refused .ensures (stores (c .before .before .before .before .before .before .before .before .before .before .before .before)))
 
 enum-told : tie.Need-enum-told
 enum-told c = search needs
@@ -46,15 +42,12 @@ refused-requires-2 c κs = search needs
 
 returns-2 : tie.Need-returns-2
 returns-2 c =
-    let f = c .before .before .before in
-    let b = f .before .before .before .before in
-    let s = b .before .before .before .before .before .before .before in
-    let a = s .args in
-    over-budget (a .s) (a .rate) (a .channels) (a .«max-block») (a .cap) (stores s) (b .bank-of .result) (b .bank-of .ensures) (f .before .enum-told .given .1)
-    (failed (f .fits-cap .ensures) (c .before .before .if1 .taken)) (setupReply (c .before .budget .result)) (c .before .budget .ensures) (setUpAt (c .refused2 .result) (stores s)) (c .refused2 .ensures (stores s))
+    let a = c .before .before .before .before .before .before .before .before .before .before .before .before .before .before .args in
+    over-budget (a .s) (a .spec) (stores (c .before .before .before .before .before .before .before .before .before .before .before .before .before .before)) (c .before .before .before .before .before .before .before .bank-of .result) (c .before .before .before .before .before .before .before .bank-of .ensures) (c .before .before .before .before .enum-told .given .1) (failed (c .before .before .before .fits-cap .ensures) (c .before .before .if1 .taken)) (setupReply (c .before .budget .result)) (c .before .budget .ensures)
+    (setUpAt (c .refused2 .result) (stores (c .before .before .before .before .before .before .before .before .before .before .before .before .before .before))) (c .refused2 .ensures (stores (c .before .before .before .before .before .before .before .before .before .before .before .before .before .before)))
 
-left-of-requires : tie.Need-left-of-requires
-left-of-requires c κs = search needs
+with-rest-requires : tie.Need-with-rest-requires
+with-rest-requires c κs = search needs
 
 prepare-requires : tie.Need-prepare-requires
 prepare-requires c κs = search needs
@@ -79,17 +72,10 @@ same-length-5 c = search needs
 
 returns-3 : tie.Need-returns-3
 returns-3 c =
-    let p = c .before .before .before .before .before .before .before .before .before .before .before .before in
-    let l = p .before .before .before .before .before .before in
-    let f = l .before .before in
-    let b = f .before .before .before .before in
-    let s = b .before .before .before .before .before .before .before in
-    let a = s .args in
-    let last = p .prepare .last .1 .1 .1 .1 .1 in
-    limiter-told (a .s) (a .rate) (a .channels) (a .«max-block») (a .cap) (stores s) (b .bank-of .result) (b .bank-of .ensures) (f .before .enum-told .given .1)
-    (held (f .fits-cap .ensures) (l .before .if1 .left)) (l .left-of .result) (l .left-of .ensures)
-    (preparedAt (p .prepare .result) (storesAt (last .0) (last .1 .0) (last .1 .1 .0) (now (a .weights)) (last .1 .1 .1 .1 .0) (last .1 .1 .1 .1 .1 .0)))
-    (p .prepare .ensures) (c .kept .result) (c .kept .ensures)
+    let a = c .before .before .before .before .before .before .before .before .before .before .before .before .before .before .before .before .before .before .before .before .before .before .before .before .before .before .before .before .before .before .before .args in
+    let p = c .before .before .before .before .before .before .before .before .before .before .before .before .prepare in
+    limiter-told (a .s) (a .spec) (stores (c .before .before .before .before .before .before .before .before .before .before .before .before .before .before .before .before .before .before .before .before .before .before .before .before .before .before .before .before .before .before .before)) (c .before .before .before .before .before .before .before .before .before .before .before .before .before .before .before .before .before .before .before .before .before .before .before .before .bank-of .result) (c .before .before .before .before .before .before .before .before .before .before .before .before .before .before .before .before .before .before .before .before .before .before .before .before .bank-of .ensures) (c .before .before .before .before .before .before .before .before .before .before .before .before .before .before .before .before .before .before .before .before .before .enum-told .given .1) (held (c .before .before .before .before .before .before .before .before .before .before .before .before .before .before .before .before .before .before .before .before .fits-cap .ensures) (c .before .before .before .before .before .before .before .before .before .before .before .before .before .before .before .before .before .before .before .if1 .left)) (c .before .before .before .before .before .before .before .before .before .before .before .before .before .before .before .before .before .before .with-rest .result) (c .before .before .before .before .before .before .before .before .before .before .before .before .before .before .before .before .before .before .with-rest .ensures)
+    (preparedAt (p .result) (storesAt (p .last .1 .1 .0) (p .last .1 .1 .1 .0) (p .last .1 .1 .1 .1 .0) (now (a .weights)) (p .last .1 .1 .1 .1 .1 .1 .0) (p .last .1 .1 .1 .1 .1 .1 .1 .0))) (p .ensures) (c .kept .result) (c .kept .ensures)
 
 pub prepare-spec : {M : Type 1} → statement M
 prepare-spec =
@@ -104,7 +90,7 @@ prepare-spec =
     budget-requires
     refused-requires-2
     returns-2
-    left-of-requires
+    with-rest-requires
     prepare-requires
     kept-requires
     same-length

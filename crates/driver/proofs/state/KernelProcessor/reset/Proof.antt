@@ -4,6 +4,7 @@ use denote.Ref.{now}
 use Rattle.limiter.specs.Stores.{storesAt}
 use Rattle.limiter.specs.Reset.{resetAt}
 use Rattle.driver.specs.Machine.{Machine, machineAt}
+use Rattle.driver.specs.Answers.{answerReply}
 use Rattle.driver.proofs.Judged.{prepared-is}
 use Rattle.driver.proofs.Called.{reset-refused, reset-prepared, reset-done}
 use Rattle.driver.proofs.state.KernelProcessor.reset.Statement.{statement}
@@ -14,11 +15,11 @@ machine s =
     let a = s .args in
     machineAt (a .self) (storesAt (now (a .delay)) (now (a .marks)) (now (a .minima)) (now (a .weights)) (now (a .row)) (now (a .detector)))
 
-reset-refusal-requires : tie.Need-reset-refusal-requires
-reset-refusal-requires c κs = search needs
+judge-reset-requires : tie.Need-judge-reset-requires
+judge-reset-requires c κs = search needs
 
-answer-of-requires : tie.Need-answer-of-requires
-answer-of-requires c κs = search needs
+is-finished-requires : tie.Need-is-finished-requires
+is-finished-requires c κs = search needs
 
 same-length : tie.Need-same-length
 same-length c = search needs
@@ -30,12 +31,12 @@ same-length-3 : tie.Need-same-length-3
 same-length-3 c = search needs
 
 returns : tie.Need-returns
-returns c = reset-refused (machine (c .before .before .before .before .before .before .before .before .before .before .before .before)) (c .before .before .reset-refusal .result) (c .before .before .reset-refusal .ensures) (c .before .if1 .taken) (c .answer-of .result) (c .answer-of .ensures)
+returns c = reset-refused (machine (c .before .before .before .before .before .before .before .before .before .before .before .before)) (answerReply (c .before .before .judge-reset .result)) (c .before .before .judge-reset .ensures) (c .before .is-finished .result) (c .before .is-finished .ensures) (c .if1 .taken)
 
 reset-prepared-requires : tie.Need-reset-prepared-requires
 reset-prepared-requires c κs =
-    let p = c .before .before .before .before .before .before .before .before .before .before .before .before .before .before .before .before .args .self in
-    prepared-is (p .limiter) (p .bank) (reset-prepared (machine (c .before .before .before .before .before .before .before .before .before .before .before .before .before .before .before .before)) (c .before .before .before .before .before .before .reset-refusal .result) (c .before .before .before .before .before .before .reset-refusal .ensures) (c .before .before .before .before .before .if1 .left)) .kernel
+    let p = c .before .before .before .before .before .before .before .before .before .before .before .before .before .before .before .before .before .args .self in
+    prepared-is (p .limiter) (p .bank) (reset-prepared (machine (c .before .before .before .before .before .before .before .before .before .before .before .before .before .before .before .before .before)) (answerReply (c .before .before .before .before .before .before .before .judge-reset .result)) (c .before .before .before .before .before .before .before .judge-reset .ensures) (c .before .before .before .before .before .before .is-finished .result) (c .before .before .before .before .before .before .is-finished .ensures) (c .before .before .before .before .before .if1 .left)) .kernel
 
 apply-all-requires : tie.Need-apply-all-requires
 apply-all-requires c κs = search needs
@@ -51,25 +52,12 @@ same-length-6 c = search needs
 
 returns-2 : tie.Need-returns-2
 returns-2 c =
-    let s = c .before .before .before .before .before .before .before .before .before .before .before .before .before .before .before .before .before .before .before .before .before .before .before .before in
-    let a = s .args in
+    let a = c .before .before .before .before .before .before .before .before .before .before .before .before .before .before .before .before .before .before .before .before .before .before .before .before .before .args in
     let r = c .before .before .before .before .before .before .before .reset-prepared in
-    reset-done (machine s) (c .before .before .before .before .before .before .before .before .before .before .before .before .before .before .reset-refusal .result) (c .before .before .before .before .before .before .before .before .before .before .before .before .before .before .reset-refusal .ensures) (c .before .before .before .before .before .before .before .before .before .before .before .before .before .if1 .left)
+    reset-done (machine (c .before .before .before .before .before .before .before .before .before .before .before .before .before .before .before .before .before .before .before .before .before .before .before .before .before)) (answerReply (c .before .before .before .before .before .before .before .before .before .before .before .before .before .before .before .judge-reset .result)) (c .before .before .before .before .before .before .before .before .before .before .before .before .before .before .before .judge-reset .ensures) (c .before .before .before .before .before .before .before .before .before .before .before .before .before .before .is-finished .result) (c .before .before .before .before .before .before .before .before .before .before .before .before .before .before .is-finished .ensures) (c .before .before .before .before .before .before .before .before .before .before .before .before .before .if1 .left)
     (resetAt (r .result) (storesAt (r .last .1 .0) (now (a .marks)) (now (a .minima)) (now (a .weights)) (r .last .1 .1 .0) (r .last .1 .1 .1 .0))) (r .ensures (now (a .marks)) (now (a .minima)) (now (a .weights))) (c .apply-all .result) (c .apply-all .ensures)
 
 pub reset-spec : {M : Type 1} → statement M
 reset-spec =
     tie.close
-    (tie.spec
-    reset-refusal-requires
-    answer-of-requires
-    same-length
-    same-length-2
-    same-length-3
-    returns
-    reset-prepared-requires
-    apply-all-requires
-    same-length-4
-    same-length-5
-    same-length-6
-    returns-2)
+    (tie.spec judge-reset-requires is-finished-requires same-length same-length-2 same-length-3 returns reset-prepared-requires apply-all-requires same-length-4 same-length-5 same-length-6 returns-2)

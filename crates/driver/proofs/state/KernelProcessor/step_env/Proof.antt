@@ -15,11 +15,11 @@ machine s delay detector =
     let a = s .args in
     machineAt (a .self) (storesAt delay (now (a .marks)) (now (a .minima)) (now (a .weights)) (now (a .row)) detector)
 
-gain-refusal-requires : tie.Need-gain-refusal-requires
-gain-refusal-requires c κs = search needs
+judge-gain-requires : tie.Need-judge-gain-requires
+judge-gain-requires c κs = search needs
 
-answer-of-requires : tie.Need-answer-of-requires
-answer-of-requires c κs = search needs
+enum-known-judged : tie.Need-enum-known-judged
+enum-known-judged c = search needs
 
 same-length : tie.Need-same-length
 same-length c = search needs
@@ -32,15 +32,13 @@ same-length-3 c = search needs
 
 returns : tie.Need-returns
 returns c delay detector =
-    let g = c .before .before in
-    let s = g .before .before .before .before .before .before .before .before in
-    gain-refused (machine s delay detector) (s .args .gain) (g .gain-refusal .result) (g .gain-refusal .ensures delay detector) (c .before .if1 .taken) (c .answer-of .result) (c .answer-of .ensures)
+    gain-refused (machine (c .before .before .before .before .before .before .before .before .before .before .before) delay detector) (c .before .before .before .before .before .before .before .before .before .before .before .args .gain) (c .before .before .before .judge-gain .result) (c .before .before .before .judge-gain .ensures delay detector) (c .before .judged .given .0 .0) (c .before .judged .given .1)
+
+enum-told : tie.Need-enum-told
+enum-told c = search needs
 
 step-env-requires : tie.Need-step-env-requires
-step-env-requires c κs =
-    let g = c .before .before .before .before .before .before .before in
-    let s = g .before .before .before .before .before .before .before .before in
-    gain-ready (machine s [] []) (s .args .gain) (g .gain-refusal .result) (g .gain-refusal .ensures [] []) (c .before .before .before .before .before .before .if1 .left)
+step-env-requires c κs = gain-ready (machine (c .before .before .before .before .before .before .before .before .before .before .before .before .before .before .before .before) [] []) (c .before .before .before .before .before .before .before .before .before .before .before .before .before .before .before .before .args .gain) (c .before .before .before .before .before .before .before .before .judge-gain .result) (c .before .before .before .before .before .before .before .before .judge-gain .ensures [] []) (c .before .before .before .before .before .before .enum-told .given .1)
 
 told-requires : tie.Need-told-requires
 told-requires c κs = search needs
@@ -59,29 +57,14 @@ same-length-6 c = search needs
 
 returns-2 : tie.Need-returns-2
 returns-2 c delay detector =
-    let e = c .before .before .before .before .before .before .before .before .before in
-    let g = e .before .before .before .before .before .before .before .before in
-    let s = g .before .before .before .before .before .before .before .before in
-    let marks = e .step-env .last .1 .0 in
-    let minima = e .step-env .last .1 .1 .0 in
-    let row = e .step-env .last .1 .1 .1 .1 .0 in
+    let e = c .before .before .before .before .before .before .before .before .before .step-env in
+    let marks = e .last .1 .0 in
+    let minima = e .last .1 .1 .0 in
+    let row = e .last .1 .1 .1 .1 .0 in
     rw (c .with-env .ensures, c .before .before .told .ensures marks minima row)
-    (gain-done (machine s delay detector) (s .args .gain) (g .gain-refusal .result) (g .gain-refusal .ensures delay detector) (c .before .before .before .before .before .before .before .before .before .before .before .before .before .before .before .before .if1 .left) (gainStepAt (e .step-env .result) marks minima row) (e .step-env .ensures))
+    (gain-done (machine (c .before .before .before .before .before .before .before .before .before .before .before .before .before .before .before .before .before .before .before .before .before .before .before .before .before .before) delay detector) (c .before .before .before .before .before .before .before .before .before .before .before .before .before .before .before .before .before .before .before .before .before .before .before .before .before .before .args .gain) (c .before .before .before .before .before .before .before .before .before .before .before .before .before .before .before .before .before .before .judge-gain .result) (c .before .before .before .before .before .before .before .before .before .before .before .before .before .before .before .before .before .before .judge-gain .ensures delay detector) (c .before .before .before .before .before .before .before .before .before .before .before .before .before .before .before .before .enum-told .given .1) (gainStepAt (e .result) marks minima row) (e .ensures))
 
 pub step-env-spec : {M : Type 1} → statement M
 step-env-spec =
     tie.close
-    (tie.spec
-    gain-refusal-requires
-    answer-of-requires
-    same-length
-    same-length-2
-    same-length-3
-    returns
-    step-env-requires
-    told-requires
-    with-env-requires
-    same-length-4
-    same-length-5
-    same-length-6
-    returns-2)
+    (tie.spec judge-gain-requires enum-known-judged same-length same-length-2 same-length-3 returns enum-told step-env-requires told-requires with-env-requires same-length-4 same-length-5 same-length-6 returns-2)
