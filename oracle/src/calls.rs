@@ -1,12 +1,12 @@
 //! The limiter's calls as they cross by the C functions: what a host lends, what
 //! it asks, and whether two sides left the same.
 
+use crate::layout::state;
 use crate::model::setup::Setup;
-use crate::model::state::FLOATS;
 use crate::numbers::canonical;
 
 /// The bytes of a state and the words of an answer.
-pub const STATE: usize = 512;
+pub const STATE: usize = 8 * state::WORDS;
 pub const ANSWER: usize = 8;
 
 /// The bytes of a sample.
@@ -172,7 +172,7 @@ fn state_differs(due: &[u8], seen: &[u8], finished: bool) -> Option<String> {
         return None;
     }
     words_differ("state", &words(due), &words(seen), |at| {
-        finished && FLOATS.contains(&at)
+        finished && state::is_float(at)
     })
 }
 

@@ -235,6 +235,7 @@ fn gain_step(state: &State, lent: &mut Lent, gain: f64) -> Told {
 mod tests {
     use super::*;
     use crate::calls::{bytes, ANSWER};
+    use crate::layout::{smoother, state as at};
     use crate::whole::Rust;
 
     /// Document 01's own example: look 72, L 61, 4,256 bytes.
@@ -266,10 +267,9 @@ mod tests {
         }
     }
 
-    /// The words that a state holds from a place on.
-    fn words<const N: usize>(lent: &Lent, from: usize) -> [u64; N] {
-        let word = |i: usize| sample(&lent.state[8 * (from + i)..]).to_bits();
-        std::array::from_fn(word)
+    /// A word of the threshold's smoother.
+    fn of_threshold(lent: &Lent, at: usize) -> u64 {
+        sample(&lent.state[8 * (at::SMOOTHER + at)..]).to_bits()
     }
 
     #[test]
@@ -307,7 +307,7 @@ mod tests {
         for (position, frames, left) in [(0, 64, 6), (33, 40, 7), (33, 31, 8), (32, 1, 7)] {
             let mut lent = fresh();
             assert_eq!(call(&mut lent, &mut block(position, frames, &event)), 0);
-            assert_eq!(words(&lent, 26), [left]);
+            assert_eq!(of_threshold(&lent, smoother::LEFT), left);
         }
     }
 
@@ -332,7 +332,7 @@ mod tests {
         lent.state[0] ^= 1;
         lent.answer.push(0);
         lent.stores.0[0].pop();
-        lent.state[8 * 15..8 * 16].fill(0xff);
+        lent.state[8 * at::GAIN..8 * (at::GAIN + 1)].fill(0xff);
         let nan = f64::NAN.to_bits();
         let mut asked = block(1 << 62, 600, &[3, 0, 0, 2, 0, 0, 700, 0, nan]);
         let judged = |lent: &mut Lent, asked: &Call| told(lent, asked.clone());
@@ -363,7 +363,9 @@ mod tests {
         let bits = 1.0f64.to_bits();
         assert_eq!(told(&mut lent, Call::Set { id: 9, bits }).0, 24);
         assert_eq!(told(&mut lent, Call::Set { id: 0, bits }).0, 0);
-        assert_eq!(words(&lent, 20), [0.0f64.to_bits(); 2]);
+        for at in [smoother::CUR, smoother::TARGET] {
+            assert_eq!(of_threshold(&lent, at), 0.0f64.to_bits());
+        }
     }
 
     #[test]

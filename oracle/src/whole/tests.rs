@@ -4,6 +4,7 @@
 use super::plan::Part;
 use super::*;
 use crate::calls::{sample, Call, Lent};
+use crate::layout::state as at;
 use crate::model::calls::call as model;
 use crate::model::setup::look;
 
@@ -99,7 +100,7 @@ fn gains_of_every_size_are_met() {
         for turn in session.turns.iter().filter(|turn| turn.commits()) {
             model(&mut lent, &mut turn.part.call(&session));
         }
-        sample(&lent.state[8 * 15..])
+        sample(&lent.state[8 * at::GAIN..])
     };
     let gains: Vec<f64> = (0..100).map(gain).collect();
     let count = |test: &dyn Fn(f64) -> bool| gains.iter().filter(|g| test(**g)).count();
@@ -191,10 +192,11 @@ fn untold(lent: &mut Lent, call: &mut Call) -> u32 {
 
 /// A reset that forgets the kept target.
 fn forgetful(lent: &mut Lent, call: &mut Call) -> u32 {
-    let kept: Vec<u8> = lent.state.iter().skip(8 * 17).take(8).copied().collect();
+    let target = 8 * at::TARGET..8 * (at::TARGET + 1);
+    let kept = lent.state.get(target.clone()).map(<[u8]>::to_vec);
     let number = model(lent, call);
     if number == 0 && matches!(call, Call::Reset) {
-        lent.state[8 * 17..8 * 18].copy_from_slice(&kept);
+        lent.state[target].copy_from_slice(&kept.unwrap_or_default());
     }
     number
 }
@@ -223,7 +225,8 @@ fn unjudged(lent: &mut Lent, call: &mut Call) -> u32 {
         return model(lent, call);
     }
     let before = lent.state.clone();
-    if let Some(word) = lent.state.get_mut(8 * 18..8 * 19) {
+    let drained = 8 * at::DRAINED..8 * (at::DRAINED + 1);
+    if let Some(word) = lent.state.get_mut(drained) {
         word.fill(0);
     }
     let number = model(lent, call);
