@@ -10,7 +10,9 @@ use crate::settings::{LimiterSettings, ProcessSpec};
 /// Bytes of a state.
 pub const STATE: usize = 512;
 
-/// Words of an answer; another length is refusal 16.
+/// Words of an answer: the values in order, a float as its bits, then 0. As many
+/// are written as fit, and what a longer buffer has behind them stays; whoever
+/// wants none lends an empty one.
 pub const ANSWER: usize = 8;
 
 extern "C" {

@@ -27,9 +27,6 @@ pub enum Fault {
     StateBit {
         at: usize,
     },
-    AnswerLength {
-        by: i64,
-    },
     AudioLength {
         by: i64,
     },
@@ -92,7 +89,6 @@ impl Fault {
     pub fn apply(&self, lent: &mut Lent, call: &mut Call) {
         match *self {
             Self::StateLength { by } => resize(&mut lent.state, by),
-            Self::AnswerLength { by } => resize(&mut lent.answer, by),
             Self::AudioLength { by } => {
                 if let Some(audio) = call.audio_mut() {
                     resize(audio, by);
@@ -185,9 +181,8 @@ pub fn careless(rng: &mut Rng) -> Fault {
     let by = rng.pick(&[1, -1, 1, -1, 8, -8, 4096, i64::from(i32::MIN)]);
     match rng.below(10) {
         0 | 1 => Fault::StateLength { by },
-        2 => not_a_state(rng),
-        3 | 4 => Fault::AnswerLength { by },
-        5 | 6 => Fault::AudioLength { by },
+        2 | 3 => not_a_state(rng),
+        4..=6 => Fault::AudioLength { by },
         _ => Fault::StoreLength {
             which: rng.below(STORES.len() as u64) as usize,
             by,
