@@ -1,8 +1,9 @@
 /* The limiter's C functions (crate host, libhost.a, x86-64, System V).
  *
- * Every function answers document 01's number: 0 where the work is finished, else the refusal. The values
- * that go with it (a count as itself, a float as its 64 bits) are written to `answer` in order, and the rest
- * of it is set to 0. `answer` has exactly DAGGERYUZU_ANSWER words; another length is refusal 16, in its place.
+ * Every function answers document 01's number: 0 where the work is finished, else the refusal. `answer` tells
+ * the values that go with it, in DAGGERYUZU_ANSWER words: the values in order (a count as itself, a float as
+ * its 64 bits), then 0. As many of these words are written as fit; what a longer buffer has behind them stays,
+ * and a host that wants none lends an empty one. No call is refused for it.
  *
  * The state is DAGGERYUZU_STATE bytes that the caller owns. A refused call leaves it as it was, but for
  * setup, which leaves a limiter that is not set up. Bytes that are no state are refusal 18.
@@ -33,7 +34,7 @@ uint64_t daggeryuzu_look(uint64_t lookahead_ms_bits, uint32_t rate);
  * channels and a look of 11 to 4096 */
 uint64_t daggeryuzu_bytes_needed(size_t channels, size_t look);
 
-/* refusals 1 to 17; settings as bits of f64; capped 0: no limit */
+/* refusals 1 to 17, 16 for the state's length too; settings as bits of f64; capped 0: no limit */
 uint32_t daggeryuzu_setup(
     uint8_t *state, size_t state_len, uint64_t *answer, size_t answer_len,
     uint64_t threshold_db_bits, uint64_t true_peak_margin_db_bits, uint64_t lookahead_ms_bits, uint64_t release_ms_bits,
@@ -55,11 +56,11 @@ uint32_t daggeryuzu_flush(
     double *delay, size_t delay_len, uint64_t *marks, size_t marks_len, double *minima, size_t minima_len,
     const double *weights, size_t weights_len, double *row, size_t row_len, double *detector, size_t detector_len);
 
-/* refusals 18, 16 (answer), 23 (id, the offending value's bits), 24 */
+/* refusals 18, 23 (id, the offending value's bits), 24 */
 uint32_t daggeryuzu_set_parameter(
     uint8_t *state, size_t state_len, uint64_t *answer, size_t answer_len, uint32_t id, uint64_t value_bits);
 
-/* refusals 18, 16 (answer), 24; answer: the value's bits */
+/* refusals 18, 24; answer: the value's bits */
 uint32_t daggeryuzu_parameter(const uint8_t *state, size_t state_len, uint64_t *answer, size_t answer_len, uint32_t id);
 
 /* refusals 18, 16; marks, minima and weights are only looked at for their lengths */

@@ -6,6 +6,8 @@ use std::fmt::Write as _;
 use std::fs;
 use std::path::{Path, PathBuf};
 
+use crate::setting::{from_here, setting};
+
 /// Files that the Rust mounts at its crate root.
 const CONTRACT: [&str; 7] = [
     "block", "context", "error", "param", "sample", "spec", "traits",
@@ -16,17 +18,6 @@ const DSP: [&str; 5] = ["driver", "math", "memory", "oversample", "sanitize"];
 
 /// What the Rust's own text may warn of is not ours to mend.
 const QUIET: &str = "#[allow(dead_code, unused_imports, clippy::all, clippy::pedantic)]";
-
-/// The absolute path of `path`, taken from the package's folder.
-pub fn from_here(path: PathBuf) -> PathBuf {
-    PathBuf::from(env::var_os("CARGO_MANIFEST_DIR").unwrap_or_default()).join(path)
-}
-
-/// The value of an environment variable, or its default.
-pub fn setting(name: &str, default: &str) -> PathBuf {
-    println!("cargo::rerun-if-env-changed={name}");
-    from_here(env::var_os(name).map_or_else(|| default.into(), PathBuf::from))
-}
 
 /// Generate `tree.rs` in OUT_DIR. The files named in `inside` get a child module
 /// of that name, from the package's folder `src/bisque`.

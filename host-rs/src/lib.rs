@@ -22,13 +22,13 @@
 mod refusal;
 mod settings;
 mod stores;
-mod sys;
+pub mod sys;
 
 pub use refusal::Refusal;
 pub use settings::{LimiterSettings, ProcessSpec};
 
 use stores::Stores;
-use sys::{Answer, State};
+use sys::{ANSWER, STATE};
 
 /// The threshold's parameter id.
 pub const THRESHOLD_DB: u32 = 0;
@@ -56,7 +56,7 @@ pub struct Produced {
 /// The limiter with its state and stores.
 #[derive(Clone, Debug)]
 pub struct Limiter {
-    state: State,
+    state: [u8; STATE],
     stores: Stores,
     spec: ProcessSpec,
     events: Vec<u64>,
@@ -70,16 +70,14 @@ impl Limiter {
     pub fn prepare(settings: LimiterSettings, spec: ProcessSpec) -> Result<Self, Refusal> {
         let look = sys::look(settings.lookahead_ms, spec.sample_rate);
         let mut limiter = Self {
-            state: State::new(),
+            state: [0; STATE],
             stores: Stores::new(spec.channels, look),
             spec,
             events: Vec::new(),
         };
-        let mut answer = Answer::new();
-        let number = limiter
-            .state
-            .setup(&mut answer, settings, spec, &mut limiter.stores);
-        answer.result(number).map(|_| limiter)
+        let (state, stores) = (&mut limiter.state, limiter.stores.lent());
+        told(|answer| sys::setup(state, answer, settings, spec, stores))?;
+        Ok(limiter)
     }
 
     /// Limits a block in place: planar audio, `channels × frames` samples.
@@ -100,16 +98,10 @@ impl Limiter {
                 .extend([u64::from(e.offset), u64::from(e.param), e.value.to_bits()]);
         }
         let frames = audio.len() / self.spec.channels;
-        let mut answer = Answer::new();
-        let number = self.state.process(
-            &mut answer,
-            position,
-            frames,
-            &self.events,
-            audio,
-            &mut self.stores,
-        );
-        answer.result(number).map(|_| ())
+        let (state, events, stores) = (&mut self.state, &self.events, self.stores.lent());
+        let audio = sys::bytes(audio);
+        told(|answer| sys::process(state, answer, position, frames, events, audio, stores))?;
+        Ok(())
     }
 
     /// Drains the tail: silence goes in, what was held back comes out.
@@ -118,11 +110,9 @@ impl Limiter {
     /// 20 or 22.
     pub fn flush(&mut self, audio: &mut [f64]) -> Result<Produced, Refusal> {
         let frames = audio.len() / self.spec.channels;
-        let mut answer = Answer::new();
-        let number = self
-            .state
-            .flush(&mut answer, frames, audio, &mut self.stores);
-        answer.result(number).map(|words| Produced {
+        let (state, audio, stores) = (&mut self.state, sys::bytes(audio), self.stores.lent());
+        let words = told(|answer| sys::flush(state, answer, frames, audio, stores))?;
+        Ok(Produced {
             frames: words[0] as usize,
             done: words[1] == 1,
         })
@@ -133,9 +123,8 @@ impl Limiter {
     /// # Errors
     /// 23 for a value that is not finite, 24 for an unknown id.
     pub fn set_parameter_immediate(&mut self, id: u32, value: f64) -> Result<(), Refusal> {
-        let mut answer = Answer::new();
-        let number = self.state.set_parameter(&mut answer, id, value);
-        answer.result(number).map(|_| ())
+        told(|answer| sys::set_parameter(&mut self.state, answer, id, value.to_bits()))?;
+        Ok(())
     }
 
     /// The present value of a parameter.
@@ -143,9 +132,8 @@ impl Limiter {
     /// # Errors
     /// 24 for an unknown id.
     pub fn parameter(&self, id: u32) -> Result<f64, Refusal> {
-        let mut answer = Answer::new();
-        let number = self.state.parameter(&mut answer, id);
-        answer.result(number).map(|words| f64::from_bits(words[0]))
+        let words = told(|answer| sys::parameter(&self.state, answer, id))?;
+        Ok(f64::from_bits(words[0]))
     }
 
     /// Restores the starting values.
@@ -153,9 +141,9 @@ impl Limiter {
     /// # Errors
     /// None arises here.
     pub fn reset(&mut self) -> Result<(), Refusal> {
-        let mut answer = Answer::new();
-        let number = self.state.reset(&mut answer, &mut self.stores);
-        answer.result(number).map(|_| ())
+        let (state, stores) = (&mut self.state, self.stores.lent());
+        told(|answer| sys::reset(state, answer, stores))?;
+        Ok(())
     }
 
     /// Frames by which the audio is held back: look.
@@ -168,5 +156,14 @@ impl Limiter {
     #[must_use]
     pub fn memory_footprint(&self) -> u64 {
         sys::bytes_needed(self.spec.channels, self.stores.look())
+    }
+}
+
+/// The values that a call tells where it finished, or its refusal.
+fn told(call: impl FnOnce(&mut [u64]) -> u32) -> Result<[u64; ANSWER], Refusal> {
+    let mut answer = [0; ANSWER];
+    match call(&mut answer) {
+        0 => Ok(answer),
+        number => Err(Refusal::new(number, [answer[0], answer[1]])),
     }
 }

@@ -1,14 +1,16 @@
 //! The stores that are lent to each call.
 
+use crate::sys::LentStores;
+
 /// Document 01's six stores.
 #[derive(Clone, Debug)]
 pub(crate) struct Stores {
-    pub(crate) delay: Vec<f64>,
-    pub(crate) marks: Vec<u64>,
-    pub(crate) minima: Vec<f64>,
-    pub(crate) weights: Vec<f64>,
-    pub(crate) row: Vec<f64>,
-    pub(crate) detector: Vec<f64>,
+    delay: Vec<f64>,
+    marks: Vec<u64>,
+    minima: Vec<f64>,
+    weights: Vec<f64>,
+    row: Vec<f64>,
+    detector: Vec<f64>,
     look: usize,
 }
 
@@ -31,6 +33,18 @@ impl Stores {
             row: vec![0.0; l],
             detector: vec![0.0; channels * 12],
             look,
+        }
+    }
+
+    /// For one call.
+    pub(crate) fn lent(&mut self) -> LentStores<'_> {
+        LentStores {
+            delay: &mut self.delay,
+            marks: &mut self.marks,
+            minima: &mut self.minima,
+            weights: &self.weights,
+            row: &mut self.row,
+            detector: &mut self.detector,
         }
     }
 

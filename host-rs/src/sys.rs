@@ -1,13 +1,19 @@
-//! The C functions (include/daggeryuzu.h), and the buffers that they share.
-//! All of this crate's unsafe code is here: each slice is handed over by its
-//! own pointer and length, and no two of them overlap.
+//! The C functions (include/daggeryuzu.h) over slices, for a host that lends its
+//! own buffers; [`Limiter`](crate::Limiter) stands on them. Each answers document
+//! 01's number, 0 where the work is finished, and tells its values in `answer`.
+//!
+//! All of this crate's unsafe code is here. Each slice is handed over by its own
+//! pointer and length, and no two of them overlap, because each is borrowed.
 
-use crate::refusal::Refusal;
 use crate::settings::{LimiterSettings, ProcessSpec};
-use crate::stores::Stores;
 
-const STATE: usize = 512;
-const ANSWER: usize = 8;
+/// Bytes of a state.
+pub const STATE: usize = 512;
+
+/// Words of an answer: the values in order, a float as its bits, then 0. As many
+/// are written as fit, and what a longer buffer has behind them stays; whoever
+/// wants none lends an empty one.
+pub const ANSWER: usize = 8;
 
 extern "C" {
     fn daggeryuzu_look(lookahead_ms: u64, rate: u32) -> u64;
@@ -117,194 +123,249 @@ extern "C" {
         detector: *mut f64,
         detector_len: usize,
     ) -> u32;
+    fn daggeryuzu_gain_step(
+        state: *mut u8,
+        state_len: usize,
+        answer: *mut u64,
+        answer_len: usize,
+        gain: u64,
+        marks: *mut u64,
+        marks_len: usize,
+        minima: *mut f64,
+        minima_len: usize,
+        weights: *const f64,
+        weights_len: usize,
+        row: *mut f64,
+        row_len: usize,
+    ) -> u32;
 }
 
-pub(crate) fn look(lookahead_ms: f64, rate: u32) -> u64 {
+/// Document 01's six stores, lent to one call, which gets them as the last one
+/// left them.
+#[derive(Debug)]
+pub struct LentStores<'a> {
+    /// `channels × look`.
+    pub delay: &'a mut [f64],
+    /// `look + 1`.
+    pub marks: &'a mut [u64],
+    /// `look + 1`.
+    pub minima: &'a mut [f64],
+    /// L: `look - 11`, at least 1.
+    pub weights: &'a [f64],
+    /// L.
+    pub row: &'a mut [f64],
+    /// `channels × 12`.
+    pub detector: &'a mut [f64],
+}
+
+/// The frames by which the audio is held back.
+#[must_use]
+pub fn look(lookahead_ms: f64, rate: u32) -> u64 {
+    // SAFETY: only numbers cross.
     unsafe { daggeryuzu_look(lookahead_ms.to_bits(), rate) }
 }
 
-pub(crate) fn bytes_needed(channels: usize, look: usize) -> u64 {
+/// The bytes that a cap must allow.
+#[must_use]
+pub fn bytes_needed(channels: usize, look: usize) -> u64 {
+    // SAFETY: only numbers cross.
     unsafe { daggeryuzu_bytes_needed(channels, look) }
 }
 
-/// The values that go with an answer.
-pub(crate) struct Answer([u64; ANSWER]);
-
-impl Answer {
-    pub(crate) fn new() -> Self {
-        Self([0; ANSWER])
-    }
-
-    /// The values of finished work, or the refusal.
-    pub(crate) fn result(&self, number: u32) -> Result<[u64; ANSWER], Refusal> {
-        if number == 0 {
-            Ok(self.0)
-        } else {
-            Err(Refusal::new(number, [self.0[0], self.0[1]]))
-        }
+/// Sets a limiter up: 1 to 17.
+pub fn setup(
+    state: &mut [u8],
+    answer: &mut [u64],
+    settings: LimiterSettings,
+    spec: ProcessSpec,
+    stores: LentStores<'_>,
+) -> u32 {
+    // SAFETY: pointers and lengths are those of slices that are borrowed apart.
+    unsafe {
+        daggeryuzu_setup(
+            state.as_mut_ptr(),
+            state.len(),
+            answer.as_mut_ptr(),
+            answer.len(),
+            settings.threshold_db.to_bits(),
+            settings.true_peak_margin_db.to_bits(),
+            settings.lookahead_ms.to_bits(),
+            settings.release_ms.to_bits(),
+            spec.sample_rate,
+            spec.channels,
+            spec.max_block,
+            u32::from(spec.max_memory.is_some()),
+            spec.max_memory.unwrap_or_default(),
+            stores.delay.as_mut_ptr(),
+            stores.delay.len(),
+            stores.marks.as_mut_ptr(),
+            stores.marks.len(),
+            stores.minima.as_mut_ptr(),
+            stores.minima.len(),
+            stores.weights.as_ptr(),
+            stores.weights.len(),
+            stores.row.as_mut_ptr(),
+            stores.row.len(),
+            stores.detector.as_mut_ptr(),
+            stores.detector.len(),
+        )
     }
 }
 
-/// The samples as the bytes that they are: 8 each, low byte first.
-fn bytes(audio: &mut [f64]) -> (*mut u8, usize) {
-    (audio.as_mut_ptr().cast(), 8 * audio.len())
+/// Limits a block in place: 18, 16, 19, 20, 21 (its index), 22. Events are three
+/// words each: offset, id, bits of the value.
+pub fn process(
+    state: &mut [u8],
+    answer: &mut [u64],
+    position: u64,
+    frames: usize,
+    events: &[u64],
+    audio: &mut [u8],
+    stores: LentStores<'_>,
+) -> u32 {
+    // SAFETY: pointers and lengths are those of slices that are borrowed apart.
+    unsafe {
+        daggeryuzu_process(
+            state.as_mut_ptr(),
+            state.len(),
+            answer.as_mut_ptr(),
+            answer.len(),
+            position,
+            frames,
+            events.as_ptr(),
+            events.len(),
+            audio.as_mut_ptr(),
+            audio.len(),
+            stores.delay.as_mut_ptr(),
+            stores.delay.len(),
+            stores.marks.as_mut_ptr(),
+            stores.marks.len(),
+            stores.minima.as_mut_ptr(),
+            stores.minima.len(),
+            stores.weights.as_ptr(),
+            stores.weights.len(),
+            stores.row.as_mut_ptr(),
+            stores.row.len(),
+            stores.detector.as_mut_ptr(),
+            stores.detector.len(),
+        )
+    }
 }
 
-/// The limiter's state as bytes.
-#[derive(Clone, Debug)]
-pub(crate) struct State([u8; STATE]);
-
-impl State {
-    pub(crate) fn new() -> Self {
-        Self([0; STATE])
+/// Drains the tail: 18, 16, 19, 20, 22. It tells the frames written and whether
+/// the tail is done.
+pub fn flush(
+    state: &mut [u8],
+    answer: &mut [u64],
+    frames: usize,
+    audio: &mut [u8],
+    stores: LentStores<'_>,
+) -> u32 {
+    // SAFETY: pointers and lengths are those of slices that are borrowed apart.
+    unsafe {
+        daggeryuzu_flush(
+            state.as_mut_ptr(),
+            state.len(),
+            answer.as_mut_ptr(),
+            answer.len(),
+            frames,
+            audio.as_mut_ptr(),
+            audio.len(),
+            stores.delay.as_mut_ptr(),
+            stores.delay.len(),
+            stores.marks.as_mut_ptr(),
+            stores.marks.len(),
+            stores.minima.as_mut_ptr(),
+            stores.minima.len(),
+            stores.weights.as_ptr(),
+            stores.weights.len(),
+            stores.row.as_mut_ptr(),
+            stores.row.len(),
+            stores.detector.as_mut_ptr(),
+            stores.detector.len(),
+        )
     }
+}
 
-    pub(crate) fn setup(
-        &mut self,
-        answer: &mut Answer,
-        s: LimiterSettings,
-        spec: ProcessSpec,
-        stores: &mut Stores,
-    ) -> u32 {
-        unsafe {
-            daggeryuzu_setup(
-                self.0.as_mut_ptr(),
-                STATE,
-                answer.0.as_mut_ptr(),
-                ANSWER,
-                s.threshold_db.to_bits(),
-                s.true_peak_margin_db.to_bits(),
-                s.lookahead_ms.to_bits(),
-                s.release_ms.to_bits(),
-                spec.sample_rate,
-                spec.channels,
-                spec.max_block,
-                u32::from(spec.max_memory.is_some()),
-                spec.max_memory.unwrap_or(0),
-                stores.delay.as_mut_ptr(),
-                stores.delay.len(),
-                stores.marks.as_mut_ptr(),
-                stores.marks.len(),
-                stores.minima.as_mut_ptr(),
-                stores.minima.len(),
-                stores.weights.as_ptr(),
-                stores.weights.len(),
-                stores.row.as_mut_ptr(),
-                stores.row.len(),
-                stores.detector.as_mut_ptr(),
-                stores.detector.len(),
-            )
-        }
+/// Sets a parameter, its value as bits, at once: 18, 23 (id and bits), 24.
+pub fn set_parameter(state: &mut [u8], answer: &mut [u64], id: u32, value: u64) -> u32 {
+    // SAFETY: pointers and lengths are those of slices that are borrowed apart.
+    unsafe {
+        daggeryuzu_set_parameter(
+            state.as_mut_ptr(),
+            state.len(),
+            answer.as_mut_ptr(),
+            answer.len(),
+            id,
+            value,
+        )
     }
+}
 
-    pub(crate) fn process(
-        &mut self,
-        answer: &mut Answer,
-        position: u64,
-        frames: usize,
-        events: &[u64],
-        audio: &mut [f64],
-        stores: &mut Stores,
-    ) -> u32 {
-        let (audio, audio_len) = bytes(audio);
-        unsafe {
-            daggeryuzu_process(
-                self.0.as_mut_ptr(),
-                STATE,
-                answer.0.as_mut_ptr(),
-                ANSWER,
-                position,
-                frames,
-                events.as_ptr(),
-                events.len(),
-                audio,
-                audio_len,
-                stores.delay.as_mut_ptr(),
-                stores.delay.len(),
-                stores.marks.as_mut_ptr(),
-                stores.marks.len(),
-                stores.minima.as_mut_ptr(),
-                stores.minima.len(),
-                stores.weights.as_ptr(),
-                stores.weights.len(),
-                stores.row.as_mut_ptr(),
-                stores.row.len(),
-                stores.detector.as_mut_ptr(),
-                stores.detector.len(),
-            )
-        }
+/// Tells the bits of a parameter's present value: 18, 24.
+pub fn parameter(state: &[u8], answer: &mut [u64], id: u32) -> u32 {
+    // SAFETY: pointers and lengths are those of slices that are borrowed apart.
+    unsafe {
+        daggeryuzu_parameter(
+            state.as_ptr(),
+            state.len(),
+            answer.as_mut_ptr(),
+            answer.len(),
+            id,
+        )
     }
+}
 
-    pub(crate) fn flush(
-        &mut self,
-        answer: &mut Answer,
-        frames: usize,
-        audio: &mut [f64],
-        stores: &mut Stores,
-    ) -> u32 {
-        let (audio, audio_len) = bytes(audio);
-        unsafe {
-            daggeryuzu_flush(
-                self.0.as_mut_ptr(),
-                STATE,
-                answer.0.as_mut_ptr(),
-                ANSWER,
-                frames,
-                audio,
-                audio_len,
-                stores.delay.as_mut_ptr(),
-                stores.delay.len(),
-                stores.marks.as_mut_ptr(),
-                stores.marks.len(),
-                stores.minima.as_mut_ptr(),
-                stores.minima.len(),
-                stores.weights.as_ptr(),
-                stores.weights.len(),
-                stores.row.as_mut_ptr(),
-                stores.row.len(),
-                stores.detector.as_mut_ptr(),
-                stores.detector.len(),
-            )
-        }
+/// Restores the starting values: 18, 16.
+pub fn reset(state: &mut [u8], answer: &mut [u64], stores: LentStores<'_>) -> u32 {
+    // SAFETY: pointers and lengths are those of slices that are borrowed apart.
+    unsafe {
+        daggeryuzu_reset(
+            state.as_mut_ptr(),
+            state.len(),
+            answer.as_mut_ptr(),
+            answer.len(),
+            stores.delay.as_mut_ptr(),
+            stores.delay.len(),
+            stores.marks.as_ptr(),
+            stores.marks.len(),
+            stores.minima.as_ptr(),
+            stores.minima.len(),
+            stores.weights.as_ptr(),
+            stores.weights.len(),
+            stores.row.as_mut_ptr(),
+            stores.row.len(),
+            stores.detector.as_mut_ptr(),
+            stores.detector.len(),
+        )
     }
+}
 
-    pub(crate) fn set_parameter(&mut self, answer: &mut Answer, id: u32, value: f64) -> u32 {
-        unsafe {
-            daggeryuzu_set_parameter(
-                self.0.as_mut_ptr(),
-                STATE,
-                answer.0.as_mut_ptr(),
-                ANSWER,
-                id,
-                value.to_bits(),
-            )
-        }
+/// One gain step alone, of a gain's bits: 18, 16, 19, 22. It tells floor, entries
+/// dropped and kept, tally, mean and gain; delay and detector stay as they are.
+pub fn gain_step(state: &mut [u8], answer: &mut [u64], gain: u64, stores: LentStores<'_>) -> u32 {
+    // SAFETY: pointers and lengths are those of slices that are borrowed apart.
+    unsafe {
+        daggeryuzu_gain_step(
+            state.as_mut_ptr(),
+            state.len(),
+            answer.as_mut_ptr(),
+            answer.len(),
+            gain,
+            stores.marks.as_mut_ptr(),
+            stores.marks.len(),
+            stores.minima.as_mut_ptr(),
+            stores.minima.len(),
+            stores.weights.as_ptr(),
+            stores.weights.len(),
+            stores.row.as_mut_ptr(),
+            stores.row.len(),
+        )
     }
+}
 
-    pub(crate) fn parameter(&self, answer: &mut Answer, id: u32) -> u32 {
-        unsafe { daggeryuzu_parameter(self.0.as_ptr(), STATE, answer.0.as_mut_ptr(), ANSWER, id) }
-    }
-
-    pub(crate) fn reset(&mut self, answer: &mut Answer, stores: &mut Stores) -> u32 {
-        unsafe {
-            daggeryuzu_reset(
-                self.0.as_mut_ptr(),
-                STATE,
-                answer.0.as_mut_ptr(),
-                ANSWER,
-                stores.delay.as_mut_ptr(),
-                stores.delay.len(),
-                stores.marks.as_ptr(),
-                stores.marks.len(),
-                stores.minima.as_ptr(),
-                stores.minima.len(),
-                stores.weights.as_ptr(),
-                stores.weights.len(),
-                stores.row.as_mut_ptr(),
-                stores.row.len(),
-                stores.detector.as_mut_ptr(),
-                stores.detector.len(),
-            )
-        }
-    }
+/// Samples as the bytes that they are: 8 each, low byte first.
+pub(crate) fn bytes(samples: &mut [f64]) -> &mut [u8] {
+    // SAFETY: the bytes are those of the samples, and every byte is good for both.
+    unsafe { std::slice::from_raw_parts_mut(samples.as_mut_ptr().cast(), 8 * samples.len()) }
 }

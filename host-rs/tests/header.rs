@@ -1,5 +1,5 @@
-//! include/daggeryuzu.h declares what crate host exports: the same functions,
-//! with the same parameters in the same order.
+//! include/daggeryuzu.h and src/sys.rs declare what crate host exports: the same
+//! functions, with the same parameters in the same order.
 
 use std::collections::BTreeMap;
 use std::fs;
@@ -20,7 +20,7 @@ fn exported() -> Functions {
             let (name, rest) = rest.split_once('(').unwrap();
             let (params, rest) = rest.split_once(')').unwrap();
             let answer = rest.trim_start().strip_prefix("->").unwrap_or("()");
-            let answer = answer.trim_start().split_whitespace().next().unwrap();
+            let answer = answer.split_whitespace().next().unwrap();
             let mut types = vec![scalar(answer).to_string()];
             for param in params.split(',').map(str::trim).filter(|p| !p.is_empty()) {
                 let (_, ty) = param.split_once(':').unwrap();
@@ -82,6 +82,43 @@ fn declared() -> Functions {
         found.insert(head.to_string(), types);
     }
     found
+}
+
+/// Names and C types of the foreign functions in src/sys.rs.
+fn foreign() -> Functions {
+    let text = fs::read_to_string(root().join("host-rs/src/sys.rs")).unwrap();
+    let (_, text) = text.split_once("extern \"C\" {").unwrap();
+    let (text, _) = text.split_once("\n}").unwrap();
+    let mut found = Functions::new();
+    for declaration in text.split(';').filter(|d| d.contains("fn ")) {
+        let (_, declaration) = declaration.split_once("fn ").unwrap();
+        let (name, rest) = declaration.split_once('(').unwrap();
+        let (params, answer) = rest.split_once(')').unwrap();
+        let answer = answer.trim_start().strip_prefix("->").unwrap_or("()");
+        let mut types = vec![scalar(answer.trim()).to_string()];
+        for param in params.split(',').map(str::trim).filter(|p| !p.is_empty()) {
+            let (_, ty) = param.split_once(':').unwrap();
+            types.push(pointer(ty.trim()));
+        }
+        found.insert(name.to_string(), types);
+    }
+    found
+}
+
+/// The C type of a number or a raw pointer.
+fn pointer(ty: &str) -> String {
+    if let Some(element) = ty.strip_prefix("*mut ") {
+        format!("{} *", scalar(element))
+    } else if let Some(element) = ty.strip_prefix("*const ") {
+        format!("const {} *", scalar(element))
+    } else {
+        scalar(ty).into()
+    }
+}
+
+#[test]
+fn the_wrapper_declares_what_the_header_does() {
+    assert_eq!(foreign(), declared());
 }
 
 #[test]

@@ -22,6 +22,17 @@ pub enum Shape {
     OnePole = 2,
 }
 
+impl Shape {
+    /// The shape of a number; those past the last are the last.
+    pub fn of(number: u64) -> Self {
+        match number {
+            0 => Self::Step,
+            1 => Self::Linear,
+            _ => Self::OnePole,
+        }
+    }
+}
+
 /// One parameter's declaration.
 #[derive(Clone, Copy, Debug, PartialEq)]
 pub struct Declared {

@@ -1,12 +1,12 @@
 //! The limiter's calls as they cross by the C functions: what a host lends, what
 //! it asks, and whether two sides left the same.
 
+use crate::layout::state;
 use crate::model::setup::Setup;
-use crate::model::state::FLOATS;
 use crate::numbers::canonical;
 
 /// The bytes of a state and the words of an answer.
-pub const STATE: usize = 512;
+pub const STATE: usize = 8 * state::WORDS;
 pub const ANSWER: usize = 8;
 
 /// The bytes of a sample.
@@ -22,7 +22,8 @@ pub const ROW: usize = 4;
 #[derive(Clone, Debug, Default, PartialEq, Eq)]
 pub struct Stores(pub [Vec<u64>; 6]);
 
-/// What a call is lent beside its events and its audio.
+/// What a call is lent beside its events and its audio. The answer may have any
+/// length.
 #[derive(Clone, Debug, Default)]
 pub struct Lent {
     pub state: Vec<u8>,
@@ -70,11 +71,12 @@ pub enum Call {
 }
 
 impl Lent {
-    /// Values into the answer, zeros behind them; one of another length stays.
+    /// The eight words of an answer, as many as fit: the values, then 0.
     pub fn tell(&mut self, values: &[u64]) {
-        if self.answer.len() == ANSWER {
-            self.answer.fill(0);
-            self.answer[..values.len()].copy_from_slice(values);
+        let mut words = [0; ANSWER];
+        words[..values.len()].copy_from_slice(values);
+        for (place, word) in self.answer.iter_mut().zip(words) {
+            *place = word;
         }
     }
 }
@@ -172,7 +174,7 @@ fn state_differs(due: &[u8], seen: &[u8], finished: bool) -> Option<String> {
         return None;
     }
     words_differ("state", &words(due), &words(seen), |at| {
-        finished && FLOATS.contains(&at)
+        finished && state::is_float(at)
     })
 }
 

@@ -15,6 +15,7 @@ mod compare;
 mod gains;
 #[cfg(feature = "host")]
 mod host;
+mod layout;
 mod leaf;
 mod model;
 mod numbers;

@@ -9,3 +9,4 @@ pub mod Prepared
 pub mod NotNan
 pub mod Updates
 pub mod Rows
+pub mod Shapes

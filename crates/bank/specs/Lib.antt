@@ -3,3 +3,4 @@ pub mod Param
 pub mod Answers
 pub mod Smoother
 pub mod Bank
+pub mod Words

@@ -7,3 +7,5 @@ pub mod param;
 pub mod smoother;
 // The bank and its calls.
 pub mod smoother_bank;
+// A smoother as words.
+pub mod words;

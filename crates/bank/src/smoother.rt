@@ -111,7 +111,7 @@ impl Smoother {
     }
 
     // The declaration that this smoother keeps.
-    fn info(self) -> ParamInfo
+    pub fn info(self) -> ParamInfo
         ensures { λ r. ⌜ r ≡ infoOf self ⌝ }
     {
         let shape = self.shape;

@@ -1,13 +1,14 @@
-// The parameter bank. It crosses in two lent arrays (specs/Smoothers.antt).
+// The parameter bank. It crosses in lent words (specs/Smoothers.antt).
 ghost use mathlib.Core.Path.{_≡_};
-ghost use mathlib.Core.Bool.{cond};
-ghost use Prim.Native.Nat.{_<_, _%_, _^_};
-ghost use Rattle.bank.specs.Bank.{slotAt, setUpAt, setUpOf, paramSetAt, bankSteppedAt};
-ghost use Rattle.probe.specs.Smoothers.{shapeOf, rowIn, smootherIn, bankIn, infoIn, infosIn, shapeWord, rowLaid, tripleLaid, wordsLaid, allLaid, numbersBy, wordsBy, doneBy, readBy, calledBy, heldAt, heldBy, oldIn};
+ghost use Prim.Native.Nat.{_<_, _*_};
+ghost use lib.Seq.{sets};
+ghost use Rattle.bank.specs.Bank.{slotAt, setUpAt, paramSetAt, bankSteppedAt};
+ghost use Rattle.bank.specs.Words.{smootherOut};
+ghost use Rattle.probe.specs.Smoothers.{bankIn, infosIn, slotsOut, heldAt, wordsBy, doneBy, readBy, calledBy, setUpBy, callBy};
+use arithmetic::pattern::to_bits;
 use bank::param::BankAnswer;
 use bank::param::BankRefusal;
 use bank::param::ParamInfo;
-use bank::param::Smoothing;
 use bank::smoother::Smoother;
 use bank::smoother_bank::BankParamSet;
 use bank::smoother_bank::BankSetUp;
@@ -16,130 +17,53 @@ use bank::smoother_bank::BankStepped;
 use bank::smoother_bank::BankValue;
 use bank::smoother_bank::ParamSet;
 use bank::smoother_bank::SmootherBank;
+use bank::words::flag;
+use bank::words::half_in;
+use bank::words::smoother_in;
+use bank::words::smoother_out;
 
-// What a call came to: document 01's number, the count that its reply holds, or 0, the value that it
-// holds, or what the place of it held, and the bank.
+// What a call came to: document 01's number, the count that its reply holds, or 0, the bits of the
+// value that it holds, or what the place of it held, and the bank.
 struct Done {
     number: u32,
     count: u64,
-    value: f64,
+    value: u64,
     bank: SmootherBank,
 }
 
-fn shape_of(word: u64) -> Smoothing
-    ensures { λ r. ⌜ r ≡ shapeOf word ⌝ }
-{
-    if word == 0 {
-        return Smoothing::Step;
-    }
-    if word == 1 {
-        return Smoothing::Linear;
-    }
-    Smoothing::OnePole
-}
-
-fn low_half(word: u64) -> u32
-    ensures { λ r. ⌜ r ≡ word % 2 ^ 32 ⌝ }
-{
-    (word % 4294967296) as u32
-}
-
-// A slot's numbers, with what its words say.
-fn row_in(numbers: &[f64; 73], i: usize, id: u32, left: u64, shape: Smoothing) -> Smoother
-    requires { ⌜ i < 8 ⌝ }
-    ensures { λ r. ⌜ r ≡ rowIn (now (numbers .entry)) i id left shape ⌝ }
-{
-    let at = 9 * i;
-    Smoother {
-        id: id,
-        cur: numbers[at],
-        target: numbers[at + 1],
-        low: numbers[at + 2],
-        high: numbers[at + 3],
-        default: numbers[at + 4],
-        steps: numbers[at + 5],
-        updates_remaining: left,
-        step_delta: numbers[at + 6],
-        shape: shape,
-        coeff: numbers[at + 7],
-        smoothing_ms: numbers[at + 8],
-    }
-}
-
-// The slot at an index.
-fn smoother_in(numbers: &[f64; 73], words: &[u64; 28], i: usize) -> Smoother
-    requires { ⌜ i < 8 ⌝ }
-    ensures { λ r. ⌜ r ≡ smootherIn (now (numbers .entry)) (now (words .entry)) i ⌝ }
-{
-    let at = 3 * i;
-    row_in(
-        numbers,
-        i,
-        low_half(words[at]),
-        words[at + 1],
-        shape_of(words[at + 2]),
-    )
-}
-
 // The bank.
-fn bank_in(numbers: &[f64; 73], words: &[u64; 28]) -> SmootherBank
-    ensures { λ r. ⌜ r ≡ bankIn (now (numbers .entry)) (now (words .entry)) ⌝ }
+fn bank_in(words: &[u64; 101]) -> SmootherBank
+    ensures { λ r. ⌜ r ≡ bankIn (now (words .entry)) ⌝ }
 {
-    let s0 = smoother_in(numbers, words, 0);
-    let s1 = smoother_in(numbers, words, 1);
-    let s2 = smoother_in(numbers, words, 2);
-    let s3 = smoother_in(numbers, words, 3);
-    let s4 = smoother_in(numbers, words, 4);
-    let s5 = smoother_in(numbers, words, 5);
-    let s6 = smoother_in(numbers, words, 6);
-    let s7 = smoother_in(numbers, words, 7);
+    let s0 = smoother_in(words, 0);
+    let s1 = smoother_in(words, 12);
+    let s2 = smoother_in(words, 24);
+    let s3 = smoother_in(words, 36);
+    let s4 = smoother_in(words, 48);
+    let s5 = smoother_in(words, 60);
+    let s6 = smoother_in(words, 72);
+    let s7 = smoother_in(words, 84);
     SmootherBank {
         smoothers: [s0, s1, s2, s3, s4, s5, s6, s7],
-        count: words[24] as usize,
-        rate: low_half(words[25]),
-        ready: words[26] != 0,
+        count: words[96] as usize,
+        rate: half_in(words, 97),
+        ready: words[98] != 0,
     }
 }
 
-// The declaration that the slot at an index holds.
-fn info_in(numbers: &[f64; 73], words: &[u64; 28], i: usize) -> ParamInfo
-    requires { ⌜ i < 8 ⌝ }
-    ensures { λ r. ⌜ r ≡ infoIn (now (numbers .entry)) (now (words .entry)) i ⌝ }
+// The declarations that the slots hold.
+fn infos_in(words: &[u64; 101]) -> [ParamInfo; 8]
+    ensures { λ r. ⌜ r ≡ infosIn (now (words .entry)) ⌝ }
 {
-    let s = smoother_in(numbers, words, i);
-    let shape = s.shape;
-    ParamInfo {
-        id: s.id,
-        low: s.low,
-        high: s.high,
-        default: s.default,
-        smoothing_ms: s.smoothing_ms,
-        smoothing: shape,
-    }
-}
-
-fn infos_in(numbers: &[f64; 73], words: &[u64; 28]) -> [ParamInfo; 8]
-    ensures { λ r. ⌜ r ≡ infosIn (now (numbers .entry)) (now (words .entry)) ⌝ }
-{
-    let p0 = info_in(numbers, words, 0);
-    let p1 = info_in(numbers, words, 1);
-    let p2 = info_in(numbers, words, 2);
-    let p3 = info_in(numbers, words, 3);
-    let p4 = info_in(numbers, words, 4);
-    let p5 = info_in(numbers, words, 5);
-    let p6 = info_in(numbers, words, 6);
-    let p7 = info_in(numbers, words, 7);
+    let p0 = smoother_in(words, 0).info();
+    let p1 = smoother_in(words, 12).info();
+    let p2 = smoother_in(words, 24).info();
+    let p3 = smoother_in(words, 36).info();
+    let p4 = smoother_in(words, 48).info();
+    let p5 = smoother_in(words, 60).info();
+    let p6 = smoother_in(words, 72).info();
+    let p7 = smoother_in(words, 84).info();
     [p0, p1, p2, p3, p4, p5, p6, p7]
-}
-
-fn shape_word(shape: Smoothing) -> u64
-    ensures { λ r. ⌜ r ≡ shapeWord shape ⌝ }
-{
-    match shape {
-        Smoothing::Step => 0,
-        Smoothing::Linear => 1,
-        Smoothing::OnePole => 2,
-    }
 }
 
 fn slot(slots: [Smoother; 8], i: usize) -> Smoother
@@ -149,74 +73,42 @@ fn slot(slots: [Smoother; 8], i: usize) -> Smoother
     slots[i]
 }
 
-// A slot's numbers into its row.
-fn lay_row(numbers: &mut [f64; 73], i: usize, s: Smoother)
+// A slot into its twelve words.
+fn lay_slot(words: &mut [u64; 101], i: usize, s: Smoother)
     requires { ⌜ i < 8 ⌝ }
-    ensures { λ _. ⌜ now (numbers .exit) ≡ rowLaid (now (numbers .entry)) i s ⌝ }
+    ensures { λ _. ⌜ now (words .exit) ≡ sets (now (words .entry)) (12 * i) (smootherOut s) ⌝ }
 {
-    let at = 9 * i;
-    numbers[at] = s.cur;
-    numbers[at + 1] = s.target;
-    numbers[at + 2] = s.low;
-    numbers[at + 3] = s.high;
-    numbers[at + 4] = s.default;
-    numbers[at + 5] = s.steps;
-    numbers[at + 6] = s.step_delta;
-    numbers[at + 7] = s.coeff;
-    numbers[at + 8] = s.smoothing_ms;
-}
-
-// A slot's words, the shape as its word.
-fn lay_triple(words: &mut [u64; 28], i: usize, s: Smoother, shape: u64)
-    requires { ⌜ i < 8 ⌝ }
-    ensures { λ _. ⌜ now (words .exit) ≡ tripleLaid (now (words .entry)) i s shape ⌝ }
-{
-    let at = 3 * i;
-    words[at] = s.id as u64;
-    words[at + 1] = s.updates_remaining;
-    words[at + 2] = shape;
-}
-
-// A slot into both arrays.
-fn lay_slot(numbers: &mut [f64; 73], words: &mut [u64; 28], i: usize, s: Smoother)
-    requires { ⌜ i < 8 ⌝ }
-    ensures { λ _. ⌜ (now (numbers .exit) ≡ rowLaid (now (numbers .entry)) i s) × (now (words .exit) ≡ wordsLaid (now (words .entry)) i s) ⌝ }
-{
-    lay_row(numbers, i, s);
-    let shape = s.shape;
-    lay_triple(words, i, s, shape_word(shape));
-}
-
-// All eight.
-fn lay_slots(numbers: &mut [f64; 73], words: &mut [u64; 28], slots: [Smoother; 8])
-    ensures { λ _. ⌜ (now (numbers .exit) ≡ allLaid rowLaid (now (numbers .entry)) slots 8) × (now (words .exit) ≡ allLaid wordsLaid (now (words .entry)) slots 8) ⌝ }
-{
-    for i in 0..8usize {
-        lay_slot(numbers, words, i, slot(slots, i));
+    let at = 12 * i;
+    let row = smoother_out(s);
+    for j in 0..12usize {
+        words[at + j] = row[j];
     }
 }
 
-fn flag(ready: bool) -> u64
-    ensures { λ r. ⌜ r ≡ cond ready 1 0 ⌝ }
+// All eight.
+fn lay_slots(words: &mut [u64; 101], slots: [Smoother; 8])
+    ensures { λ _. ⌜ now (words .exit) ≡ sets (now (words .entry)) 0 (slotsOut slots) ⌝ }
 {
-    if ready { 1 } else { 0 }
+    for i in 0..8usize {
+        lay_slot(words, i, slot(slots, i));
+    }
 }
 
-// What a call came to into both arrays.
-fn lay(numbers: &mut [f64; 73], words: &mut [u64; 28], done: Done)
-    ensures { λ _. ⌜ (now (numbers .exit) ≡ numbersBy (now (numbers .entry)) done) × (now (words .exit) ≡ wordsBy (now (words .entry)) done) ⌝ }
+// What a call came to into the words.
+fn lay(words: &mut [u64; 101], done: Done)
+    ensures { λ _. ⌜ now (words .exit) ≡ wordsBy (now (words .entry)) done ⌝ }
 {
     let bank = done.bank;
     let slots = bank.smoothers;
-    lay_slots(numbers, words, slots);
-    numbers[72] = done.value;
-    words[24] = bank.count as u64;
-    words[25] = bank.rate as u64;
-    words[26] = flag(bank.ready);
-    words[27] = done.count;
+    lay_slots(words, slots);
+    words[96] = bank.count as u64;
+    words[97] = bank.rate as u64;
+    words[98] = flag(bank.ready);
+    words[99] = done.count;
+    words[100] = done.value;
 }
 
-fn set_up(done: BankSetUp, old: f64) -> Done
+fn set_up(done: BankSetUp, old: u64) -> Done
     ensures { λ r. ⌜ r ≡ doneBy old (setUpAt done) ⌝ }
 {
     let answer = done.answer;
@@ -269,7 +161,7 @@ fn set_up(done: BankSetUp, old: f64) -> Done
     }
 }
 
-fn param_set(done: BankParamSet, old: f64) -> Done
+fn param_set(done: BankParamSet, old: u64) -> Done
     ensures { λ r. ⌜ r ≡ doneBy old (paramSetAt done) ⌝ }
 {
     let answer = done.answer;
@@ -290,7 +182,7 @@ fn param_set(done: BankParamSet, old: f64) -> Done
         ParamSet::NonFiniteValue { param, value } => Done {
             number: 23,
             count: param as u64,
-            value: value,
+            value: to_bits(value),
             bank: bank,
         },
         ParamSet::UnknownParam => Done {
@@ -302,7 +194,7 @@ fn param_set(done: BankParamSet, old: f64) -> Done
     }
 }
 
-fn turned(done: BankStepped, old: f64) -> Done
+fn turned(done: BankStepped, old: u64) -> Done
     ensures { λ r. ⌜ r ≡ doneBy old (bankSteppedAt done) ⌝ }
 {
     let answer = done.answer;
@@ -323,14 +215,14 @@ fn turned(done: BankStepped, old: f64) -> Done
     }
 }
 
-fn value_read(answer: BankValue, bank: SmootherBank, old: f64) -> Done
+fn value_read(answer: BankValue, bank: SmootherBank, old: u64) -> Done
     ensures { λ r. ⌜ r ≡ doneBy old (readBy answer bank) ⌝ }
 {
     match answer {
         BankValue::Value(value) => Done {
             number: 0,
             count: 0,
-            value: value,
+            value: to_bits(value),
             bank: bank,
         },
         BankValue::NotSetUp => Done {
@@ -349,7 +241,7 @@ fn value_read(answer: BankValue, bank: SmootherBank, old: f64) -> Done
 }
 
 // The call by its number: 0 `set_target`, 1 `set_immediate`, 2 `step`, 3 `reset`, else `value`.
-fn called(op: u32, bank: SmootherBank, id: u32, value: f64, old: f64) -> Done
+fn called(op: u32, bank: SmootherBank, id: u32, value: f64, old: u64) -> Done
     ensures { λ r. ⌜ r ≡ doneBy old (calledBy op bank id value) ⌝ }
 {
     if op == 0 {
@@ -367,34 +259,23 @@ fn called(op: u32, bank: SmootherBank, id: u32, value: f64, old: f64) -> Done
     value_read(bank.value(id), bank, old)
 }
 
-// A setup for the first `count` of the declarations that the arrays hold.
+// A setup for the first `count` of the declarations that the slots hold.
 #[no_mangle]
-pub extern "C" fn probe_bank_setup(
-    count: usize,
-    rate: u32,
-    numbers: &mut [f64; 73],
-    words: &mut [u64; 28],
-) -> u32
-    ensures { λ r. ⌜ heldAt r (now (numbers .exit)) (now (words .exit)) ≡ heldBy (now (numbers .entry)) (now (words .entry)) (doneBy (oldIn (now (numbers .entry))) (setUpOf (infosIn (now (numbers .entry)) (now (words .entry))) count rate)) ⌝ }
+pub extern "C" fn probe_bank_setup(count: usize, rate: u32, words: &mut [u64; 101]) -> u32
+    ensures { λ r. ⌜ heldAt r (now (words .exit)) ≡ setUpBy (now (words .entry)) count rate ⌝ }
 {
-    let infos = infos_in(numbers, words);
-    let done = set_up(SmootherBank::try_new(infos, count, rate), numbers[72]);
-    lay(numbers, words, done);
+    let infos = infos_in(words);
+    let done = set_up(SmootherBank::try_new(infos, count, rate), words[100]);
+    lay(words, done);
     done.number
 }
 
-// A call of the bank that the arrays hold.
+// A call of the bank that the words hold.
 #[no_mangle]
-pub extern "C" fn probe_bank_call(
-    op: u32,
-    id: u32,
-    value: f64,
-    numbers: &mut [f64; 73],
-    words: &mut [u64; 28],
-) -> u32
-    ensures { λ r. ⌜ heldAt r (now (numbers .exit)) (now (words .exit)) ≡ heldBy (now (numbers .entry)) (now (words .entry)) (doneBy (oldIn (now (numbers .entry))) (calledBy op (bankIn (now (numbers .entry)) (now (words .entry))) id value)) ⌝ }
+pub extern "C" fn probe_bank_call(op: u32, id: u32, value: f64, words: &mut [u64; 101]) -> u32
+    ensures { λ r. ⌜ heldAt r (now (words .exit)) ≡ callBy (now (words .entry)) op id value ⌝ }
 {
-    let done = called(op, bank_in(numbers, words), id, value, numbers[72]);
-    lay(numbers, words, done);
+    let done = called(op, bank_in(words), id, value, words[100]);
+    lay(words, done);
     done.number
 }

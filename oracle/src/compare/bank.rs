@@ -7,9 +7,11 @@ use super::{shown, Difference, Settings};
 use crate::bank::{called, set_up, Answer, Call, Declared, Refusal, Slot, MOST};
 use crate::dsp::driver::inside;
 use crate::dsp::SmootherBank;
+use crate::layout::bank::{COUNT, RATE, READY, TOLD_COUNT};
+use crate::layout::smoother::{COEFF, DEFAULT, HIGH, ID, LOW, MS, SHAPE, STEPS};
 use crate::numbers::{any, canonical, near};
 use crate::params;
-use crate::probe::{Bank, COUNT, RATE, READY, ROW, TRIPLE};
+use crate::probe::Bank;
 use crate::rng::Rng;
 use crate::shrink;
 
@@ -147,7 +149,7 @@ impl Session {
 
 /// The bits of a bank that was never set up.
 fn unset() -> Vec<u64> {
-    vec![0; 72 + 27]
+    vec![0; TOLD_COUNT]
 }
 
 /// Make the same calls on both sides.
@@ -212,19 +214,22 @@ fn changed(
 }
 
 fn change(bank: &mut Bank, count: usize, rng: &mut Rng) {
-    let slot = rng.below(count.max(1) as u64) as usize;
-    let row = &mut bank.numbers[ROW * slot..ROW * (slot + 1)];
+    let index = rng.below(count.max(1) as u64) as usize;
     match rng.below(10) {
         0 => bank.words[READY] = 0,
         1 => bank.words[COUNT] = rng.pick(&[0, 1, count as u64 + 1, 9, u64::MAX]),
         2 => bank.words[RATE] = u64::from(params::rate(rng)),
-        3 => bank.words[TRIPLE * slot] = rng.below(9),
-        4 => bank.words[TRIPLE * slot + 2] = rng.below(3),
-        5 => row[rng.pick(&[2, 3, 4, 8])] = any(rng),
-        6 => row.swap(2, 3),
+        3 => bank.slot_mut(index)[ID] = rng.below(9),
+        4 => bank.slot_mut(index)[SHAPE] = rng.below(3),
+        5 => {
+            let place = rng.pick(&[LOW, HIGH, DEFAULT, MS]);
+            bank.slot_mut(index)[place] = any(rng).to_bits();
+        }
+        6 => bank.slot_mut(index).swap(LOW, HIGH),
         _ => {
-            let place = rng.pick(&[2, 3, 4, 5, 5, 7, 7, 8]);
-            row[place] = near(rng, row[place], 1);
+            let places = [LOW, HIGH, DEFAULT, STEPS, STEPS, COEFF, COEFF, MS];
+            let word = &mut bank.slot_mut(index)[rng.pick(&places)];
+            *word = near(rng, f64::from_bits(*word), 1).to_bits();
         }
     }
 }

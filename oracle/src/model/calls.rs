@@ -54,8 +54,8 @@ fn judged_state(state: &State, lent: &Lent, call: &Call) -> Result<(), Told> {
             audio,
         } => judge::block(state, lent, *position, *frames, events, audio),
         Call::Flush { frames, audio } => judge::drain(state, lent, *frames, audio),
-        Call::Set { id, bits } => judge::parameter(state, lent, *id, *bits),
-        Call::Read { id } => judge::reading(state, lent, *id),
+        Call::Set { id, bits } => judge::parameter(state, *id, *bits),
+        Call::Read { id } => judge::reading(state, *id),
         Call::Reset => judge::lent_fits(state, lent),
         Call::GainStep { .. } => judge::gain_step(state, lent),
     }
@@ -235,6 +235,7 @@ fn gain_step(state: &State, lent: &mut Lent, gain: f64) -> Told {
 mod tests {
     use super::*;
     use crate::calls::{bytes, ANSWER};
+    use crate::layout::{smoother, state as at};
     use crate::whole::Rust;
 
     /// Document 01's own example: look 72, L 61, 4,256 bytes.
@@ -266,10 +267,9 @@ mod tests {
         }
     }
 
-    /// The words that a state holds from a place on.
-    fn words<const N: usize>(lent: &Lent, from: usize) -> [u64; N] {
-        let word = |i: usize| sample(&lent.state[8 * (from + i)..]).to_bits();
-        std::array::from_fn(word)
+    /// A word of the threshold's smoother.
+    fn of_threshold(lent: &Lent, at: usize) -> u64 {
+        sample(&lent.state[8 * (at::SMOOTHER + at)..]).to_bits()
     }
 
     #[test]
@@ -307,7 +307,7 @@ mod tests {
         for (position, frames, left) in [(0, 64, 6), (33, 40, 7), (33, 31, 8), (32, 1, 7)] {
             let mut lent = fresh();
             assert_eq!(call(&mut lent, &mut block(position, frames, &event)), 0);
-            assert_eq!(words(&lent, 26), [left]);
+            assert_eq!(of_threshold(&lent, smoother::LEFT), left);
         }
     }
 
@@ -330,16 +330,13 @@ mod tests {
         let mut lent = fresh();
         let good = lent.clone();
         lent.state[0] ^= 1;
-        lent.answer.push(0);
         lent.stores.0[0].pop();
-        lent.state[8 * 15..8 * 16].fill(0xff);
+        lent.state[8 * at::GAIN..8 * (at::GAIN + 1)].fill(0xff);
         let nan = f64::NAN.to_bits();
         let mut asked = block(1 << 62, 600, &[3, 0, 0, 2, 0, 0, 700, 0, nan]);
         let judged = |lent: &mut Lent, asked: &Call| told(lent, asked.clone());
         assert_eq!(judged(&mut lent, &asked).0, 18);
         lent.state[0] ^= 1;
-        assert_eq!(judged(&mut lent, &asked).0, 16);
-        lent.answer.pop();
         assert_eq!(judged(&mut lent, &asked).0, 16);
         lent.stores.0[0].push(0);
         assert_eq!(judged(&mut lent, &asked).0, 19);
@@ -363,7 +360,43 @@ mod tests {
         let bits = 1.0f64.to_bits();
         assert_eq!(told(&mut lent, Call::Set { id: 9, bits }).0, 24);
         assert_eq!(told(&mut lent, Call::Set { id: 0, bits }).0, 0);
-        assert_eq!(words(&lent, 20), [0.0f64.to_bits(); 2]);
+        for at in [smoother::CUR, smoother::TARGET] {
+            assert_eq!(of_threshold(&lent, at), 0.0f64.to_bits());
+        }
+    }
+
+    /// Eight words, as many as fit; what stands behind them stays.
+    #[test]
+    fn an_answer_of_any_length_is_told_as_far_as_it_fits() {
+        let bits = f64::INFINITY.to_bits();
+        let told_words = [9, bits, 0, 0, 0, 0, 0, 0, 7, 7];
+        for length in 0..=10 {
+            let mut lent = fresh();
+            lent.answer = vec![7; length];
+            let (number, answer) = told(&mut lent, Call::Set { id: 9, bits });
+            assert_eq!((number, &answer[..]), (23, &told_words[..length]));
+            let setup = Call::Setup {
+                setup: STEREO,
+                cap: None,
+            };
+            assert_eq!(told(&mut lent, setup).0, 0);
+        }
+    }
+
+    /// A state buffer of another length: 18, but for setup.
+    #[test]
+    fn a_state_of_another_length_is_16_of_setup_and_stays() {
+        let cap = Some(4_335);
+        for length in [0, 511, 513] {
+            let mut lent = fresh();
+            lent.state.resize(length, 1);
+            let before = lent.state.clone();
+            for (cap, number) in [(cap, 15), (None, 16)] {
+                let (seen, _) = told(&mut lent, Call::Setup { setup: STEREO, cap });
+                assert_eq!((seen, &lent.state), (number, &before));
+            }
+            assert_eq!(told(&mut lent, Call::Read { id: 0 }).0, 18);
+        }
     }
 
     #[test]

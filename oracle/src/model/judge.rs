@@ -6,7 +6,7 @@ use super::state::State;
 use super::threshold::declared;
 use super::weights::accepted;
 use crate::bank::judged;
-use crate::calls::{floats, Lent, Stores, ANSWER, ROW, SAMPLE, STATE, WEIGHTS};
+use crate::calls::{floats, Lent, Stores, ROW, SAMPLE, STATE, WEIGHTS};
 
 /// A block ends at 2^62 at the latest.
 const FARTHEST: u64 = 1 << 62;
@@ -73,9 +73,11 @@ pub fn setup(s: &Setup, cap: Option<u64>, lent: &Lent) -> Result<(), Told> {
     let (channels, look) = (s.channels as u64, look(s.lookahead, s.rate));
     let left = cap.map(|cap| cap - BANK_BYTES);
     fits(15, needed(channels, look), left)?;
-    let buffers = lent.state.len() == STATE && lent.answer.len() == ANSWER;
+    let state_fits = lent.state.len() == STATE;
     first(&[
-        (16, &|| buffers && stores_fit(channels, look, &lent.stores)),
+        (16, &|| {
+            state_fits && stores_fit(channels, look, &lent.stores)
+        }),
         (17, &|| accepted(&floats(&lent.stores.0[WEIGHTS]))),
     ])
 }
@@ -119,15 +121,9 @@ fn readable(state: &State) -> Result<(), Told> {
     first(&[(18, &|| state.ready && passed)])
 }
 
-/// 16 of the answer.
-fn answer_fits(lent: &Lent) -> Result<(), Told> {
-    first(&[(16, &|| lent.answer.len() == ANSWER)])
-}
-
 /// 18, then 16.
 pub fn lent_fits(state: &State, lent: &Lent) -> Result<(), Told> {
     prepared(state)?;
-    answer_fits(lent)?;
     let channels = state.setup.channels as u64;
     first(&[(16, &|| stores_fit(channels, state.look, &lent.stores))])
 }
@@ -141,7 +137,6 @@ fn ready(state: &State, lent: &Lent) -> Result<(), Told> {
 /// 18, 16, 19 of a gain step, which is lent four stores.
 fn gain_ready(state: &State, lent: &Lent) -> Result<(), Told> {
     prepared(state)?;
-    answer_fits(lent)?;
     let due = lengths(0, state.look);
     let fits = |which: usize| lent.stores.0[which].len() as u64 == due[which];
     first(&[
@@ -225,17 +220,15 @@ pub fn gain_step(state: &State, lent: &Lent) -> Result<(), Told> {
     has_room(state, 1)
 }
 
-/// A reading: 18 of the bank, 16 of the answer, 24.
-pub fn reading(state: &State, lent: &Lent, id: u32) -> Result<(), Told> {
+/// A reading: 18 of the bank, 24.
+pub fn reading(state: &State, id: u32) -> Result<(), Told> {
     readable(state)?;
-    answer_fits(lent)?;
     known(state, id)
 }
 
-/// A parameter call: 18, 16 of the answer, 23, 24.
-pub fn parameter(state: &State, lent: &Lent, id: u32, bits: u64) -> Result<(), Told> {
+/// A parameter call: 18, 23, 24.
+pub fn parameter(state: &State, id: u32, bits: u64) -> Result<(), Told> {
     prepared(state)?;
-    answer_fits(lent)?;
     if !f64::from_bits(bits).is_finite() {
         return Err(Told::with(23, &[u64::from(id), bits]));
     }

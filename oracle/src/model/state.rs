@@ -3,17 +3,11 @@
 
 use super::setup::{look, Setup};
 use super::threshold::{declared, Smoother};
-use crate::bank::Shape;
 use crate::calls::{words, STATE};
+use crate::layout::{smoother, state as at};
 
 /// The first word, "Dyuz" and the layout's number.
 const VERSION: u64 = 0x1_7a75_7944;
-
-/// The words that are floats.
-pub const FLOATS: [usize; 16] = [1, 2, 3, 4, 8, 15, 17, 20, 21, 22, 23, 24, 25, 27, 29, 30];
-
-/// The words that hold something; those behind them are 0.
-const USED: usize = 34;
 
 /// A limiter with its bank, as the words tell it.
 #[derive(Clone, Copy, Debug, PartialEq)]
@@ -98,13 +92,13 @@ impl State {
         }
         let words = words(bytes);
         let small = |at: usize| words[at] <= u64::from(u32::MAX);
-        let told = words[0] == VERSION
-            && small(5)
-            && small(19)
-            && small(32)
-            && words[28] <= 2
-            && words[33] <= 1
-            && words[USED..].iter().all(|&word| word == 0);
+        let told = words[at::LAYOUT] == VERSION
+            && small(at::RATE)
+            && small(at::SMOOTHER + smoother::ID)
+            && small(at::BANK_RATE)
+            && words[at::SMOOTHER + smoother::SHAPE] <= 2
+            && words[at::READY] <= 1
+            && words[at::USED..].iter().all(|&word| word == 0);
         told.then(|| Self::of(&words))
     }
 
@@ -112,80 +106,65 @@ impl State {
         let float = |at: usize| f64::from_bits(words[at]);
         Self {
             setup: Setup {
-                threshold: float(1),
-                margin: float(2),
-                lookahead: float(3),
-                release: float(4),
-                rate: words[5] as u32,
-                channels: words[6] as usize,
-                block: words[7] as usize,
+                threshold: float(at::THRESHOLD),
+                margin: float(at::MARGIN),
+                lookahead: float(at::LOOKAHEAD),
+                release: float(at::RELEASE),
+                rate: words[at::RATE] as u32,
+                channels: words[at::CHANNELS] as usize,
+                block: words[at::BLOCK] as usize,
             },
-            release_coeff: float(8),
-            look: words[9],
-            head: words[10],
-            len: words[11],
-            frame: words[12],
-            row_pos: words[13],
-            tally: words[14],
-            gain: float(15),
-            delay_pos: words[16],
-            target: float(17),
-            drained: words[18],
-            threshold: smoother(words),
-            count: words[31],
-            bank_rate: words[32] as u32,
-            ready: words[33] == 1,
+            release_coeff: float(at::RELEASE_COEFF),
+            look: words[at::LOOK],
+            head: words[at::HEAD],
+            len: words[at::LEN],
+            frame: words[at::FRAME],
+            row_pos: words[at::ROW_POS],
+            tally: words[at::TALLY],
+            gain: float(at::GAIN),
+            delay_pos: words[at::DELAY_POS],
+            target: float(at::TARGET),
+            drained: words[at::DRAINED],
+            threshold: Smoother::of(&words[at::SMOOTHER..]),
+            count: words[at::COUNT],
+            bank_rate: words[at::BANK_RATE] as u32,
+            ready: words[at::READY] == 1,
         }
     }
 
     /// The bytes that tell it.
     pub fn bytes(&self) -> Vec<u8> {
-        let mut words = vec![VERSION];
         let s = &self.setup;
-        let settings = [s.threshold, s.margin, s.lookahead, s.release];
-        words.extend(settings.map(f64::to_bits));
-        words.extend([u64::from(s.rate), s.channels as u64, s.block as u64]);
-        words.push(self.release_coeff.to_bits());
-        words.extend([self.look, self.head, self.len, self.frame]);
-        words.extend([self.row_pos, self.tally, self.gain.to_bits()]);
-        words.extend([self.delay_pos, self.target.to_bits(), self.drained]);
-        words.extend(smoother_words(&self.threshold));
-        words.extend([self.count, u64::from(self.bank_rate), u64::from(self.ready)]);
-        words.resize(STATE / 8, 0);
+        let mut words = [0; at::WORDS];
+        words[at::SMOOTHER..at::COUNT].copy_from_slice(&self.threshold.words());
+        for (at, word) in [
+            (at::LAYOUT, VERSION),
+            (at::THRESHOLD, s.threshold.to_bits()),
+            (at::MARGIN, s.margin.to_bits()),
+            (at::LOOKAHEAD, s.lookahead.to_bits()),
+            (at::RELEASE, s.release.to_bits()),
+            (at::RATE, u64::from(s.rate)),
+            (at::CHANNELS, s.channels as u64),
+            (at::BLOCK, s.block as u64),
+            (at::RELEASE_COEFF, self.release_coeff.to_bits()),
+            (at::LOOK, self.look),
+            (at::HEAD, self.head),
+            (at::LEN, self.len),
+            (at::FRAME, self.frame),
+            (at::ROW_POS, self.row_pos),
+            (at::TALLY, self.tally),
+            (at::GAIN, self.gain.to_bits()),
+            (at::DELAY_POS, self.delay_pos),
+            (at::TARGET, self.target.to_bits()),
+            (at::DRAINED, self.drained),
+            (at::COUNT, self.count),
+            (at::BANK_RATE, u64::from(self.bank_rate)),
+            (at::READY, u64::from(self.ready)),
+        ] {
+            words[at] = word;
+        }
         words.into_iter().flat_map(u64::to_le_bytes).collect()
     }
-}
-
-/// The threshold's smoother in the words from the 19th on.
-fn smoother(words: &[u64]) -> Smoother {
-    let float = |at: usize| f64::from_bits(words[at]);
-    Smoother {
-        id: words[19] as u32,
-        cur: float(20),
-        target: float(21),
-        low: float(22),
-        high: float(23),
-        default: float(24),
-        steps: float(25),
-        left: words[26],
-        delta: float(27),
-        shape: match words[28] {
-            0 => Shape::Step,
-            1 => Shape::Linear,
-            _ => Shape::OnePole,
-        },
-        coeff: float(29),
-        ms: float(30),
-    }
-}
-
-fn smoother_words(s: &Smoother) -> Vec<u64> {
-    let mut words = vec![u64::from(s.id)];
-    let floats = [s.cur, s.target, s.low, s.high, s.default, s.steps];
-    words.extend(floats.map(f64::to_bits));
-    words.extend([s.left, s.delta.to_bits(), s.shape as u64]);
-    words.extend([s.coeff, s.ms].map(f64::to_bits));
-    words
 }
 
 #[cfg(test)]
@@ -194,10 +173,11 @@ mod tests {
 
     #[test]
     fn a_state_comes_back_from_its_bytes() {
-        let words = (0..USED as u64).map(|at| match at {
-            0 => VERSION,
-            28 | 33 => 1,
-            at => 1_000 + at,
+        const SHAPE: usize = at::SMOOTHER + smoother::SHAPE;
+        let words = (0..at::USED).map(|at| match at {
+            at::LAYOUT => VERSION,
+            SHAPE | at::READY => 1,
+            at => 1_000 + at as u64,
         });
         let mut bytes: Vec<u8> = words.flat_map(u64::to_le_bytes).collect();
         bytes.resize(STATE, 0);

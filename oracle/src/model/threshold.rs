@@ -1,9 +1,12 @@
 //! The threshold's smoother, the limiter's one parameter: Linear, as document 01
 //! and `SmootherBank` have it.
 
+#[cfg(feature = "probe")]
+use crate::bank::Slot;
 use crate::bank::{judged, Declared, Shape};
 use crate::dsp::math;
 use crate::dsp::sanitize::finite_or_zero;
+use crate::layout::smoother as at;
 
 /// What a smoother holds.
 #[derive(Clone, Copy, Debug, PartialEq)]
@@ -69,8 +72,65 @@ impl Smoother {
         }
     }
 
+    /// The smoother that words tell.
+    pub fn of(words: &[u64]) -> Self {
+        let float = |at: usize| f64::from_bits(words[at]);
+        Self {
+            id: words[at::ID] as u32,
+            cur: float(at::CUR),
+            target: float(at::TARGET),
+            low: float(at::LOW),
+            high: float(at::HIGH),
+            default: float(at::DEFAULT),
+            steps: float(at::STEPS),
+            left: words[at::LEFT],
+            delta: float(at::DELTA),
+            shape: Shape::of(words[at::SHAPE]),
+            coeff: float(at::COEFF),
+            ms: float(at::MS),
+        }
+    }
+
+    /// The words that tell it.
+    pub fn words(&self) -> [u64; at::WORDS] {
+        let mut words = [0; at::WORDS];
+        words[at::ID] = u64::from(self.id);
+        words[at::LEFT] = self.left;
+        words[at::SHAPE] = self.shape as u64;
+        for (at, float) in [
+            (at::CUR, self.cur),
+            (at::TARGET, self.target),
+            (at::LOW, self.low),
+            (at::HIGH, self.high),
+            (at::DEFAULT, self.default),
+            (at::STEPS, self.steps),
+            (at::DELTA, self.delta),
+            (at::COEFF, self.coeff),
+            (at::MS, self.ms),
+        ] {
+            words[at] = float.to_bits();
+        }
+        words
+    }
+
+    /// What it holds beside its declaration's id, time and shape.
+    #[cfg(feature = "probe")]
+    pub fn slot(&self) -> Slot {
+        Slot {
+            cur: self.cur,
+            target: self.target,
+            low: self.low,
+            high: self.high,
+            default: self.default,
+            steps: self.steps,
+            delta: self.delta,
+            coeff: self.coeff,
+            left: self.left,
+        }
+    }
+
     /// The declaration that the smoother keeps.
-    fn declared(&self) -> Declared {
+    pub fn declared(&self) -> Declared {
         Declared {
             id: self.id,
             low: self.low,

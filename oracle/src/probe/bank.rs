@@ -1,66 +1,47 @@
 //! The parameter bank.
 
-use crate::bank::{Answer, Call, Declared, Refusal, Shape, Slot, MOST};
+use crate::bank::{Answer, Call, Declared, Refusal, Slot, MOST};
+use crate::layout::bank::{COUNT, TOLD_COUNT, TOLD_VALUE, WORDS};
+use crate::layout::smoother::{self, DEFAULT, HIGH, ID, LOW, MS, SHAPE};
+use crate::model::threshold::Smoother;
 use crate::numbers::canonical;
 
 extern "C" {
-    fn probe_bank_setup(
-        count: usize,
-        rate: u32,
-        numbers: *mut [f64; 73],
-        words: *mut [u64; 28],
-    ) -> u32;
-    fn probe_bank_call(
-        op: u32,
-        id: u32,
-        value: f64,
-        numbers: *mut [f64; 73],
-        words: *mut [u64; 28],
-    ) -> u32;
+    fn probe_bank_setup(count: usize, rate: u32, words: *mut [u64; WORDS]) -> u32;
+    fn probe_bank_call(op: u32, id: u32, value: f64, words: *mut [u64; WORDS]) -> u32;
 }
 
 /// What the place of a told value holds before a call.
 const BEFORE: f64 = -12345.0;
 
-/// Numbers and words of a slot.
-pub const ROW: usize = 9;
-pub const TRIPLE: usize = 3;
-
-/// Places of the words behind those of the slots; the last is that of a count
-/// that a call tells.
-pub const COUNT: usize = 24;
-pub const RATE: usize = 25;
-pub const READY: usize = 26;
-const TOLD: usize = 27;
-
-/// A bank of the proved code, as it crosses: of each of eight slots value,
-/// target, range, default, steps, step size, coefficient and smoothing time,
-/// then the value that a call tells; id, updates left and shape of each slot,
-/// then the words above.
+/// A bank of the proved code, as it crosses.
 #[derive(Clone, Debug)]
 pub struct Bank {
-    pub numbers: [f64; 73],
-    pub words: [u64; 28],
+    pub words: [u64; WORDS],
 }
 
 impl Bank {
     /// A setup; it hands back the bank even where it is refused.
     pub fn set_up(declared: &[Declared], rate: u32) -> (Refusal, Self) {
         let mut bank = Self {
-            numbers: [f64::NAN; 73],
-            words: [u64::MAX; 28],
+            words: [u64::MAX; WORDS],
         };
         for (i, d) in declared.iter().take(MOST).enumerate() {
-            let row = &mut bank.numbers[ROW * i..ROW * (i + 1)];
-            row[2..5].copy_from_slice(&[d.low, d.high, d.default]);
-            row[8] = d.ms;
-            bank.words[TRIPLE * i] = u64::from(d.id);
-            bank.words[TRIPLE * i + 2] = d.shape as u64;
+            let slot = bank.slot_mut(i);
+            slot[ID] = u64::from(d.id);
+            slot[SHAPE] = d.shape as u64;
+            for (at, float) in [
+                (LOW, d.low),
+                (HIGH, d.high),
+                (DEFAULT, d.default),
+                (MS, d.ms),
+            ] {
+                slot[at] = float.to_bits();
+            }
         }
-        let (numbers, words) = (&mut bank.numbers, &mut bank.words);
-        // SAFETY: the pointers are those of two live arrays apart.
-        let number = unsafe { probe_bank_setup(declared.len(), rate, numbers, words) };
-        let index = bank.words[TOLD] as usize;
+        // SAFETY: the pointer is that of a live array, lent for the call alone.
+        let number = unsafe { probe_bank_setup(declared.len(), rate, &mut bank.words) };
+        let index = bank.words[TOLD_COUNT] as usize;
         (Refusal { number, index }, bank)
     }
 
@@ -73,64 +54,59 @@ impl Bank {
             Call::Reset => (3, 0, 0.0),
             Call::Value { id } => (4, id, 0.0),
         };
-        self.numbers[72] = BEFORE;
-        let (numbers, words) = (&mut self.numbers, &mut self.words);
-        // SAFETY: the pointers are those of two live arrays apart.
-        let number = unsafe { probe_bank_call(op, id, value, numbers, words) };
-        let told = self.numbers[72];
-        let untold = told.to_bits() == BEFORE.to_bits();
-        let word = if untold { 0 } else { canonical(told) };
-        (Answer { number, word }, self.words[TOLD])
+        self.words[TOLD_VALUE] = BEFORE.to_bits();
+        // SAFETY: the pointer is that of a live array, lent for the call alone.
+        let number = unsafe { probe_bank_call(op, id, value, &mut self.words) };
+        let told = self.words[TOLD_VALUE];
+        let untold = told == BEFORE.to_bits();
+        let word = if untold { 0 } else { one_nan(told) };
+        (Answer { number, word }, self.words[TOLD_COUNT])
+    }
+
+    /// The words of a slot.
+    pub fn slot_mut(&mut self, index: usize) -> &mut [u64] {
+        &mut self.words[smoother::WORDS * index..][..smoother::WORDS]
+    }
+
+    fn smoothers(&self, count: usize) -> impl Iterator<Item = Smoother> + '_ {
+        let slots = self.words[..COUNT].chunks_exact(smoother::WORDS);
+        slots.take(count).map(Smoother::of)
     }
 
     /// What the first slots hold.
     pub fn slots(&self, count: usize) -> Vec<Slot> {
-        let rows = self.numbers.chunks(ROW).zip(self.words.chunks(TRIPLE));
-        rows.take(count)
-            .map(|(row, words)| Slot {
-                cur: row[0],
-                target: row[1],
-                low: row[2],
-                high: row[3],
-                default: row[4],
-                steps: row[5],
-                delta: row[6],
-                coeff: row[7],
-                left: words[1],
-            })
-            .collect()
+        self.smoothers(count).map(|s| s.slot()).collect()
     }
 
     /// The declarations that the first slots keep.
     pub fn declared(&self, count: usize) -> Vec<Declared> {
-        let rows = self.numbers.chunks(ROW).zip(self.words.chunks(TRIPLE));
-        rows.take(count)
-            .map(|(row, words)| Declared {
-                id: words[0] as u32,
-                low: row[2],
-                high: row[3],
-                default: row[4],
-                ms: row[8],
-                shape: match words[2] {
-                    0 => Shape::Step,
-                    1 => Shape::Linear,
-                    _ => Shape::OnePole,
-                },
-            })
-            .collect()
+        self.smoothers(count).map(|s| s.declared()).collect()
     }
 
     /// Replace value, target, step size and updates left of a slot.
     pub fn forge(&mut self, index: usize, slot: &Slot) {
-        let row = &mut self.numbers[ROW * index..ROW * (index + 1)];
-        row[..2].copy_from_slice(&[slot.cur, slot.target]);
-        row[6] = slot.delta;
-        self.words[TRIPLE * index + 1] = slot.left;
+        let words = self.slot_mut(index);
+        let mut forged = Smoother::of(words);
+        forged.cur = slot.cur;
+        forged.target = slot.target;
+        forged.delta = slot.delta;
+        forged.left = slot.left;
+        words.copy_from_slice(&forged.words());
     }
 
     /// The whole bank as bits, without what a call tells.
     pub fn bits(&self) -> Vec<u64> {
-        let numbers = self.numbers[..72].iter().map(|&x| canonical(x));
-        numbers.chain(self.words[..TOLD].iter().copied()).collect()
+        let mut bits = self.words[..TOLD_COUNT].to_vec();
+        for slot in bits[..COUNT].chunks_exact_mut(smoother::WORDS) {
+            for at in smoother::FLOATS {
+                slot[at] = one_nan(slot[at]);
+            }
+        }
+        bits
     }
+}
+
+/// A float's bits; all NaN are one.
+fn one_nan(bits: u64) -> u64 {
+    canonical(f64::from_bits(bits))
 }

@@ -6,7 +6,7 @@ mod keeper;
 mod leaves;
 mod setup;
 
-pub use bank::{Bank, COUNT, RATE, READY, ROW, TRIPLE};
+pub use bank::Bank;
 pub use detector::{peak_abs, peaks_abs};
 pub use keeper::{floors_setup, floors_step};
 pub use leaves::leaf;

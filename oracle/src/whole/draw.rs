@@ -5,6 +5,7 @@ mod settings;
 
 use super::faults::{careless, damage, weights, Fault};
 use super::plan::{Block, Part, Session, Turn, LARGEST};
+use crate::calls::ANSWER;
 use crate::model::calls::{needed, BANK_BYTES};
 use crate::model::setup::{look, Setup};
 use crate::numbers::{any, not_finite};
@@ -137,6 +138,14 @@ fn longest(rng: &mut Rng) -> u64 {
     LARGEST - rng.below(2) * rng.below(40_000)
 }
 
+/// Words of an answer buffer: an answer's own, or others, none among them.
+fn answer(rng: &mut Rng) -> usize {
+    match rng.below(2) {
+        0 => ANSWER,
+        _ => rng.below(ANSWER as u64 + 3) as usize,
+    }
+}
+
 /// Draws the turns of a session.
 struct Planner {
     mode: Mode,
@@ -161,6 +170,7 @@ impl Planner {
             Turn {
                 part: if slow { part.cut(SLOW) } else { part },
                 faults: (0..faults).map(|_| self.fault(rng)).collect(),
+                answer: answer(rng),
             }
         };
         (0..turns).map(turn).collect()
@@ -172,6 +182,7 @@ impl Planner {
         let turn = |_| Turn {
             part: self.part(rng).cut(RECORDED),
             faults: Vec::new(),
+            answer: ANSWER,
         };
         (0..turns).map(turn).collect()
     }
@@ -189,9 +200,11 @@ impl Planner {
         let mut turns = Vec::new();
         for i in 0..DAMAGED {
             if i % 8 == 0 {
-                let faults = Vec::new();
-                let part = Part::Block(self.block(rng));
-                turns.push(Turn { part, faults });
+                turns.push(Turn {
+                    part: Part::Block(self.block(rng)),
+                    faults: Vec::new(),
+                    answer: answer(rng),
+                });
             }
             let part = self.aimed(rng);
             let mut faults = vec![match part {
@@ -201,7 +214,11 @@ impl Planner {
             if rng.below(4) == 0 {
                 faults.push(damage(rng));
             }
-            turns.push(Turn { part, faults });
+            turns.push(Turn {
+                part,
+                faults,
+                answer: answer(rng),
+            });
         }
         turns
     }

@@ -2,8 +2,9 @@
 //! that are no state, and states and stores that were changed from outside.
 
 use crate::calls::{words, Call, Lent, MARKS, ROW, STATE, STORES, WEIGHTS};
+use crate::layout::{smoother, state};
 use crate::model::keeper::MOST_FRAMES;
-use crate::model::state::{State, FLOATS};
+use crate::model::state::State;
 use crate::numbers::{any, near, not_finite};
 use crate::rings;
 use crate::rng::Rng;
@@ -25,9 +26,6 @@ pub enum Fault {
     },
     StateBit {
         at: usize,
-    },
-    AnswerLength {
-        by: i64,
     },
     AudioLength {
         by: i64,
@@ -76,13 +74,21 @@ pub enum Fault {
 }
 
 /// Words of the state that something judges or uses.
-const FIRST_WORDS: u64 = 34;
+const USED: u64 = state::USED as u64;
+
+/// Words of the state that hold a gain or a threshold.
+const LEVELS: [usize; 5] = [
+    state::GAIN,
+    state::TARGET,
+    state::SMOOTHER + smoother::CUR,
+    state::SMOOTHER + smoother::TARGET,
+    state::SMOOTHER + smoother::DELTA,
+];
 
 impl Fault {
     pub fn apply(&self, lent: &mut Lent, call: &mut Call) {
         match *self {
             Self::StateLength { by } => resize(&mut lent.state, by),
-            Self::AnswerLength { by } => resize(&mut lent.answer, by),
             Self::AudioLength { by } => {
                 if let Some(audio) = call.audio_mut() {
                     resize(audio, by);
@@ -175,9 +181,8 @@ pub fn careless(rng: &mut Rng) -> Fault {
     let by = rng.pick(&[1, -1, 1, -1, 8, -8, 4096, i64::from(i32::MIN)]);
     match rng.below(10) {
         0 | 1 => Fault::StateLength { by },
-        2 => not_a_state(rng),
-        3 | 4 => Fault::AnswerLength { by },
-        5 | 6 => Fault::AudioLength { by },
+        2 | 3 => not_a_state(rng),
+        4..=6 => Fault::AudioLength { by },
         _ => Fault::StoreLength {
             which: rng.below(STORES.len() as u64) as usize,
             by,
@@ -190,15 +195,25 @@ fn not_a_state(rng: &mut Rng) -> Fault {
     let high = 1 << (32 + rng.below(32));
     let (at, word) = match rng.below(6) {
         0 => (0, rng.word()),
-        1 => (rng.pick(&[5, 19, 32]), high),
-        2 => (28, 3 + (rng.word() >> rng.below(63))),
-        3 => (33, 2 + (rng.word() >> rng.below(63))),
+        1 => {
+            let id = state::SMOOTHER + smoother::ID;
+            (rng.pick(&[state::RATE, id, state::BANK_RATE]), high)
+        }
+        2 => {
+            let shape = state::SMOOTHER + smoother::SHAPE;
+            (shape, 3 + (rng.word() >> rng.below(63)))
+        }
+        3 => (state::READY, 2 + (rng.word() >> rng.below(63))),
         4 => {
             return Fault::StateBit {
                 at: rng.below(64) as usize,
             }
         }
-        _ => (34 + rng.below(30) as usize, 1 << rng.below(64)),
+        _ => {
+            let room = state::WORDS - state::USED;
+            let at = state::USED + rng.below(room as u64) as usize;
+            (at, 1 << rng.below(64))
+        }
     };
     Fault::StateWord { at, word }
 }
@@ -211,19 +226,19 @@ pub fn damage(rng: &mut Rng) -> Fault {
             at: rng.below(8 * STATE as u64) as usize,
         },
         1 => Fault::StateBit {
-            at: rng.below(64 * FIRST_WORDS) as usize,
+            at: rng.below(64 * USED) as usize,
         },
         2..=4 => Fault::StateAdd {
-            at: rng.below(FIRST_WORDS) as usize,
+            at: rng.below(USED) as usize,
             by: rng.pick(&[1, -1, 1, -1, 2, 32, -32, 1 << 32, 1 << 40]),
         },
         5 | 6 => {
-            let at = rng.below(FIRST_WORDS) as usize;
-            let word = word(FLOATS.contains(&at), rng);
+            let at = rng.below(USED) as usize;
+            let word = word(state::is_float(at), rng);
             Fault::StateWord { at, word }
         }
         7 => Fault::StateWord {
-            at: rng.pick(&[15, 17, 20, 21, 27]),
+            at: rng.pick(&LEVELS),
             word: level(rng).to_bits(),
         },
         8 => Fault::Late { frame: late(rng) },

@@ -24,6 +24,8 @@ pub struct Session {
 pub struct Turn {
     pub part: Part,
     pub faults: Vec<Fault>,
+    /// Words of the answer buffer that the call is lent.
+    pub answer: usize,
 }
 
 /// A call that is yet to get its audio.

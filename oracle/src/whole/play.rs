@@ -6,7 +6,8 @@ use super::draw::Mode;
 use super::plan::{rubbish, Part, Session, Turn};
 use super::rust::Rust;
 use crate::calls::{
-    answers_differ, audio_differs, lent_differs, words, Call, Lent, Side, SAMPLE, STATE, WEIGHTS,
+    answers_differ, audio_differs, lent_differs, words, Call, Lent, Side, ANSWER, SAMPLE, STATE,
+    WEIGHTS,
 };
 use crate::model::calls as model;
 
@@ -74,6 +75,7 @@ pub fn play(session: &Session, mode: Mode, proved: Option<Side>) -> Result<Count
     let first = Turn {
         part: Part::Restart,
         faults: Vec::new(),
+        answer: ANSWER,
     };
     let unready = |report| Split { turn: None, report };
     let mut stage = Stage::new(session, mode, proved).map_err(unready)?;
@@ -144,7 +146,7 @@ impl Stage {
     fn directly(&mut self, turn: &Turn, call: Call) -> Result<Left, String> {
         let proved = self.proved.as_mut().ok_or("no proved code to play")?;
         let seen = Left::by(proved.side, prepared(&proved.lent, turn, &call));
-        if let Some(at) = self.rust.left(call).differs(&seen) {
+        if let Some(at) = self.rust.left(call, turn.answer).differs(&seen) {
             return Err(format!("the Rust and the proved code, {at}"));
         }
         proved.lent.clone_from(&seen.lent);
@@ -172,10 +174,15 @@ impl Stage {
 /// holds something else.
 fn prepared(lent: &Lent, turn: &Turn, call: &Call) -> (Lent, Call) {
     let (mut lent, mut call) = (lent.clone(), call.clone());
-    lent.answer.fill(u64::MAX);
+    lent.answer = unwritten(turn.answer);
     let faults = turn.faults.iter();
     faults.for_each(|fault| fault.apply(&mut lent, &mut call));
     (lent, call)
+}
+
+/// An answer buffer that holds something else than any answer.
+fn unwritten(length: usize) -> Vec<u64> {
+    vec![u64::MAX; length]
 }
 
 /// The proved code plays the call too.
@@ -190,7 +197,7 @@ fn beside_model(proved: &Proved, turn: &Turn, call: &Call, model: &Left) -> Resu
 
 /// The Rust plays the call too.
 fn beside_rust(rust: &mut Rust, call: Call, model: &Left) -> Result<(), String> {
-    match model.differs(&rust.left(call)) {
+    match model.differs(&rust.left(call, model.lent.answer.len())) {
         Some(at) => Err(format!("the model and the Rust, {at}")),
         None => Ok(()),
     }
@@ -209,9 +216,11 @@ fn beside_forged_rust((lent, call): (Lent, Call), model: &Left) -> Result<(), St
 }
 
 impl Rust {
-    fn left(&mut self, mut call: Call) -> Left {
+    /// What a call leaves that is lent an answer of a length.
+    fn left(&mut self, mut call: Call, answer: usize) -> Left {
         let (number, told) = self.call(&mut call);
         let mut lent = self.lent();
+        lent.answer = unwritten(answer);
         lent.tell(&told);
         Left { number, lent, call }
     }
@@ -223,11 +232,14 @@ impl Left {
         Self { number, lent, call }
     }
 
-    /// The frames that the call took.
+    /// The frames that the call took; those of a drain that told none are not
+    /// counted.
     fn frames(&self) -> u64 {
         match &self.call {
             Call::Process { frames, .. } if self.number == 0 => *frames,
-            Call::Flush { .. } if self.number == 0 => self.lent.answer[0],
+            Call::Flush { .. } if self.number == 0 => {
+                self.lent.answer.first().copied().unwrap_or_default()
+            }
             _ => 0,
         }
     }

@@ -5,6 +5,7 @@ use std::fmt::Write as _;
 
 use super::plan::{Block, Part, Session, Turn};
 use super::play::{Counts, Split};
+use crate::calls::ANSWER;
 use crate::shrink;
 
 /// The lines of a run without a difference.
@@ -56,9 +57,16 @@ fn plainer(session: &mut Session, at: usize, fails: &dyn Fn(&Session) -> bool) {
     }
 }
 
-/// A turn with something less: a fault, frames, events.
+/// A turn with something less: a fault, frames, events, another answer's length.
 fn tries(turn: &Turn) -> Vec<Turn> {
     let mut tries = Vec::new();
+    if turn.answer != ANSWER {
+        let answer = ANSWER;
+        tries.push(Turn {
+            answer,
+            ..turn.clone()
+        });
+    }
     for at in 0..turn.faults.len() {
         let mut fewer = turn.clone();
         fewer.faults.remove(at);
@@ -74,7 +82,7 @@ fn tries(turn: &Turn) -> Vec<Turn> {
         let blocks = shorter.map(|frames| block.cut(frames));
         tries.extend(blocks.chain(without_event(block)).map(|block| Turn {
             part: Part::Block(block),
-            faults: turn.faults.clone(),
+            ..turn.clone()
         }));
     }
     tries

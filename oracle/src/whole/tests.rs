@@ -3,13 +3,14 @@
 
 use super::plan::Part;
 use super::*;
-use crate::calls::{sample, Call, Lent};
+use crate::calls::{sample, Call, Lent, ANSWER};
+use crate::layout::state as at;
 use crate::model::calls::call as model;
 use crate::model::setup::look;
 
 const WHOLE: Settings = Settings {
     mode: Mode::Whole,
-    sessions: 60,
+    sessions: 90,
     seed: 1,
 };
 
@@ -39,7 +40,7 @@ fn common(settings: &Settings, rows: &[(u64, &[usize])]) {
 fn the_model_is_the_rust_and_every_answer_is_met() {
     let often = [0, 15, 16, 18, 20, 21, 23, 24];
     let seldom = [5, 7, 9, 11, 12, 22];
-    common(&WHOLE, &[(20, &often), (3, &seldom)]);
+    common(&WHOLE, &[(20, &often), (2, &seldom)]);
 }
 
 #[test]
@@ -99,7 +100,7 @@ fn gains_of_every_size_are_met() {
         for turn in session.turns.iter().filter(|turn| turn.commits()) {
             model(&mut lent, &mut turn.part.call(&session));
         }
-        sample(&lent.state[8 * 15..])
+        sample(&lent.state[8 * at::GAIN..])
     };
     let gains: Vec<f64> = (0..100).map(gain).collect();
     let count = |test: &dyn Fn(f64) -> bool| gains.iter().filter(|g| test(**g)).count();
@@ -189,12 +190,38 @@ fn untold(lent: &mut Lent, call: &mut Call) -> u32 {
     number
 }
 
+/// An answer of another length than eight is refused.
+fn exact(lent: &mut Lent, call: &mut Call) -> u32 {
+    if lent.answer.len() == ANSWER || !matches!(call, Call::Set { .. }) {
+        return model(lent, call);
+    }
+    16
+}
+
+/// A short answer is not written.
+fn all_or_none(lent: &mut Lent, call: &mut Call) -> u32 {
+    let before = lent.answer.clone();
+    let number = model(lent, call);
+    if before.len() < ANSWER {
+        lent.answer = before;
+    }
+    number
+}
+
+/// A long answer is zeroed to its end.
+fn zeroed(lent: &mut Lent, call: &mut Call) -> u32 {
+    let number = model(lent, call);
+    lent.answer.iter_mut().skip(ANSWER).for_each(|w| *w = 0);
+    number
+}
+
 /// A reset that forgets the kept target.
 fn forgetful(lent: &mut Lent, call: &mut Call) -> u32 {
-    let kept: Vec<u8> = lent.state.iter().skip(8 * 17).take(8).copied().collect();
+    let target = 8 * at::TARGET..8 * (at::TARGET + 1);
+    let kept = lent.state.get(target.clone()).map(<[u8]>::to_vec);
     let number = model(lent, call);
     if number == 0 && matches!(call, Call::Reset) {
-        lent.state[8 * 17..8 * 18].copy_from_slice(&kept);
+        lent.state[target].copy_from_slice(&kept.unwrap_or_default());
     }
     number
 }
@@ -206,6 +233,9 @@ fn wrong_sides_are_found_and_told_in_short() {
         (touched, "row[0]"),
         (other_order, "number: due"),
         (untold, "answer[0]"),
+        (exact, "seen 16"),
+        (all_or_none, "answer[0]"),
+        (zeroed, "answer[8]"),
         (forgetful, "state[17]"),
     ] {
         for settings in [WHOLE, DIRECT] {
@@ -223,7 +253,8 @@ fn unjudged(lent: &mut Lent, call: &mut Call) -> u32 {
         return model(lent, call);
     }
     let before = lent.state.clone();
-    if let Some(word) = lent.state.get_mut(8 * 18..8 * 19) {
+    let drained = 8 * at::DRAINED..8 * (at::DRAINED + 1);
+    if let Some(word) = lent.state.get_mut(drained) {
         word.fill(0);
     }
     let number = model(lent, call);

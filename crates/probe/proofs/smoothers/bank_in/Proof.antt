@@ -28,29 +28,27 @@ smoother-in-requires-7 c κs = search needs
 smoother-in-requires-8 : tie.Need-smoother-in-requires-8
 smoother-in-requires-8 c κs = search needs
 
-element-copy-out-t14 : tie.Need-element-copy-out-t14
-element-copy-out-t14 c = search needs
+element-copy-out-t29 : tie.Need-element-copy-out-t29
+element-copy-out-t29 c = search needs
 
-element-copy-out-low-half : tie.Need-element-copy-out-low-half
-element-copy-out-low-half c = search needs
+half-in-requires : tie.Need-half-in-requires
+half-in-requires c κs = search needs
 
-low-half-requires : tie.Need-low-half-requires
-low-half-requires c κs = search needs
-
-element-copy-out-t22 : tie.Need-element-copy-out-t22
-element-copy-out-t22 c = search needs
+element-copy-out-t36 : tie.Need-element-copy-out-t36
+element-copy-out-t36 c = search needs
 
 returns : tie.Need-returns
 returns c =
-    let s8 = c .before .before .before .before in
-    let s7 = s8 .before in
-    let s6 = s7 .before in
-    let s5 = s6 .before in
-    let s4 = s5 .before in
-    let s3 = s4 .before in
-    let s2 = s3 .before in
-    let s1 = s2 .before in
-    rw (s1 .smoother-in .ensures, s2 .smoother-in2 .ensures, s3 .smoother-in3 .ensures, s4 .smoother-in4 .ensures, s5 .smoother-in5 .ensures, s6 .smoother-in6 .ensures, s7 .smoother-in7 .ensures, s8 .smoother-in8 .ensures, c .before .low-half .ensures) refl
+    let h = c .before in
+    let s8 = h .before .before .before in
+    let s7 = s8 .before .before in
+    let s6 = s7 .before .before in
+    let s5 = s6 .before .before in
+    let s4 = s5 .before .before in
+    let s3 = s4 .before .before in
+    let s2 = s3 .before .before in
+    let s1 = s2 .before .before in
+    rw (s1 .smoother-in .ensures, s2 .smoother-in2 .ensures, s3 .smoother-in3 .ensures, s4 .smoother-in4 .ensures, s5 .smoother-in5 .ensures, s6 .smoother-in6 .ensures, s7 .smoother-in7 .ensures, s8 .smoother-in8 .ensures, h .half-in .ensures) refl
 
 pub bank-in-spec : {M : Type 1} → statement M
 bank-in-spec =
@@ -64,8 +62,7 @@ bank-in-spec =
     smoother-in-requires-6
     smoother-in-requires-7
     smoother-in-requires-8
-    element-copy-out-t14
-    element-copy-out-low-half
-    low-half-requires
-    element-copy-out-t22
+    element-copy-out-t29
+    half-in-requires
+    element-copy-out-t36
     returns)

@@ -7,9 +7,6 @@ use Rattle.probe.proofs.smoothers.lay.Tie as tie
 lay-slots-requires : tie.Need-lay-slots-requires
 lay-slots-requires c κs = search needs
 
-element-write-numbers : tie.Need-element-write-numbers
-element-write-numbers c = search needs
-
 element-write-words : tie.Need-element-write-words
 element-write-words c = search needs
 
@@ -28,21 +25,22 @@ element-write-words-3 c = search needs
 element-write-words-4 : tie.Need-element-write-words-4
 element-write-words-4 c = search needs
 
+element-write-words-5 : tie.Need-element-write-words-5
+element-write-words-5 c = search needs
+
 returns : tie.Need-returns
-returns c =
-    let k = c .before .before in
-    (rw (k .lay-slots .ensures .0) refl, rw (k .lay-slots .ensures .1, c .flag .ensures) refl)
+returns c = rw (c .before .before .lay-slots .ensures, c .flag .ensures) refl
 
 pub lay-spec : {M : Type 1} → statement M
 lay-spec =
     tie.close
     (tie.spec
     lay-slots-requires
-    element-write-numbers
     element-write-words
     cast-words
     element-write-words-2
     flag-requires
     element-write-words-3
     element-write-words-4
+    element-write-words-5
     returns)

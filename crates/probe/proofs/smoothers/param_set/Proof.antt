@@ -16,6 +16,9 @@ enum-known-answer c = search needs
 cast-t8 : tie.Need-cast-t8
 cast-t8 c = search needs
 
+to-bits-requires : tie.Need-to-bits-requires
+to-bits-requires c κs = search needs
+
 enum-told-3 : tie.Need-enum-told-3
 enum-told-3 c = search needs
 
@@ -26,7 +29,7 @@ returns-2 : tie.Need-returns-2
 returns-2 c = rw (c .enum-told2 .given .1) refl
 
 returns-3 : tie.Need-returns-3
-returns-3 c = rw (c .before .answer .given .1) refl
+returns-3 c = rw (c .to-bits .ensures, c .before .before .answer .given .1) refl
 
 returns-4 : tie.Need-returns-4
 returns-4 c = rw (c .enum-told3 .given .1) refl
@@ -39,6 +42,7 @@ param-set-spec =
     enum-told-2
     enum-known-answer
     cast-t8
+    to-bits-requires
     enum-told-3
     returns
     returns-2

@@ -21,11 +21,11 @@ lay-requires c κs = search needs
 
 returns : tie.Need-returns
 returns c =
-    let k = c .before .before .before in
+    let k = c .before .before in
     let r = k .before .before in
-    let a = r .before .before .before .args in
-    rw (c .lay .ensures .0, c .lay .ensures .1)
-    (ap (heldBy (now (a .numbers)) (now (a .words))) (k .called .ensures ∙ ap (λ (b : SmootherBank). doneBy (oldIn (now (a .numbers))) (calledBy (a .op) b (a .id) (a .value))) (r .bank-in .ensures)))
+    let a = r .before .before .args in
+    rw (c .lay .ensures)
+    (ap (heldBy (now (a .words))) (k .called .ensures ∙ ap (λ (b : SmootherBank). doneBy (oldIn (now (a .words))) (calledBy (a .op) b (a .id) (a .value))) (r .bank-in .ensures)))
 
 pub probe-bank-call-spec : {M : Type 1} → statement M
 probe-bank-call-spec =

@@ -26,13 +26,13 @@ lay-requires c κs = search needs
 
 returns : tie.Need-returns
 returns c =
-    let k = c .before .before .before in
+    let k = c .before .before in
     let t = k .before .before in
     let r = t .before in
-    let a = r .before .before .before .args in
-    let old = oldIn (now (a .numbers)) in
-    rw (c .lay .ensures .0, c .lay .ensures .1)
-    (ap (heldBy (now (a .numbers)) (now (a .words)))
+    let a = r .before .before .args in
+    let old = oldIn (now (a .words)) in
+    rw (c .lay .ensures)
+    (ap (heldBy (now (a .words)))
     (k .set-up .ensures ∙ ap (doneBy old) (t .try-new .ensures) ∙ ap (λ (ps : List ParamInfo). doneBy old (setUpOf ps (a .count) (a .rate))) (r .infos-in .ensures)))
 
 pub probe-bank-setup-spec : {M : Type 1} → statement M

@@ -1,8 +1,8 @@
 -- `shape_of`: by the tests.
 use mathlib.Core.Path.{refl}
 use borrow.Author.Tests.{eq-eqb, ne-eqb}
-use Rattle.probe.proofs.smoothers.shape_of.Statement.{statement}
-use Rattle.probe.proofs.smoothers.shape_of.Tie as tie
+use Rattle.bank.proofs.words.shape_of.Statement.{statement}
+use Rattle.bank.proofs.words.shape_of.Tie as tie
 
 returns : tie.Need-returns
 returns c = rw (eq-eqb (c .before .args .word) 0 (c .if1 .taken)) refl

@@ -1,0 +1,77 @@
+//! The proved limiter, called through the C functions of the library `host`.
+
+use daggeryuzu::sys::{self, LentStores};
+use daggeryuzu::{LimiterSettings, ProcessSpec};
+
+use crate::calls::{Call, Lent, Stores};
+use crate::model::setup::Setup;
+
+/// A call of the proved code: a side of the comparison.
+pub fn call(lent: &mut Lent, call: &mut Call) -> u32 {
+    let (state, answer) = (&mut lent.state, &mut lent.answer);
+    let stores = lent_stores(&mut lent.stores);
+    match call {
+        Call::Setup { setup, cap } => {
+            sys::setup(state, answer, settings(setup), spec(setup, *cap), stores)
+        }
+        Call::Process {
+            position,
+            frames,
+            events,
+            audio,
+        } => {
+            let frames = *frames as usize;
+            sys::process(state, answer, *position, frames, events, audio, stores)
+        }
+        Call::Flush { frames, audio } => sys::flush(state, answer, *frames as usize, audio, stores),
+        Call::Set { id, bits } => sys::set_parameter(state, answer, *id, *bits),
+        Call::Read { id } => sys::parameter(state, answer, *id),
+        Call::Reset => sys::reset(state, answer, stores),
+        Call::GainStep { bits } => sys::gain_step(state, answer, *bits, stores),
+        Call::Look { lookahead, rate } => {
+            lent.tell(&[sys::look(*lookahead, *rate)]);
+            0
+        }
+        Call::Bytes { channels, look } => {
+            lent.tell(&[sys::bytes_needed(*channels as usize, *look as usize)]);
+            0
+        }
+    }
+}
+
+fn settings(setup: &Setup) -> LimiterSettings {
+    LimiterSettings {
+        threshold_db: setup.threshold,
+        true_peak_margin_db: setup.margin,
+        lookahead_ms: setup.lookahead,
+        release_ms: setup.release,
+    }
+}
+
+fn spec(setup: &Setup, cap: Option<u64>) -> ProcessSpec {
+    ProcessSpec {
+        sample_rate: setup.rate,
+        channels: setup.channels,
+        max_block: setup.block,
+        max_memory: cap,
+    }
+}
+
+/// The stores are kept as words; those of floats cross as what the bits mean.
+fn lent_stores(stores: &mut Stores) -> LentStores<'_> {
+    let [delay, marks, minima, weights, row, detector] = stores.0.each_mut();
+    LentStores {
+        delay: floats(delay),
+        marks,
+        minima: floats(minima),
+        weights: floats(weights),
+        row: floats(row),
+        detector: floats(detector),
+    }
+}
+
+/// Words as the floats whose bits they are.
+fn floats(words: &mut [u64]) -> &mut [f64] {
+    // SAFETY: a float is as large and as aligned as a word, and any bits are one.
+    unsafe { std::slice::from_raw_parts_mut(words.as_mut_ptr().cast(), words.len()) }
+}
