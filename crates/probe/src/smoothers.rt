@@ -3,7 +3,8 @@ ghost use mathlib.Core.Path.{_≡_};
 ghost use mathlib.Core.Bool.{cond};
 ghost use Prim.Native.Nat.{_<_, _%_, _^_};
 ghost use Rattle.bank.specs.Bank.{slotAt, setUpAt, setUpOf, paramSetAt, bankSteppedAt};
-ghost use Rattle.probe.specs.Smoothers.{shapeOf, rowIn, smootherIn, bankIn, infoIn, infosIn, shapeWord, rowLaid, tripleLaid, wordsLaid, allLaid, numbersBy, wordsBy, doneBy, readBy, calledBy, heldAt, heldBy, oldIn};
+ghost use Rattle.probe.specs.Smoothers.{shapeOf, rowIn, smootherIn, bankIn, infoIn, infosIn, oldIn, shapeWord, rowLaid, tripleLaid, wordsLaid, allLaid};
+ghost use Rattle.probe.specs.Smoothers.{numbersBy, wordsBy, doneBy, readBy, calledBy, heldAt, heldBy};
 use bank::param::BankAnswer;
 use bank::param::BankRefusal;
 use bank::param::ParamInfo;
@@ -189,7 +190,8 @@ fn lay_slot(numbers: &mut [f64; 73], words: &mut [u64; 28], i: usize, s: Smoothe
 
 // All eight.
 fn lay_slots(numbers: &mut [f64; 73], words: &mut [u64; 28], slots: [Smoother; 8])
-    ensures { λ _. ⌜ (now (numbers .exit) ≡ allLaid rowLaid (now (numbers .entry)) slots 8) × (now (words .exit) ≡ allLaid wordsLaid (now (words .entry)) slots 8) ⌝ }
+    ensures { λ _. ⌜ (now (numbers .exit) ≡ allLaid rowLaid (now (numbers .entry)) slots 8)
+        × (now (words .exit) ≡ allLaid wordsLaid (now (words .entry)) slots 8) ⌝ }
 {
     for i in 0..8usize {
         lay_slot(numbers, words, i, slot(slots, i));
@@ -375,7 +377,9 @@ pub extern "C" fn probe_bank_setup(
     numbers: &mut [f64; 73],
     words: &mut [u64; 28],
 ) -> u32
-    ensures { λ r. ⌜ heldAt r (now (numbers .exit)) (now (words .exit)) ≡ heldBy (now (numbers .entry)) (now (words .entry)) (doneBy (oldIn (now (numbers .entry))) (setUpOf (infosIn (now (numbers .entry)) (now (words .entry))) count rate)) ⌝ }
+    ensures { λ r. ⌜ heldAt r (now (numbers .exit)) (now (words .exit))
+        ≡ heldBy (now (numbers .entry)) (now (words .entry))
+        (doneBy (oldIn (now (numbers .entry))) (setUpOf (infosIn (now (numbers .entry)) (now (words .entry))) count rate)) ⌝ }
 {
     let infos = infos_in(numbers, words);
     let done = set_up(SmootherBank::try_new(infos, count, rate), numbers[72]);
@@ -392,7 +396,9 @@ pub extern "C" fn probe_bank_call(
     numbers: &mut [f64; 73],
     words: &mut [u64; 28],
 ) -> u32
-    ensures { λ r. ⌜ heldAt r (now (numbers .exit)) (now (words .exit)) ≡ heldBy (now (numbers .entry)) (now (words .entry)) (doneBy (oldIn (now (numbers .entry))) (calledBy op (bankIn (now (numbers .entry)) (now (words .entry))) id value)) ⌝ }
+    ensures { λ r. ⌜ heldAt r (now (numbers .exit)) (now (words .exit))
+        ≡ heldBy (now (numbers .entry)) (now (words .entry))
+        (doneBy (oldIn (now (numbers .entry))) (calledBy op (bankIn (now (numbers .entry)) (now (words .entry))) id value)) ⌝ }
 {
     let done = called(op, bank_in(numbers, words), id, value, numbers[72]);
     lay(numbers, words, done);
