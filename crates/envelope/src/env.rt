@@ -33,7 +33,8 @@ impl Envelope {
         rg: f64,
     ) -> GainStep
         requires { ⌜ EnvReady (now weights) (envelopedAt self (now marks) (now minima) (now row)) ⌝ }
-        ensures { λ r. ⌜ gainStepAt r (now (marks .exit)) (now (minima .exit)) (now (row .exit)) ≡ gainStepOf (now (weights .entry)) coeff (envelopedAt self (now (marks .entry)) (now (minima .entry)) (now (row .entry))) rg ⌝ }
+        ensures { λ r. ⌜ gainStepAt r (now (marks .exit)) (now (minima .exit)) (now (row .exit))
+            ≡ gainStepOf (now (weights .entry)) coeff (envelopedAt self (now (marks .entry)) (now (minima .entry)) (now (row .entry))) rg ⌝ }
     {
         let keeper = self.keeper;
         let attack = self.attack;

@@ -40,8 +40,10 @@ fn step_line(
 ) -> Turn
     requires { ⌜ Ready (keepingAt keeper (now marks) (now minima)) ⌝ }
     requires { ⌜ at + length (frameText (keepingAt keeper (now marks) (now minima)) (bits pattern)) ≤ 2 ^ 32 ⌝ }
-    ensures { λ r. ⌜ keepingAt (r .keeper) (now (marks .exit)) (now (minima .exit)) ≡ steppedOf (keepingAt keeper (now (marks .entry)) (now (minima .entry))) (bits pattern) .keeping ⌝ }
-    ensures { λ r. ⌜ Put (now (output .entry)) at (frameText (keepingAt keeper (now (marks .entry)) (now (minima .entry))) (bits pattern)) (now (output .exit)) (r .next) ⌝ }
+    ensures { λ r. ⌜ keepingAt (r .keeper) (now (marks .exit)) (now (minima .exit))
+        ≡ steppedOf (keepingAt keeper (now (marks .entry)) (now (minima .entry))) (bits pattern) .keeping ⌝ }
+    ensures { λ r. ⌜ Put (now (output .entry)) at
+        (frameText (keepingAt keeper (now (marks .entry)) (now (minima .entry))) (bits pattern)) (now (output .exit)) (r .next) ⌝ }
 {
     let frame = keeper.frame;
     let gain = from_bits(pattern);

@@ -65,7 +65,9 @@ pub fn counts_in_order(look: usize, head: usize, len: usize, frame: u64) -> bool
 // Whether the entry at a place is above the one before it, in mark and in minimum.
 pub fn rises(marks: &[u64], minima: &[f64], before: usize, at: usize) -> bool
     requires { ⌜ (before < length (now marks)) × (before < length (now minima)) × (at < length (now marks)) × (at < length (now minima)) ⌝ }
-    ensures { λ r. ⌜ r ≡ (lessMark (entryAt (now (marks .entry)) (now (minima .entry)) before) (entryAt (now (marks .entry)) (now (minima .entry)) at) && lessMinimum (entryAt (now (marks .entry)) (now (minima .entry)) before) (entryAt (now (marks .entry)) (now (minima .entry)) at)) ⌝ }
+    ensures { λ r. ⌜ r
+        ≡ (lessMark (entryAt (now (marks .entry)) (now (minima .entry)) before) (entryAt (now (marks .entry)) (now (minima .entry)) at)
+        && lessMinimum (entryAt (now (marks .entry)) (now (minima .entry)) before) (entryAt (now (marks .entry)) (now (minima .entry)) at)) ⌝ }
 {
     if marks[before] < marks[at] {
         minima[before] < minima[at]
@@ -77,7 +79,9 @@ pub fn rises(marks: &[u64], minima: &[f64], before: usize, at: usize) -> bool
 // Whether marks and minima rise strictly from front to back.
 pub fn entries_rise(marks: &[u64], minima: &[f64], cap: usize, head: usize, len: usize) -> bool
     requires { ⌜ (head < cap) × (len ≤ cap) × (length (now marks) ≡ cap) × (length (now minima) ≡ cap) ⌝ }
-    ensures { λ r. ⌜ r ≡ (rising lessMark (ringOf cap (now (marks .entry)) (now (minima .entry)) head len) && rising lessMinimum (ringOf cap (now (marks .entry)) (now (minima .entry)) head len)) ⌝ }
+    ensures { λ r. ⌜ r
+        ≡ (rising lessMark (ringOf cap (now (marks .entry)) (now (minima .entry)) head len)
+        && rising lessMinimum (ringOf cap (now (marks .entry)) (now (minima .entry)) head len)) ⌝ }
 {
     let mut left = len;
     while left > 1 {
@@ -110,7 +114,9 @@ pub fn minima_unit(minima: &[f64], cap: usize, head: usize, len: usize) -> bool
 // Whether the last mark is below the frame count by 1, and the first not more than look + 1.
 pub fn ends_fit(marks: &[u64], look: usize, head: usize, len: usize, frame: u64) -> bool
     requires { ⌜ (head ≤ look) × (len ≤ look + 1) × (length (now marks) ≡ look + 1) ⌝ }
-    ensures { λ r. ⌜ ((minima : List Float) → r ≡ (lastMark frame (ringOf (look + 1) (now (marks .entry)) minima head len) && firstMark look frame (ringOf (look + 1) (now (marks .entry)) minima head len))) ⌝ }
+    ensures { λ r. ⌜ ((minima : List Float) → r
+        ≡ (lastMark frame (ringOf (look + 1) (now (marks .entry)) minima head len)
+        && firstMark look frame (ringOf (look + 1) (now (marks .entry)) minima head len))) ⌝ }
 {
     if len == 0 {
         return true;

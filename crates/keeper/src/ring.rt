@@ -50,7 +50,8 @@ pub struct Front {
 // any minima. The front moves on by as many places as entries are dropped.
 pub fn drop_front(marks: &[u64], look: usize, head: usize, len: usize, frame: u64) -> Front
     requires { ⌜ (head ≤ look) × (len ≤ look + 1) × (length (now marks) ≡ look + 1) ⌝ }
-    ensures { λ r. ⌜ ((minima : List Float) → ringOf (look + 1) (now (marks .entry)) minima (r .head) (r .len) ≡ dropFront look frame (ringOf (look + 1) (now (marks .entry)) minima head len)) ⌝ }
+    ensures { λ r. ⌜ ((minima : List Float) → ringOf (look + 1) (now (marks .entry)) minima (r .head) (r .len)
+        ≡ dropFront look frame (ringOf (look + 1) (now (marks .entry)) minima head len)) ⌝ }
     ensures { λ r. ⌜ (r .len ≤ len) × (r .head ≡ Ring.wrap (look + 1) (head + (len - r .len))) ⌝ }
 {
     let cap = look + 1;

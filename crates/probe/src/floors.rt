@@ -41,7 +41,9 @@ fn setup_number(answer: SetupAnswer) -> u32
 
 // Tells a finished step's floor, drops and entries kept; a refused one leaves both places alone.
 fn tell(answer: StepAnswer, floor: &mut f64, counts: &mut [u64; 2]) -> u32
-    ensures { λ r. ⌜ (r ≡ stepReply answer .number) × (now (floor .exit) ≡ valueOr (now (floor .entry)) (stepReply answer .values)) × (now (counts .exit) ≡ countsOr (now (counts .entry)) (stepReply answer .values)) ⌝ }
+    ensures { λ r. ⌜ (r ≡ stepReply answer .number)
+        × (now (floor .exit) ≡ valueOr (now (floor .entry)) (stepReply answer .values))
+        × (now (counts .exit) ≡ countsOr (now (counts .entry)) (stepReply answer .values)) ⌝ }
 {
     match answer {
         StepAnswer::Finished {
@@ -67,7 +69,8 @@ pub extern "C" fn probe_floors_setup(
     marks: &mut [u64],
     minima: &mut [f64],
 ) -> u32
-    ensures { λ r. ⌜ leftAt r (now (state .exit)) (now (marks .exit)) (now (minima .exit)) ≡ leftBy (setupOf look (now (marks .entry)) (now (minima .entry))) ⌝ }
+    ensures { λ r. ⌜ leftAt r (now (state .exit)) (now (marks .exit)) (now (minima .exit))
+        ≡ leftBy (setupOf look (now (marks .entry)) (now (minima .entry))) ⌝ }
 {
     let done = FloorKeeper::setup(look, marks, minima);
     write(state, done.keeper);
@@ -85,7 +88,9 @@ pub extern "C" fn probe_floors_step(
     floor: &mut f64,
     counts: &mut [u64; 2],
 ) -> u32
-    ensures { λ r. ⌜ toldAt (leftAt r (now (state .exit)) (now (marks .exit)) (now (minima .exit))) (now (floor .exit)) (now (counts .exit)) ≡ toldBy (now (floor .entry)) (now (counts .entry)) (stepOf (keepingAt (keeperOf (now (state .entry))) (now (marks .entry)) (now (minima .entry))) gain) ⌝ }
+    ensures { λ r. ⌜ toldAt (leftAt r (now (state .exit)) (now (marks .exit)) (now (minima .exit))) (now (floor .exit)) (now (counts .exit))
+        ≡ toldBy (now (floor .entry)) (now (counts .entry))
+        (stepOf (keepingAt (keeperOf (now (state .entry))) (now (marks .entry)) (now (minima .entry))) gain) ⌝ }
 {
     let done = read(state).step(marks, minima, gain);
     write(state, done.keeper);

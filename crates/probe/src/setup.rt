@@ -7,7 +7,6 @@ ghost use Rattle.settings.specs.Target.{targetOf};
 ghost use Rattle.settings.specs.Accepted.{rateTaken, releaseTaken, refusalOf};
 ghost use Rattle.settings.specs.declared.memory.Cap.{Cap};
 ghost use Rattle.probe.specs.Setup.{weightsTaken, coeffOr};
-use arithmetic::number::is_finite;
 use settings::LimiterSettings;
 use settings::ProcessSpec;
 use settings::accepted::SettingsJudged;
@@ -31,8 +30,7 @@ pub extern "C" fn probe_target(threshold: f64, margin: f64) -> f64
 fn has_coeff(ms: f64, rate: u32) -> bool
     ensures { λ r. ⌜ r ≡ (releaseTaken ms && rateTaken rate) ⌝ }
 {
-    let release = is_finite(ms) & !(ms < 0.0) & !(10000.0 < ms) & !((0.0 < ms) & (ms < 0.01));
-    release & ((8000 <= rate) & (rate <= 192000))
+    settings::accepted::release_taken(ms) & settings::accepted::rate_taken(rate)
 }
 
 // The release coefficient; −1.0, which none is, for a release or a rate that setup refuses.

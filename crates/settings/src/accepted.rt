@@ -39,7 +39,7 @@ pub fn refusal_number(why: SettingsRefusal) -> u32
     }
 }
 
-fn rate_taken(rate: u32) -> bool
+pub fn rate_taken(rate: u32) -> bool
     ensures { λ r. ⌜ r ≡ rateTaken rate ⌝ }
 {
     (8000 <= rate) & (rate <= 192000)
@@ -57,7 +57,7 @@ fn lookahead_taken(ms: f64) -> bool
     is_finite(ms) & (0.0 < ms)
 }
 
-fn release_taken(ms: f64) -> bool
+pub fn release_taken(ms: f64) -> bool
     ensures { λ r. ⌜ r ≡ releaseTaken ms ⌝ }
 {
     is_finite(ms) & !(ms < 0.0) & !(10000.0 < ms) & !((0.0 < ms) & (ms < 0.01))
