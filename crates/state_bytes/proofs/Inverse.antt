@@ -1,0 +1,201 @@
+-- A state's words and the limiter with its bank: each is had back from the other.
+use mathlib.Core.Path.{_≡_, refl, sym, ap, _∙_}
+use mathlib.Core.Bool.{Bool, true, false, cond, not}
+use mathlib.Core.List.{List, [], _∷_, _++_}
+use Prim.Native.Nat.{ℕ, zero, suc, _+_, _*_, _^_, _≤_, _<_}
+use native.Mathlib.Nat.{mod-eq-of-lt}
+use native.Mathlib.Omega.{arith}
+use lib.Dec.{T, eqb, leb, ltb}
+use lib.ListN.{length, getD, drop, replicate, drop-of-length-le, length-map}
+use lib.Seq.{drop-cons}
+use lib.Ieee.{Float, nan, binary64, toBits, fits, isNan}
+use lib.Ieee.Bits.{ofBits-toBits, toBits-ofBits}
+use borrow.Author.Tests.{eqb-true, ltb-true, lt-ltb, leb-true}
+use Rattle.arithmetic.specs.Number.{bits}
+use Rattle.arithmetic.proofs.Order.{and-true}
+use Rattle.limiter.specs.declared.state.Limiter.{Limiter}
+use Rattle.bank.specs.Bank.{slotAt}
+use Rattle.bank.specs.declared.param.Smoothing.{Smoothing}
+use Rattle.bank.specs.declared.param.Smoothing.the-variants.{Step, Linear, OnePole}
+use Rattle.bank.specs.declared.smoother.Smoother.{Smoother}
+use Rattle.driver.specs.declared.state.KernelProcessor.{KernelProcessor}
+use Rattle.audio.specs.Bytes.{wordOf, cut, wordsIn, bytesOut}
+use Rattle.audio.proofs.Numbers.{cut-length, out-length, words-of-bytes, bytes-of-words}
+use Rattle.state_bytes.specs.Words.{smootherIn}
+use Rattle.state_bytes.specs.State.{layout, stateBytes, stateWords, zerosAt, holdsState, isState, limiterIn, slotsOf, bankIn, stateIn, wordsOut, processorIn, stateOut}
+use Rattle.state_bytes.proofs.Shapes.{shape-back, shape-small, shape-word}
+use Rattle.state_bytes.proofs.Stored.{read-held}
+
+-- ---- from the limiter with its bank, and back
+abbrev floatsOf : Limiter → Smoother → List Float
+floatsOf l s =
+    l .settings .«threshold_db» ∷ l .settings .«true_peak_margin_db» ∷ l .settings .«lookahead_ms» ∷ l .settings .«release_ms» ∷ l .«release_coeff» ∷ l .env .gain ∷ l .target
+    ∷ s .cur ∷ s .target ∷ s .low ∷ s .high ∷ s .default ∷ s .steps ∷ s .«step_delta» ∷ s .coeff ∷ s .«smoothing_ms» ∷ []
+
+-- what a program's values are: each float one of binary64, each number within its type; and the slots past the threshold's hold no parameter
+pub record Storable (p : KernelProcessor) : Type 0 where
+  pub floats : (i : ℕ) → T (fits binary64 (getD (floatsOf (p .limiter) (slotAt 0 (p .bank .smoothers))) i nan))
+  pub words : (i : ℕ) → getD (wordsOut p) i 0 < 2 ^ 64
+  pub rate : p .limiter .rate < 2 ^ 32
+  pub id : slotAt 0 (p .bank .smoothers) .id < 2 ^ 32
+  pub bankRate : p .bank .rate < 2 ^ 32
+  pub slots : p .bank .smoothers ≡ slotsOf (slotAt 0 (p .bank .smoothers))
+
+back : (x : Float) → T (fits binary64 x) → bits (toBits binary64 x) ≡ x
+back x f = ofBits-toBits binary64 x f
+
+ready-back : (b : Bool) → not (eqb (cond b 1 0) 0) ≡ b
+ready-back true = refl
+ready-back false = refl
+
+module _ (p : KernelProcessor) (h : Storable p) where
+  limiter-back : limiterIn (wordsOut p) ≡ p .limiter
+  unfolding wordsOut
+  limiter-back =
+      let l = p .limiter in
+      rw (
+        back (l .settings .«threshold_db») (h .floats 0),
+        back (l .settings .«true_peak_margin_db») (h .floats 1),
+        back (l .settings .«lookahead_ms») (h .floats 2),
+        back (l .settings .«release_ms») (h .floats 3),
+        back (l .«release_coeff») (h .floats 4),
+        back (l .env .gain) (h .floats 5),
+        back (l .target) (h .floats 6),
+        mod-eq-of-lt (h .rate),
+      ) refl
+
+  smoother-back : smootherIn (wordsOut p) 19 ≡ slotAt 0 (p .bank .smoothers)
+  unfolding wordsOut
+  smoother-back =
+      let s = slotAt 0 (p .bank .smoothers) in
+      rw (
+        back (s .cur) (h .floats 7),
+        back (s .target) (h .floats 8),
+        back (s .low) (h .floats 9),
+        back (s .high) (h .floats 10),
+        back (s .default) (h .floats 11),
+        back (s .steps) (h .floats 12),
+        back (s .«step_delta») (h .floats 13),
+        back (s .coeff) (h .floats 14),
+        back (s .«smoothing_ms») (h .floats 15),
+        mod-eq-of-lt (h .id),
+        shape-back (s .shape),
+      ) refl
+
+  bank-back : bankIn (wordsOut p) ≡ p .bank
+  unfolding wordsOut
+  bank-back = rw (smoother-back, ← h .slots, mod-eq-of-lt (h .bankRate), ready-back (p .bank .ready)) refl
+
+  pub state-of-words : stateIn (wordsOut p) ≡ p
+  unfolding stateIn
+  state-of-words = rw (limiter-back, bank-back) refl
+
+-- ---- the same by bytes
+ready-small : (b : Bool) → leb (cond b 1 0) 1 ≡ true
+ready-small true = refl
+ready-small false = refl
+
+module _ (p : KernelProcessor) (h : Storable p) where
+  state-length : length (stateOut p) ≡ stateBytes
+  unfolding stateOut wordsOut
+  state-length = out-length 8 (wordsOut p)
+
+  out-words : wordsIn 8 stateWords (stateOut p) ≡ wordsOut p
+  unfolding stateOut wordsOut
+  out-words = words-of-bytes 8 (wordsOut p) (h .words)
+
+  out-holds : holdsState (wordsOut p) ≡ true
+  unfolding holdsState wordsOut zerosAt
+  out-holds =
+      rw (
+        lt-ltb (p .limiter .rate) (2 ^ 32) (h .rate),
+        lt-ltb (slotAt 0 (p .bank .smoothers) .id) (2 ^ 32) (h .id),
+        lt-ltb (p .bank .rate) (2 ^ 32) (h .bankRate),
+        shape-small (slotAt 0 (p .bank .smoothers) .shape),
+        ready-small (p .bank .ready),
+      ) refl
+
+  -- what was written is read
+  pub read-written : processorIn (stateOut p) ≡ p
+  read-written = read-held (stateOut p) state-length (ap holdsState out-words ∙ out-holds) ∙ ap stateIn out-words ∙ state-of-words p h
+
+-- ---- from words, and back
+-- the pattern that stands for its own f64: any but a NaN's, and of those the one that is written
+abbrev pub Own : ℕ → Type 0
+Own w = toBits binary64 (bits w) ≡ w
+
+pub own : (w : ℕ) → w < 2 ^ 64 → T (not (isNan (bits w))) → Own w
+own w h n = toBits-ofBits binary64 w h n
+
+-- n words from a place on
+abbrev placesFrom : List ℕ → ℕ → ℕ → List ℕ
+placesFrom ws k zero = []
+placesFrom ws k (suc n) = getD ws k 0 ∷ placesFrom ws (k + 1) n
+
+spread : (ws : List ℕ) (k n : ℕ) → k + n ≤ length ws → drop k ws ≡ placesFrom ws k n ++ drop (k + n) ws
+spread ws k zero h = let e : k + 0 ≡ k = omega arith in rw e refl
+spread ws k (suc n) h =
+    let e : k + 1 + n ≡ k + suc n = omega arith in
+    let f : suc k ≡ k + 1 = omega arith in
+    drop-cons ws k 0 (omega arith) ∙ ap (λ (t : List ℕ). getD ws k 0 ∷ t) (ap (λ (j : ℕ). drop j ws) f ∙ spread ws (k + 1) n (omega arith) ∙ ap (λ (j : ℕ). placesFrom ws (k + 1) n ++ drop j ws) e)
+
+zeros-are : (ws : List ℕ) (k n : ℕ) → zerosAt ws k n ≡ true → placesFrom ws k n ≡ replicate n 0
+unfolding zerosAt
+zeros-are ws k zero h = refl
+zeros-are ws k (suc n) h =
+    let z = and-true (eqb (getD ws k 0) 0) (zerosAt ws (k + 1) n) h in
+    rw (eqb-true (getD ws k 0) 0 (z .0), zeros-are ws (k + 1) n (z .1)) refl
+
+-- one word, and those after it
+infixr 67 _∷≡_
+_∷≡_ : {a b : ℕ} {xs ys : List ℕ} → a ≡ b → xs ≡ ys → a ∷ xs ≡ b ∷ ys
+_∷≡_ {a} {b} {xs} {ys} e f = ap (λ (c : ℕ). c ∷ xs) e ∙ ap (λ (t : List ℕ). b ∷ t) f
+
+ready-word : (w : ℕ) → w ≤ 1 → cond (not (eqb w 0)) 1 0 ≡ w
+ready-word zero h = refl
+ready-word (suc zero) h = refl
+ready-word (suc (suc w)) h = absurd (omega arith)
+
+-- the places of floats
+abbrev pub floatPlaces : List ℕ
+floatPlaces = 1 ∷ 2 ∷ 3 ∷ 4 ∷ 8 ∷ 15 ∷ 17 ∷ 20 ∷ 21 ∷ 22 ∷ 23 ∷ 24 ∷ 25 ∷ 27 ∷ 29 ∷ 30 ∷ []
+
+module _ (ws : List ℕ) (n : length ws ≡ stateWords) (h : holdsState ws ≡ true) (o : (i : ℕ) → Own (getD ws (getD floatPlaces i 1) 0)) where
+  tests : (eqb (getD ws 0 0) layout ≡ true) × (ltb (getD ws 5 0) (2 ^ 32) ≡ true) × (ltb (getD ws 19 0) (2 ^ 32) ≡ true) × (ltb (getD ws 32 0) (2 ^ 32) ≡ true) × (leb (getD ws 28 0) 2 ≡ true)
+      × (leb (getD ws 33 0) 1 ≡ true) × (zerosAt ws 34 30 ≡ true)
+  unfolding holdsState
+  tests =
+      let h0 = and-true (eqb (getD ws 0 0) layout) _ h in
+      let h1 = and-true (ltb (getD ws 5 0) (2 ^ 32)) _ (h0 .1) in
+      let h2 = and-true (ltb (getD ws 19 0) (2 ^ 32)) _ (h1 .1) in
+      let h3 = and-true (ltb (getD ws 32 0) (2 ^ 32)) _ (h2 .1) in
+      let h4 = and-true (leb (getD ws 28 0) 2) _ (h3 .1) in
+      let h5 = and-true (leb (getD ws 33 0) 1) _ (h4 .1) in
+      (h0 .0, h1 .0, h2 .0, h3 .0, h4 .0, h5 .0, h5 .1)
+
+  rest : replicate 30 0 ≡ drop 34 ws
+  rest =
+      sym (spread ws 34 30 (omega (arith, n))
+      ∙ ap (λ (t : List ℕ). t ++ drop 64 ws) (zeros-are ws 34 30 (tests .6))
+      ∙ ap (λ (t : List ℕ). replicate 30 0 ++ t) (drop-of-length-le ws {i = 64} (omega (arith, n))))
+
+  pub words-of-state : wordsOut (stateIn ws) ≡ ws
+  unfolding wordsOut stateIn
+  words-of-state =
+      ((sym (eqb-true (getD ws 0 0) layout (tests .0))) ∷≡ o 0 ∷≡ o 1 ∷≡ o 2 ∷≡ o 3
+      ∷≡ (mod-eq-of-lt (ltb-true (getD ws 5 0) (2 ^ 32) (tests .1))) ∷≡ refl ∷≡ refl ∷≡ o 4 ∷≡ refl ∷≡ refl ∷≡ refl ∷≡ refl ∷≡ refl ∷≡ refl ∷≡ o 5 ∷≡ refl ∷≡ o 6 ∷≡ refl
+      ∷≡ (mod-eq-of-lt (ltb-true (getD ws 19 0) (2 ^ 32) (tests .2))) ∷≡ o 7 ∷≡ o 8 ∷≡ o 9 ∷≡ o 10 ∷≡ o 11 ∷≡ o 12 ∷≡ refl ∷≡ o 13
+      ∷≡ (shape-word (getD ws 28 0) (leb-true (getD ws 28 0) 2 (tests .4))) ∷≡ o 14 ∷≡ o 15 ∷≡ refl
+      ∷≡ (mod-eq-of-lt (ltb-true (getD ws 32 0) (2 ^ 32) (tests .3)))
+      ∷≡ (ready-word (getD ws 33 0) (leb-true (getD ws 33 0) 1 (tests .5))) ∷≡ rest)
+      ∙ sym (spread ws 0 34 (omega (arith, n)))
+
+-- the same by bytes
+pub written-read : (bytes : List ℕ) → isState bytes ≡ true → ((i : ℕ) → getD bytes i 0 < 256) → ((i : ℕ) → Own (getD (wordsIn 8 stateWords bytes) (getD floatPlaces i 1) 0)) → stateOut (processorIn bytes) ≡ bytes
+unfolding isState stateOut
+written-read bytes s b o =
+    let ws = wordsIn 8 stateWords bytes in
+    let t = and-true (eqb (length bytes) stateBytes) (holdsState ws) s in
+    let l = eqb-true (length bytes) stateBytes (t .0) in
+    let n = length-map (cut 8 stateWords bytes) wordOf ∙ cut-length 8 stateWords bytes in
+    ap (λ (p : KernelProcessor). bytesOut 8 (wordsOut p)) (read-held bytes l (t .1)) ∙ ap (bytesOut 8) (words-of-state ws n (t .1) o) ∙ bytes-of-words 8 stateWords bytes l b

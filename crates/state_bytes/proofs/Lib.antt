@@ -1,0 +1,4 @@
+-- Laws of the state as bytes.
+pub mod Shapes
+pub mod Stored
+pub mod Inverse

@@ -1,0 +1,74 @@
+// A state into its buffer: its words part by part, each from its place on.
+ghost use mathlib.Core.Path.{_≡_};
+ghost use Prim.Native.Nat.{_+_, _*_, _≤_};
+ghost use lib.ListN.{length};
+ghost use Rattle.audio.specs.Bytes.{bytesOut};
+ghost use Rattle.audio.specs.Inner.{put};
+ghost use Rattle.bank.specs.Bank.{slotAt};
+ghost use Rattle.state_bytes.specs.State.{stateBytes, limiterOut, stateOut};
+use crate::words::flag;
+use crate::words::smoother_out;
+use arithmetic::pattern::to_bits;
+use audio::words::write_words;
+use bank::smoother::Smoother;
+use driver::state::KernelProcessor;
+use limiter::state::Limiter;
+
+fn limiter_out(l: Limiter) -> [u64; 18]
+    ensures { λ r. ⌜ r ≡ limiterOut l ⌝ }
+{
+    [
+        to_bits(l.settings.threshold_db),
+        to_bits(l.settings.true_peak_margin_db),
+        to_bits(l.settings.lookahead_ms),
+        to_bits(l.settings.release_ms),
+        l.rate as u64,
+        l.channels as u64,
+        l.max_block as u64,
+        to_bits(l.release_coeff),
+        l.env.keeper.look as u64,
+        l.env.keeper.head as u64,
+        l.env.keeper.len as u64,
+        l.env.keeper.frame,
+        l.env.attack.pos as u64,
+        l.env.attack.tally as u64,
+        to_bits(l.env.gain),
+        l.delay_pos as u64,
+        to_bits(l.target),
+        l.drained as u64,
+    ]
+}
+
+fn first(smoothers: [Smoother; 8]) -> Smoother
+    ensures { λ r. ⌜ r ≡ slotAt 0 smoothers ⌝ }
+{
+    smoothers[0]
+}
+
+// These words, from word k on.
+fn put_words(state: &mut [u8], k: usize, words: &[u64])
+    requires { ⌜ 8 * (k + length (now words)) ≤ length (now state) ⌝ }
+    ensures { λ _. ⌜ now (state .exit) ≡ put (now (state .entry)) (8 * k) (bytesOut 8 (now (words .entry))) ⌝ }
+{
+    let at = 8 * k;
+    let end = at + 8 * words.len();
+    write_words(&mut state[at..end], words);
+}
+
+pub fn write_state(state: &mut [u8], p: KernelProcessor)
+    requires { ⌜ length (now state) ≡ stateBytes ⌝ }
+    ensures { λ _. ⌜ now (state .exit) ≡ stateOut p ⌝ }
+{
+    let limiter = p.limiter;
+    let bank = p.bank;
+    let slots = bank.smoothers;
+    put_words(state, 0, &[0x1_7a75_7944]);
+    put_words(state, 1, &limiter_out(limiter));
+    put_words(state, 19, &smoother_out(first(slots)));
+    put_words(
+        state,
+        31,
+        &[bank.count as u64, bank.rate as u64, flag(bank.ready)],
+    );
+    put_words(state, 34, &[0u64; 30]);
+}
