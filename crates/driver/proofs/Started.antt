@@ -1,13 +1,11 @@
 -- Setup: what the callees' promises add up to, by the first refusal that arises.
 use mathlib.Core.Path.{_≡_, refl, sym, ap}
 use mathlib.Core.Bool.{Bool, true, false, cond}
-use mathlib.Core.List.{[]}
 use Prim.Native.Nat.{ℕ}
 use lib.Dec.{eqb}
 use lib.ListN.{replicate}
 use borrow.Author.Tests.{ne-eqb}
-use Rattle.arithmetic.specs.Reply.{Reply, finished, andThen}
-use Rattle.arithmetic.proofs.Order.{clash}
+use Rattle.arithmetic.specs.Reply.{Reply, andThen}
 use Rattle.settings.specs.Memory.{capJudged, capReply}
 use Rattle.settings.specs.declared.LimiterSettings.{LimiterSettings}
 use Rattle.settings.specs.declared.memory.CapJudged.{CapJudged}
