@@ -1,117 +1,83 @@
--- A call of the driver through bytes: the three ways that it ends.
+-- A call of the driver through bytes, whatever the call is.
 use mathlib.Core.Path.{_≡_, refl, sym, ap, _∙_}
-use mathlib.Core.Logic.{_≢_}
-use mathlib.Core.Bool.{Bool, true, false, cond, _&&_}
-use mathlib.Core.List.{List, []}
+use mathlib.Core.Bool.{Bool, true, false, cond}
+use mathlib.Core.List.{List, [], _∷_}
 use Prim.Native.Nat.{ℕ, _-_, _≤_}
 use native.Mathlib.Omega.{arith}
 use lib.Dec.{eqb}
 use lib.ListN.{length, take}
 use lib.Seq.{take-all}
 use lib.Ieee.{Float}
-use borrow.Author.Tests.{eqb-true, eq-eqb, ne-eqb}
-use Rattle.arithmetic.specs.Reply.{Reply}
-use Rattle.arithmetic.proofs.Order.{and-true, clash}
+use Rattle.arithmetic.specs.Number.{bits}
+use Rattle.arithmetic.specs.Reply.{Reply, refused, count}
 use Rattle.settings.specs.declared.LimiterSettings.{LimiterSettings}
-use Rattle.settings.specs.declared.memory.Cap.{Cap}
-use Rattle.limiter.specs.Prepare.{numbered}
+use Rattle.settings.specs.declared.ProcessSpec.{ProcessSpec}
 use Rattle.limiter.specs.Stores.{Stores}
-use Rattle.limiter.specs.Order
-use Rattle.limiter.specs.declared.state.Limiter.{Limiter}
-use Rattle.bank.specs.Bank
-use Rattle.bank.specs.Bank.{unset}
 use Rattle.driver.specs.Machine.{Machine, machineAt, prepared}
-use Rattle.driver.specs.Calls.{Left, left, readOf, setupOf}
+use Rattle.driver.specs.Block.{Outcome}
+use Rattle.driver.specs.Calls.{Left, left, parameterOf, readOf, setupOf}
+use Rattle.driver.specs.Answers.{Seen, seen}
 use Rattle.driver.specs.declared.state.KernelProcessor.{KernelProcessor}
-use Rattle.host.specs.Answer.{answerWords, toldIn, toldOf, shown, showing}
-use Rattle.host.specs.State.{stateBytes, stateWords, isState, holdsState, processorIn, stateOut, never}
-use Rattle.host.specs.Bytes.{wordsIn}
-use Rattle.host.specs.Host.{Held, heldAt, ranAs, ready, calledBy, Shown, shownAt, readable, valueBy, processorOf, buffersFit, withWeights, setupBy}
-use Rattle.host.specs.declared.answer.Told.{Told}
-use Rattle.host.proofs.Kept.{showing-other}
-
--- ---- a limiter that is set up was read from a state
-and-false : (b : Bool) → (b && false) ≡ false
-and-false true = refl
-and-false false = refl
-
-never-refused : (l : Limiter) → prepared l unset ≡ false
-unfolding prepared Bank.prepared
-never-refused l = and-false (Order.prepared l)
-
--- 18 for a buffer that is no state
-pub no-state : (state : List ℕ) → isState state ≡ false → ready state ≡ false
-unfolding processorIn
-no-state state h = rw h (never-refused (never .limiter))
+use Rattle.state_bytes.specs.State.{stateBytes, processorIn, stateOut}
+use Rattle.state_bytes.proofs.Finished.{parameter-set-up, set-up-long}
+use Rattle.host.specs.Answer.{replyWords, wordsOf, answered, answeredBy}
+use Rattle.host.specs.Host.{Returned, returnedAt, processorOf, returned, calledBy, returnedWith, renderedBy, parameterBy, readAt, valueBy, withWeights, setupBy}
+use Rattle.host.specs.declared.answer.ReplyWords.{ReplyWords}
 
 module _ (answer state : List ℕ) (q : KernelProcessor) (e : q ≡ processorIn state) where
-  pub read-ready : (b : Bool) → prepared (q .limiter) (q .bank) ≡ b → ready state ≡ b
-  read-ready b h = sym (ap (λ (p : KernelProcessor). prepared (p .limiter) (p .bank)) e) ∙ h
+  -- a finished reply means set up, and that a state of 512 bytes
+  pub finished-long : (reply final : Reply) (t : ReplyWords) → (final .number ≡ 0 → prepared (q .limiter) (q .bank) ≡ true) → reply ≡ final → t ≡ replyWords reply → t .number ≡ 0
+      → length state ≡ stateBytes
+  finished-long reply final t was o u z =
+      set-up-long state
+      (sym (ap (λ (p : KernelProcessor). prepared (p .limiter) (p .bank)) e) ∙ was (sym (ap (λ (r : Reply). r .number) o) ∙ sym (ap (λ (x : ReplyWords). x .number) u) ∙ z))
 
-  pub ready-long : prepared (q .limiter) (q .bank) ≡ true → length state ≡ stateBytes
-  unfolding isState
-  ready-long h = go (isState state) refl
+  -- what is left of a call whose words are written, and its state where it is finished
+  module _ (reply : Reply) (p : KernelProcessor) (later : Stores) (t : ReplyWords) (r : ℕ) (after next : List ℕ) (u : t ≡ replyWords reply) (v : r ≡ t .number) (w : after ≡ answered answer (wordsOf t)) (x : next ≡ cond (eqb (t .number) 0) (stateOut p) state) where
+    left-is : returnedAt r after next later ≡ returned answer state reply (machineAt p later)
+    left-is = rw (v, w, x, u) refl
+
+    pub called : (call : Machine → Left) (stores : Stores) → left reply (machineAt p later) ≡ call (machineAt q stores) → returnedAt r after next later ≡ calledBy call answer state stores
+    unfolding calledBy
+    called call stores o = left-is ∙ ap (λ (l : Left). returned answer state (l .reply) (l .machine)) (o ∙ ap (λ (k : KernelProcessor). call (machineAt k stores)) e)
+
+    -- with audio
+    pub rendered : (call : Machine → List ℕ → Outcome) (stores : Stores) (bytes bytes' : List ℕ)
+        → record { reply = reply; machine = machineAt p later; bytes = bytes' } ≡ seen (call (machineAt q stores) bytes)
+        → returnedWith (returnedAt r after next later) bytes' ≡ renderedBy call answer state stores bytes
+    unfolding renderedBy
+    rendered call stores bytes bytes' o =
+        ap (λ (l : Returned). returnedWith l bytes') left-is
+        ∙ ap (λ (s : Seen). returnedWith (returned answer state (s .reply) (s .machine)) (s .bytes)) (o ∙ ap (λ (k : KernelProcessor). seen (call (machineAt k stores) bytes)) e)
+
+  -- reading a value
+  pub value-read : (id : ℕ) (reply : Reply) (t : ReplyWords) (after : List ℕ) → reply ≡ readOf (q .bank) id → t ≡ replyWords reply → after ≡ answered answer (wordsOf t)
+      → readAt (t .number) after ≡ valueBy id answer state
+  unfolding valueBy
+  value-read id reply t after o u v = whole ∙ ap (λ (x : Reply). readAt (x .number) (answeredBy answer x)) (o ∙ ap (λ (p : KernelProcessor). readOf (p .bank) id) e)
     where
-      go : (b : Bool) → isState state ≡ b → length state ≡ stateBytes
-      go true k = eqb-true (length state) stateBytes (and-true (eqb (length state) stateBytes) (holdsState (wordsIn stateWords state)) k .0)
-      go false k = clash (ready state) (read-ready true h) (no-state state k)
-
-  module _ (call : Machine → Left) (stores : Stores) where
-    pub called-18 : (t : Told) (after : List ℕ) → prepared (q .limiter) (q .bank) ≡ false → t ≡ toldOf (numbered 18) → after ≡ showing answer (shown t)
-        → heldAt 18 after state stores ≡ calledBy call answer state stores
-    unfolding calledBy
-    called-18 t after h u v = rw (read-ready false h, v, u) refl
-
-    pub called-16 : prepared (q .limiter) (q .bank) ≡ true → length answer ≢ answerWords → heldAt 16 answer state stores ≡ calledBy call answer state stores
-    unfolding calledBy
-    called-16 h n = rw (read-ready true h, ne-eqb (length answer) answerWords n, showing-other answer (toldIn []) n) refl
-
-    pub called-ran : (reply : Reply) (p : KernelProcessor) (later : Stores) (t : Told) (r : ℕ) (after next : List ℕ) → prepared (q .limiter) (q .bank) ≡ true → length answer ≡ answerWords
-        → left reply (machineAt p later) ≡ call (machineAt q stores) → t ≡ toldOf reply → r ≡ t .number → after ≡ showing answer (shown t) → next ≡ cond (eqb (t .number) 0) (stateOut p) state
-        → heldAt r after next later ≡ calledBy call answer state stores
-    unfolding calledBy
-    called-ran reply p later t r after next h n o u v w x = whole ∙ ap (ranAs answer state) (o ∙ ap (λ (p : KernelProcessor). call (machineAt p stores)) e) ∙ sym ran
-      where
-        whole : heldAt r after next later ≡ ranAs answer state (left reply (machineAt p later))
-        whole = rw (v, w, x, u) refl
-
-        ran : calledBy call answer state stores ≡ ranAs answer state (call (machineAt (processorIn state) stores))
-        ran = rw (read-ready true h, eq-eqb (length answer) answerWords n) refl
-
-  -- ---- reading a value
-  read-readable : (b : Bool) → Bank.prepared (q .bank) ≡ b → readable state ≡ b
-  read-readable b h = sym (ap (λ (p : KernelProcessor). Bank.prepared (p .bank)) e) ∙ h
-
-  module _ (id : ℕ) where
-    pub value-18 : (t : Told) (after : List ℕ) → Bank.prepared (q .bank) ≡ false → t ≡ toldOf (numbered 18) → after ≡ showing answer (shown t) → shownAt 18 after ≡ valueBy id answer state
-    unfolding valueBy
-    value-18 t after h u v = rw (read-readable false h, v, u) refl
-
-    pub value-16 : Bank.prepared (q .bank) ≡ true → length answer ≢ answerWords → shownAt 16 answer ≡ valueBy id answer state
-    unfolding valueBy
-    value-16 h n = rw (read-readable true h, ne-eqb (length answer) answerWords n) refl
-
-    pub value-read : (reply : Reply) (t : Told) (after : List ℕ) → Bank.prepared (q .bank) ≡ true → length answer ≡ answerWords → reply ≡ readOf (q .bank) id → t ≡ toldOf reply
-        → after ≡ showing answer (shown t) → shownAt (t .number) after ≡ valueBy id answer state
-    unfolding valueBy
-    value-read reply t after h n o u v = whole ∙ ap tellOf (o ∙ ap (λ (p : KernelProcessor). readOf (p .bank) id) e) ∙ sym read
-      where
-        tellOf : Reply → Shown
-        tellOf x = shownAt (x .number) (showing answer (toldIn (x .values)))
-
-        whole : shownAt (t .number) after ≡ tellOf reply
-        whole = rw (v, u) refl
-
-        read : valueBy id answer state ≡ tellOf (readOf (processorIn state .bank) id)
-        read = rw (read-readable true h, eq-eqb (length answer) answerWords n) refl
+      whole : readAt (t .number) after ≡ readAt (reply .number) (answeredBy answer reply)
+      whole = rw (v, u) refl
 
 -- ---- 23 gives back the value's own bits
-pub told-word : (reply other : Reply) (t told : Told) → t ≡ toldOf reply → told ≡ cond (eqb (t .number) 23) (toldOf other) t → told ≡ toldOf (cond (eqb (reply .number) 23) other reply)
-told-word reply other t told u v = v ∙ rw u (go (eqb (reply .number) 23))
+pub word-given : (reply other : Reply) (t given : ReplyWords) → t ≡ replyWords reply → given ≡ cond (eqb (t .number) 23) (replyWords other) t → given ≡ replyWords (cond (eqb (reply .number) 23) other reply)
+word-given reply other t given u v = v ∙ rw u (go (eqb (reply .number) 23))
   where
-    go : (b : Bool) → cond b (toldOf other) (toldOf reply) ≡ toldOf (cond b other reply)
+    go : (b : Bool) → cond b (replyWords other) (replyWords reply) ≡ replyWords (cond b other reply)
     go true = refl
     go false = refl
+
+pub parameter-word : (m : Machine) (id word : ℕ) (reply : Reply) (after : Machine) (x : Float) → x ≡ bits word → left reply after ≡ parameterOf m id x
+    → left (cond (eqb (reply .number) 23) (refused 23 (count id ∷ count word ∷ [])) reply) after ≡ parameterBy id word m
+parameter-word m id word reply after x e o =
+    ap (λ (l : Left). left (cond (eqb (l .reply .number) 23) (refused 23 (count id ∷ count word ∷ [])) (l .reply)) (l .machine)) (o ∙ ap (parameterOf m id) e)
+
+pub parameter-by : (m : Machine) (id word : ℕ) → parameterBy id word m .reply .number ≡ 0 → prepared (m .limiter) (m .bank) ≡ true
+parameter-by m id word z = parameter-set-up m id (bits word) (go (eqb (parameterOf m id (bits word) .reply .number) 23) z)
+  where
+    go : (b : Bool) → cond b (refused 23 (count id ∷ count word ∷ [])) (parameterOf m id (bits word) .reply) .number ≡ 0 → parameterOf m id (bits word) .reply .number ≡ 0
+    go true y = absurd (omega (arith, y))
+    go false y = y
 
 -- ---- setup
 pub lent-within : (b : Bool) (n w : ℕ) → n ≡ cond b w 0 → n ≤ w
@@ -122,15 +88,15 @@ pub lent-part : (b : Bool) (n : ℕ) (ws : List Float) → n ≡ cond b (length 
 lent-part true n ws e = take-all (n - 0) ws (omega (arith, e))
 lent-part false n ws e = rw e refl
 
-module _ (s : LimiterSettings) (rate channels block : ℕ) (cap : Cap) (answer state : List ℕ) (stores : Stores) where
-  pub set-up : (reply : Reply) (p : KernelProcessor) (later : Stores) (part : List Float) (t : Told) (after next : List ℕ) → part ≡ cond (buffersFit answer state) (stores .weights) []
-      → left reply (machineAt p later) ≡ setupOf s rate channels block cap (withWeights part stores) → t ≡ toldOf reply → after ≡ showing answer (shown t) → next ≡ cond (eqb (length state) stateBytes) (stateOut p) state
-      → heldAt (t .number) after next (withWeights (stores .weights) later) ≡ setupBy s rate channels block cap answer state stores
+module _ (s : LimiterSettings) (spec : ProcessSpec) (answer state : List ℕ) (stores : Stores) where
+  pub set-up : (reply : Reply) (p : KernelProcessor) (later : Stores) (part : List Float) (t : ReplyWords) (after next : List ℕ) → part ≡ cond (eqb (length state) stateBytes) (stores .weights) []
+      → left reply (machineAt p later) ≡ setupOf s spec (withWeights part stores) → t ≡ replyWords reply → after ≡ answered answer (wordsOf t) → next ≡ cond (eqb (length state) stateBytes) (stateOut p) state
+      → returnedAt (t .number) after next (withWeights (stores .weights) later) ≡ setupBy s spec answer state stores
   unfolding setupBy
-  set-up reply p later part t after next l o u v w = whole ∙ ap done (o ∙ ap (λ (x : List Float). setupOf s rate channels block cap (withWeights x stores)) l)
+  set-up reply p later part t after next l o u v w = whole ∙ ap done (o ∙ ap (λ (x : List Float). setupOf s spec (withWeights x stores)) l)
     where
-      done : Left → Held
-      done x = heldAt (x .reply .number) (showing answer (toldIn (x .reply .values))) (cond (eqb (length state) stateBytes) (stateOut (processorOf (x .machine))) state) (withWeights (stores .weights) (x .machine .stores))
+      done : Left → Returned
+      done x = returnedAt (x .reply .number) (answeredBy answer (x .reply)) (cond (eqb (length state) stateBytes) (stateOut (processorOf (x .machine))) state) (withWeights (stores .weights) (x .machine .stores))
 
-      whole : heldAt (t .number) after next (withWeights (stores .weights) later) ≡ done (left reply (machineAt p later))
+      whole : returnedAt (t .number) after next (withWeights (stores .weights) later) ≡ done (left reply (machineAt p later))
       whole = rw (v, w, u) refl

@@ -1,15 +1,10 @@
--- The answer buffer: eight words, a reply's values in their order (a count as itself, a float as its bits), and 0 after them. No reply of document 01 has more than six.
+-- The answer buffer: a reply's values in their order (a count as itself, a float as its bits), then 0, eight words in all. No reply of document 01 has more than six values.
 use Prim.Native.Nat.{ℕ}
-use mathlib.Core.Bool.{cond}
-use mathlib.Core.List.{List, [], _∷_, map}
-use lib.Dec.{eqb}
-use lib.ListN.{length, getD}
+use mathlib.Core.List.{List, [], _∷_, _++_, map}
+use lib.ListN.{length, getD, take, drop}
 use lib.Ieee.{binary64, toBits}
 use Rattle.arithmetic.specs.Reply.{Reply, Value, count, float}
-use Rattle.host.specs.declared.answer.Told.{Told}
-
-abbrev pub answerWords : ℕ
-answerWords = 8
+use Rattle.host.specs.declared.answer.ReplyWords.{ReplyWords}
 
 abbrev pub valueWord : Value → ℕ
 valueWord (count n) = n
@@ -20,8 +15,8 @@ abbrev pub valueAt : List Value → ℕ → ℕ
 valueAt vs k = getD (map valueWord vs) k 0
 
 -- a reply as a number and words
-abbrev pub toldOf : Reply → Told
-toldOf r = record {
+abbrev pub replyWords : Reply → ReplyWords
+replyWords r = record {
   number = r .number;
   w0 = valueAt (r .values) 0;
   w1 = valueAt (r .values) 1;
@@ -31,13 +26,13 @@ toldOf r = record {
   w5 = valueAt (r .values) 5;
 }
 
-abbrev pub shown : Told → List ℕ
-shown t = t .w0 ∷ t .w1 ∷ t .w2 ∷ t .w3 ∷ t .w4 ∷ t .w5 ∷ 0 ∷ 0 ∷ []
+abbrev pub wordsOf : ReplyWords → List ℕ
+wordsOf t = t .w0 ∷ t .w1 ∷ t .w2 ∷ t .w3 ∷ t .w4 ∷ t .w5 ∷ 0 ∷ 0 ∷ []
 
--- the values in eight words
-abbrev pub toldIn : List Value → List ℕ
-toldIn vs = valueAt vs 0 ∷ valueAt vs 1 ∷ valueAt vs 2 ∷ valueAt vs 3 ∷ valueAt vs 4 ∷ valueAt vs 5 ∷ 0 ∷ 0 ∷ []
+-- as many words as fit, in order; words past the eighth stay as they were
+unfoldable pub answered : List ℕ → List ℕ → List ℕ
+answered old words = take (length old) words ++ drop (length words) old
 
--- the buffer afterwards; one of another length is not written
-unfoldable pub showing : List ℕ → List ℕ → List ℕ
-showing old ws = cond (eqb (length old) answerWords) ws old
+-- the buffer after a reply
+abbrev pub answeredBy : List ℕ → Reply → List ℕ
+answeredBy old r = answered old (wordsOf (replyWords r))

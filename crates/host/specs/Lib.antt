@@ -1,7 +1,3 @@
--- What the C functions' contracts cite: bytes, the state as bytes, and each call through them.
-pub mod Bytes
-pub mod State
+-- What the C functions' contracts cite: the answer's words, and each call through bytes.
 pub mod Answer
 pub mod Host
-pub mod Audio
-pub mod Inner

@@ -1,21 +1,25 @@
-// What a call answers, as its number and the words of its values (specs/Answer.antt).
+// A call's reply as its number and the words of its values (specs/Answer.antt).
 ghost use mathlib.Core.Path.{_≡_};
 ghost use mathlib.Core.List.{[], _∷_};
-ghost use Rattle.arithmetic.specs.Reply.{refused, count};
-ghost use Rattle.limiter.specs.Prepare.{numbered, prepareReply};
+ghost use Rattle.arithmetic.specs.Reply.{refused, numbered, count};
+ghost use Rattle.limiter.specs.Prepare.{prepareReply};
 ghost use Rattle.bank.specs.Answers.{refusalReply, paramSetReply, bankValueReply};
-ghost use Rattle.driver.specs.Answers.{setupReply, resetReply, gainReplyOf};
-ghost use Rattle.host.specs.Answer.{toldOf, shown, showing};
+ghost use Rattle.driver.specs.Answers.{setupReply, refusedBy, answerReply, flushReply, gainReplyOf};
+ghost use Rattle.host.specs.Answer.{replyWords, wordsOf, answered};
 use arithmetic::pattern::to_bits;
 use bank::param::BankRefusal;
 use bank::smoother_bank::BankValue;
 use bank::smoother_bank::ParamSet;
+use bank::words::flag;
+use driver::answers::Answer;
+use driver::answers::FlushAnswer;
 use driver::answers::GainAnswer;
-use driver::answers::ResetAnswer;
+use driver::answers::Refusal;
 use driver::answers::SetupAnswer;
 use limiter::prepare::PrepareAnswer;
+use settings::accepted::refusal_number;
 
-pub struct Told {
+pub struct ReplyWords {
     pub number: u32,
     pub w0: u64,
     pub w1: u64,
@@ -26,17 +30,17 @@ pub struct Told {
 }
 
 // A number alone.
-pub fn bare(number: u32) -> Told
-    ensures { λ r. ⌜ r ≡ toldOf (numbered number) ⌝ }
+fn bare(number: u32) -> ReplyWords
+    ensures { λ r. ⌜ r ≡ replyWords (numbered number) ⌝ }
 {
     pair(number, 0, 0)
 }
 
 // A number with up to two counts.
-pub fn pair(number: u32, w0: u64, w1: u64) -> Told
-    ensures { λ r. ⌜ r ≡ toldOf (refused number (count w0 ∷ count w1 ∷ [])) ⌝ }
+pub fn pair(number: u32, w0: u64, w1: u64) -> ReplyWords
+    ensures { λ r. ⌜ r ≡ replyWords (refused number (count w0 ∷ count w1 ∷ [])) ⌝ }
 {
-    Told {
+    ReplyWords {
         number,
         w0,
         w1,
@@ -47,8 +51,8 @@ pub fn pair(number: u32, w0: u64, w1: u64) -> Told
     }
 }
 
-fn of_bank(why: BankRefusal) -> Told
-    ensures { λ r. ⌜ r ≡ toldOf (refusalReply why) ⌝ }
+fn of_bank(why: BankRefusal) -> ReplyWords
+    ensures { λ r. ⌜ r ≡ replyWords (refusalReply why) ⌝ }
 {
     match why {
         BankRefusal::TooMany => pair(1, 0, 0),
@@ -60,26 +64,20 @@ fn of_bank(why: BankRefusal) -> Told
     }
 }
 
-fn of_prepare(answer: PrepareAnswer) -> Told
-    ensures { λ r. ⌜ r ≡ toldOf (prepareReply answer) ⌝ }
+fn of_prepare(answer: PrepareAnswer) -> ReplyWords
+    ensures { λ r. ⌜ r ≡ replyWords (prepareReply answer) ⌝ }
 {
     match answer {
         PrepareAnswer::Finished => bare(0),
-        PrepareAnswer::Rate => bare(8),
-        PrepareAnswer::Margin => bare(9),
-        PrepareAnswer::Lookahead => bare(10),
-        PrepareAnswer::Release => bare(11),
-        PrepareAnswer::Look => bare(12),
-        PrepareAnswer::Channels => bare(13),
-        PrepareAnswer::Block => bare(14),
+        PrepareAnswer::Settings(why) => bare(refusal_number(why)),
         PrepareAnswer::OverCap { needed, cap } => pair(15, needed, cap),
         PrepareAnswer::StoreLength => bare(16),
         PrepareAnswer::Weights => bare(17),
     }
 }
 
-pub fn of_setup(answer: SetupAnswer) -> Told
-    ensures { λ r. ⌜ r ≡ toldOf (setupReply answer) ⌝ }
+pub fn of_setup(answer: SetupAnswer) -> ReplyWords
+    ensures { λ r. ⌜ r ≡ replyWords (setupReply answer) ⌝ }
 {
     match answer {
         SetupAnswer::Bank(why) => of_bank(why),
@@ -88,18 +86,41 @@ pub fn of_setup(answer: SetupAnswer) -> Told
     }
 }
 
-pub fn of_reset(answer: ResetAnswer) -> Told
-    ensures { λ r. ⌜ r ≡ toldOf (resetReply answer) ⌝ }
+// 21 with the event's index.
+fn of_refusal(why: Refusal) -> ReplyWords
+    ensures { λ r. ⌜ r ≡ replyWords (refusedBy why) ⌝ }
 {
-    match answer {
-        ResetAnswer::Finished => bare(0),
-        ResetAnswer::NotSetUp => bare(18),
-        ResetAnswer::StoreLength => bare(16),
+    match why {
+        Refusal::NotSetUp => bare(18),
+        Refusal::StoreLength => bare(16),
+        Refusal::OutOfOrder => bare(19),
+        Refusal::Geometry => bare(20),
+        Refusal::Event { index } => pair(21, index as u64, 0),
+        Refusal::TooFar => bare(22),
     }
 }
 
-pub fn of_param(answer: ParamSet) -> Told
-    ensures { λ r. ⌜ r ≡ toldOf (paramSetReply answer) ⌝ }
+pub fn of_answer(answer: Answer) -> ReplyWords
+    ensures { λ r. ⌜ r ≡ replyWords (answerReply answer) ⌝ }
+{
+    match answer {
+        Answer::Finished => bare(0),
+        Answer::Refused(why) => of_refusal(why),
+    }
+}
+
+// The frames written, and 1 where the tail is done.
+pub fn of_flush(answer: FlushAnswer) -> ReplyWords
+    ensures { λ r. ⌜ r ≡ replyWords (flushReply answer) ⌝ }
+{
+    match answer {
+        FlushAnswer::Finished { written, done } => pair(0, written as u64, flag(done)),
+        FlushAnswer::Refused(why) => of_refusal(why),
+    }
+}
+
+pub fn of_param(answer: ParamSet) -> ReplyWords
+    ensures { λ r. ⌜ r ≡ replyWords (paramSetReply answer) ⌝ }
 {
     match answer {
         ParamSet::Finished => bare(0),
@@ -109,8 +130,8 @@ pub fn of_param(answer: ParamSet) -> Told
     }
 }
 
-pub fn of_value(answer: BankValue) -> Told
-    ensures { λ r. ⌜ r ≡ toldOf (bankValueReply answer) ⌝ }
+pub fn of_value(answer: BankValue) -> ReplyWords
+    ensures { λ r. ⌜ r ≡ replyWords (bankValueReply answer) ⌝ }
 {
     match answer {
         BankValue::Value(x) => pair(0, to_bits(x), 0),
@@ -119,8 +140,8 @@ pub fn of_value(answer: BankValue) -> Told
     }
 }
 
-pub fn of_gain(answer: GainAnswer) -> Told
-    ensures { λ r. ⌜ r ≡ toldOf (gainReplyOf answer) ⌝ }
+pub fn of_gain(answer: GainAnswer) -> ReplyWords
+    ensures { λ r. ⌜ r ≡ replyWords (gainReplyOf answer) ⌝ }
 {
     match answer {
         GainAnswer::Finished {
@@ -130,7 +151,7 @@ pub fn of_gain(answer: GainAnswer) -> Told
             tally,
             mean,
             gain,
-        } => Told {
+        } => ReplyWords {
             number: 0,
             w0: to_bits(floor),
             w1: dropped as u64,
@@ -139,26 +160,26 @@ pub fn of_gain(answer: GainAnswer) -> Told
             w4: to_bits(mean),
             w5: to_bits(gain),
         },
-        GainAnswer::NotSetUp => bare(18),
-        GainAnswer::StoreLength => bare(16),
-        GainAnswer::OutOfOrder => bare(19),
-        GainAnswer::TooFar => bare(22),
+        GainAnswer::Refused(why) => of_refusal(why),
     }
 }
 
-// Into the buffer, where it has eight words.
-pub fn tell(answer: &mut [u64], t: Told)
-    ensures { λ _. ⌜ now (answer .exit) ≡ showing (now (answer .entry)) (shown t) ⌝ }
+// Words in order, as many as fit.
+fn store(buffer: &mut [u64], words: &[u64])
+    ensures { λ _. ⌜ now (buffer .exit) ≡ answered (now (buffer .entry)) (now (words .entry)) ⌝ }
 {
-    if answer.len() != 8 {
-        return;
+    let n = words.len();
+    for i in 0..n {
+        if i >= buffer.len() {
+            return;
+        }
+        buffer[i] = words[i];
     }
-    answer[0] = t.w0;
-    answer[1] = t.w1;
-    answer[2] = t.w2;
-    answer[3] = t.w3;
-    answer[4] = t.w4;
-    answer[5] = t.w5;
-    answer[6] = 0;
-    answer[7] = 0;
+}
+
+// A reply's eight words into the buffer, as many as fit.
+pub fn write_answer(buffer: &mut [u64], t: ReplyWords)
+    ensures { λ _. ⌜ now (buffer .exit) ≡ answered (now (buffer .entry)) (wordsOf t) ⌝ }
+{
+    store(buffer, &[t.w0, t.w1, t.w2, t.w3, t.w4, t.w5, 0, 0]);
 }

@@ -1,35 +1,41 @@
 // The C functions. Each answers document 01's number, 0 where the work is finished.
 ghost use mathlib.Core.Path.{_≡_};
 ghost use mathlib.Core.Bool.{cond};
+ghost use mathlib.Core.List.{List, [], _∷_};
+ghost use Prim.Native.Nat.{ℕ};
 ghost use lib.Dec.{eqb};
 ghost use lib.Ieee.{Float};
-ghost use mathlib.Core.List.{List, [], _∷_};
 ghost use lib.ListN.{length};
 ghost use Rattle.arithmetic.specs.Number.{bits};
-ghost use Rattle.settings.specs.Settings.{settingsOf};
-ghost use Rattle.settings.specs.Derived.{lookOf};
-ghost use Rattle.limiter.specs.Stores.{Stores, storesAt};
 ghost use Rattle.arithmetic.specs.Reply.{refused, count};
+ghost use Rattle.settings.specs.Settings.{settingsOf, processSpec};
+ghost use Rattle.settings.specs.Derived.{lookOf};
+ghost use Rattle.limiter.specs.Stores.{Stores, atEntry, atExit};
 ghost use Rattle.driver.specs.Machine.{Machine};
-ghost use Rattle.driver.specs.Calls.{resetOf, gainStep};
-ghost use Rattle.host.specs.Answer.{toldOf, shown, showing};
-ghost use Rattle.host.specs.State.{stateBytes, stateOut};
-ghost use Rattle.host.specs.Host.{heldAt, calledBy, parameterBy, shownAt, valueBy, capOf, setupBy, wholeNeeded};
-use crate::answer::Told;
-use crate::answer::bare;
+ghost use Rattle.driver.specs.Events.{eventsOf};
+ghost use Rattle.driver.specs.Block.{blockOf};
+ghost use Rattle.driver.specs.Drain.{drainOf};
+ghost use Rattle.driver.specs.Calls.{resetOf, gainStep, fourAtEntry, fourAtExit};
+ghost use Rattle.state_bytes.specs.State.{stateBytes, stateOut};
+ghost use Rattle.host.specs.Answer.{replyWords, wordsOf, answered};
+ghost use Rattle.host.specs.Host.{returnedAt, calledBy, returnedWith, renderedBy, parameterBy, readAt, valueBy, capOf, setupBy, wholeNeeded};
+use crate::answer::ReplyWords;
+use crate::answer::of_answer;
+use crate::answer::of_flush;
 use crate::answer::of_gain;
 use crate::answer::of_param;
-use crate::answer::of_reset;
 use crate::answer::of_setup;
 use crate::answer::of_value;
 use crate::answer::pair;
-use crate::answer::tell;
-use crate::state::read_state;
-use crate::state::write_state;
+use crate::answer::write_answer;
 use arithmetic::pattern::from_bits;
+use audio::format::Format;
 use driver::state::KernelProcessor;
 use settings::LimiterSettings;
+use settings::ProcessSpec;
 use settings::memory::Cap;
+use state_bytes::read::read_state;
+use state_bytes::write::write_state;
 
 // The look of a lookahead, in bits, at a rate.
 #[no_mangle]
@@ -52,22 +58,14 @@ pub extern "C" fn daggeryuzu_bytes_needed(channels: usize, look: usize) -> u64
     }
 }
 
-// The state into its buffer, where it fits.
-fn keep(state: &mut [u8], p: KernelProcessor)
-    ensures { λ _. ⌜ now (state .exit) ≡ cond (eqb (length (now (state .entry))) stateBytes) (stateOut p) (now (state .entry)) ⌝ }
+// A call's words, and the state where the work is finished.
+fn leave(state: &mut [u8], buffer: &mut [u64], t: ReplyWords, p: KernelProcessor) -> u32
+    requires { ⌜ (t .number ≡ 0 → length (now state) ≡ stateBytes) ⌝ }
+    ensures { λ r. ⌜ r ≡ t .number ⌝ }
+    ensures { λ _. ⌜ now (buffer .exit) ≡ answered (now (buffer .entry)) (wordsOf t) ⌝ }
+    ensures { λ _. ⌜ now (state .exit) ≡ cond (eqb (t .number) 0) (stateOut p) (now (state .entry)) ⌝ }
 {
-    if state.len() != 512 {
-        return;
-    }
-    write_state(state, p);
-}
-
-// What a call tells, and the state where it is finished.
-pub fn leave(state: &mut [u8], answer: &mut [u64], t: Told, p: KernelProcessor) -> u32
-    requires { ⌜ length (now state) ≡ stateBytes ⌝ }
-    ensures { λ r. ⌜ (r ≡ t .number) × (now (answer .exit) ≡ showing (now (answer .entry)) (shown t)) × (now (state .exit) ≡ cond (eqb (t .number) 0) (stateOut p) (now (state .entry))) ⌝ }
-{
-    tell(answer, t);
+    write_answer(buffer, t);
     if t.number != 0 {
         return t.number;
     }
@@ -76,8 +74,8 @@ pub fn leave(state: &mut [u8], answer: &mut [u64], t: Told, p: KernelProcessor) 
 }
 
 // 23 gives back the value's own bits.
-fn with_word(t: Told, id: u32, word: u64) -> Told
-    ensures { λ r. ⌜ r ≡ cond (eqb (t .number) 23) (toldOf (refused 23 (count id ∷ count word ∷ []))) t ⌝ }
+fn with_word(t: ReplyWords, id: u32, word: u64) -> ReplyWords
+    ensures { λ r. ⌜ r ≡ cond (eqb (t .number) 23) (replyWords (refused 23 (count id ∷ count word ∷ []))) t ⌝ }
 {
     if t.number == 23 {
         return pair(23, id as u64, word);
@@ -93,16 +91,10 @@ pub extern "C" fn daggeryuzu_set_parameter(
     id: u32,
     value: u64,
 ) -> u32
-    ensures { λ r. ⌜ ((stores : Stores) → heldAt r (now (answer .exit)) (now (state .exit)) stores ≡ calledBy (parameterBy id value) (now (answer .entry)) (now (state .entry)) stores) ⌝ }
+    ensures { λ r. ⌜ ((stores : Stores) → returnedAt r (now (answer .exit)) (now (state .exit)) stores
+        ≡ calledBy (parameterBy id value) (now (answer .entry)) (now (state .entry)) stores) ⌝ }
 {
     let p = read_state(state);
-    if !p.is_prepared() {
-        tell(answer, bare(18));
-        return 18;
-    }
-    if answer.len() != 8 {
-        return 16;
-    }
     let done = p.set_parameter_immediate(id, from_bits(value));
     let told = done.answer;
     let next = done.processor;
@@ -113,19 +105,11 @@ pub extern "C" fn daggeryuzu_set_parameter(
 // The present value of a parameter, as its bits.
 #[no_mangle]
 pub extern "C" fn daggeryuzu_parameter(state: &[u8], answer: &mut [u64], id: u32) -> u32
-    ensures { λ r. ⌜ shownAt r (now (answer .exit)) ≡ valueBy id (now (answer .entry)) (now (state .entry)) ⌝ }
+    ensures { λ r. ⌜ readAt r (now (answer .exit)) ≡ valueBy id (now (answer .entry)) (now (state .entry)) ⌝ }
 {
     let p = read_state(state);
-    let bank = p.bank;
-    if !bank.is_prepared() {
-        tell(answer, bare(18));
-        return 18;
-    }
-    if answer.len() != 8 {
-        return 16;
-    }
     let t = of_value(p.value(id));
-    tell(answer, t);
+    write_answer(answer, t);
     t.number
 }
 
@@ -141,20 +125,14 @@ pub extern "C" fn daggeryuzu_reset(
     row: &mut [f64],
     detector: &mut [f64],
 ) -> u32
-    ensures { λ r. ⌜ heldAt r (now (answer .exit)) (now (state .exit)) (storesAt (now (delay .exit)) (now (marks .entry)) (now (minima .entry)) (now (weights .entry)) (now (row .exit)) (now (detector .exit))) ≡ calledBy resetOf (now (answer .entry)) (now (state .entry)) (storesAt (now (delay .entry)) (now (marks .entry)) (now (minima .entry)) (now (weights .entry)) (now (row .entry)) (now (detector .entry))) ⌝ }
+    ensures { λ r. ⌜ returnedAt r (now (answer .exit)) (now (state .exit)) (atExit delay marks minima weights row detector)
+        ≡ calledBy resetOf (now (answer .entry)) (now (state .entry)) (atEntry delay marks minima weights row detector) ⌝ }
 {
     let p = read_state(state);
-    if !p.is_prepared() {
-        tell(answer, bare(18));
-        return 18;
-    }
-    if answer.len() != 8 {
-        return 16;
-    }
     let done = p.reset(delay, marks, minima, weights, row, detector);
     let told = done.answer;
     let next = done.processor;
-    leave(state, answer, of_reset(told), next)
+    leave(state, answer, of_answer(told), next)
 }
 
 // One gain step, of a required gain as its bits: floor, entries dropped and kept, tally, mean and gain.
@@ -168,20 +146,91 @@ pub extern "C" fn daggeryuzu_gain_step(
     weights: &[f64],
     row: &mut [f64],
 ) -> u32
-    ensures { λ r. ⌜ ((delay detector : List Float) → heldAt r (now (answer .exit)) (now (state .exit)) (storesAt delay (now (marks .exit)) (now (minima .exit)) (now (weights .entry)) (now (row .exit)) detector) ≡ calledBy (λ (m : Machine). gainStep m (bits gain)) (now (answer .entry)) (now (state .entry)) (storesAt delay (now (marks .entry)) (now (minima .entry)) (now (weights .entry)) (now (row .entry)) detector)) ⌝ }
+    ensures { λ r. ⌜ ((delay detector : List Float)
+        → returnedAt r (now (answer .exit)) (now (state .exit)) (fourAtExit delay marks minima weights row detector)
+        ≡ calledBy (λ (m : Machine). gainStep m (bits gain)) (now (answer .entry)) (now (state .entry))
+        (fourAtEntry delay marks minima weights row detector)) ⌝ }
 {
     let p = read_state(state);
-    if !p.is_prepared() {
-        tell(answer, bare(18));
-        return 18;
-    }
-    if answer.len() != 8 {
-        return 16;
-    }
     let done = p.step_env(from_bits(gain), marks, minima, weights, row);
     let told = done.answer;
     let next = done.processor;
     leave(state, answer, of_gain(told), next)
+}
+
+// A block of so many frames a channel, planar, that starts at an absolute position: three words an
+// event, eight bytes a sample.
+#[no_mangle]
+pub extern "C" fn daggeryuzu_process(
+    state: &mut [u8],
+    answer: &mut [u64],
+    position: u64,
+    frames: usize,
+    events: &[u64],
+    audio: &mut [u8],
+    delay: &mut [f64],
+    marks: &mut [u64],
+    minima: &mut [f64],
+    weights: &[f64],
+    row: &mut [f64],
+    detector: &mut [f64],
+) -> u32
+    ensures { λ r. ⌜ returnedWith (returnedAt r (now (answer .exit)) (now (state .exit)) (atExit delay marks minima weights row detector)) (now (audio .exit))
+        ≡ renderedBy (λ (m : Machine) (bytes : List ℕ). blockOf Format.F64 m position frames (eventsOf (now (events .entry))) bytes)
+        (now (answer .entry)) (now (state .entry)) (atEntry delay marks minima weights row detector) (now (audio .entry)) ⌝ }
+{
+    let p = read_state(state);
+    let done = p.process(
+        Format::F64,
+        position,
+        frames,
+        events,
+        audio,
+        delay,
+        marks,
+        minima,
+        weights,
+        row,
+        detector,
+    );
+    let told = done.answer;
+    let next = done.processor;
+    leave(state, answer, of_answer(told), next)
+}
+
+// A drain of so many frames a channel, planar: how many it wrote, and whether the tail is done.
+#[no_mangle]
+pub extern "C" fn daggeryuzu_flush(
+    state: &mut [u8],
+    answer: &mut [u64],
+    frames: usize,
+    audio: &mut [u8],
+    delay: &mut [f64],
+    marks: &mut [u64],
+    minima: &mut [f64],
+    weights: &[f64],
+    row: &mut [f64],
+    detector: &mut [f64],
+) -> u32
+    ensures { λ r. ⌜ returnedWith (returnedAt r (now (answer .exit)) (now (state .exit)) (atExit delay marks minima weights row detector)) (now (audio .exit))
+        ≡ renderedBy (λ (m : Machine) (bytes : List ℕ). drainOf Format.F64 m frames bytes)
+        (now (answer .entry)) (now (state .entry)) (atEntry delay marks minima weights row detector) (now (audio .entry)) ⌝ }
+{
+    let p = read_state(state);
+    let done = p.flush(
+        Format::F64,
+        frames,
+        audio,
+        delay,
+        marks,
+        minima,
+        weights,
+        row,
+        detector,
+    );
+    let told = done.answer;
+    let next = done.processor;
+    leave(state, answer, of_flush(told), next)
 }
 
 fn cap_of(capped: u32, cap: u64) -> Cap
@@ -193,11 +242,20 @@ fn cap_of(capped: u32, cap: u64) -> Cap
     Cap::Bytes(cap)
 }
 
-// How many weights setup is to see: none where a buffer has another length.
+// How many weights setup is to see: none where the state does not fit its buffer.
 fn lent(fits: bool, weights: usize) -> usize
     ensures { λ r. ⌜ r ≡ cond fits weights 0 ⌝ }
 {
     if fits { weights } else { 0 }
+}
+
+// The state into its buffer, where it fits.
+fn keep(state: &mut [u8], p: KernelProcessor)
+    ensures { λ _. ⌜ now (state .exit) ≡ cond (eqb (length (now (state .entry))) stateBytes) (stateOut p) (now (state .entry)) ⌝ }
+{
+    if state.len() == 512 {
+        write_state(state, p);
+    }
 }
 
 // Sets a limiter up on lent stores; the settings' floats as their bits.
@@ -221,7 +279,10 @@ pub extern "C" fn daggeryuzu_setup(
     row: &mut [f64],
     detector: &mut [f64],
 ) -> u32
-    ensures { λ r. ⌜ heldAt r (now (answer .exit)) (now (state .exit)) (storesAt (now (delay .exit)) (now (marks .exit)) (now (minima .exit)) (now (weights .entry)) (now (row .exit)) (now (detector .exit))) ≡ setupBy (settingsOf (bits «threshold_db») (bits «true_peak_margin_db») (bits «lookahead_ms») (bits «release_ms»)) rate channels «max_block» (capOf capped cap) (now (answer .entry)) (now (state .entry)) (storesAt (now (delay .entry)) (now (marks .entry)) (now (minima .entry)) (now (weights .entry)) (now (row .entry)) (now (detector .entry))) ⌝ }
+    ensures { λ r. ⌜ returnedAt r (now (answer .exit)) (now (state .exit)) (atExit delay marks minima weights row detector)
+        ≡ setupBy (settingsOf (bits «threshold_db») (bits «true_peak_margin_db») (bits «lookahead_ms») (bits «release_ms»))
+        (processSpec rate channels «max_block» (capOf capped cap))
+        (now (answer .entry)) (now (state .entry)) (atEntry delay marks minima weights row detector) ⌝ }
 {
     let s = LimiterSettings {
         threshold_db: from_bits(threshold_db),
@@ -229,14 +290,17 @@ pub extern "C" fn daggeryuzu_setup(
         lookahead_ms: from_bits(lookahead_ms),
         release_ms: from_bits(release_ms),
     };
-    let fits = (state.len() == 512) & (answer.len() == 8);
-    let n = lent(fits, weights.len());
-    let done = KernelProcessor::prepare(
-        s,
+    let most = cap_of(capped, cap);
+    let spec = ProcessSpec {
         rate,
         channels,
         max_block,
-        cap_of(capped, cap),
+        cap: most,
+    };
+    let n = lent(state.len() == 512, weights.len());
+    let done = KernelProcessor::prepare(
+        s,
+        spec,
         delay,
         marks,
         minima,
@@ -247,7 +311,7 @@ pub extern "C" fn daggeryuzu_setup(
     let told = done.answer;
     let next = done.processor;
     let t = of_setup(told);
-    tell(answer, t);
+    write_answer(answer, t);
     keep(state, next);
     t.number
 }

@@ -2,7 +2,7 @@
 use mathlib.Core.Path.{_≡_, refl, sym, ap, _∙_}
 use mathlib.Core.Bool.{Bool, true, false, cond, not}
 use mathlib.Core.List.{List, [], _∷_, _++_}
-use Prim.Native.Nat.{ℕ, zero, suc, _+_, _*_, _^_, _≤_, _<_}
+use Prim.Native.Nat.{ℕ, zero, suc, _+_, _^_, _≤_, _<_}
 use native.Mathlib.Nat.{mod-eq-of-lt}
 use native.Mathlib.Omega.{arith}
 use lib.Dec.{T, eqb, leb, ltb}
@@ -15,15 +15,13 @@ use Rattle.arithmetic.specs.Number.{bits}
 use Rattle.arithmetic.proofs.Order.{and-true}
 use Rattle.limiter.specs.declared.state.Limiter.{Limiter}
 use Rattle.bank.specs.Bank.{slotAt}
-use Rattle.bank.specs.declared.param.Smoothing.{Smoothing}
-use Rattle.bank.specs.declared.param.Smoothing.the-variants.{Step, Linear, OnePole}
 use Rattle.bank.specs.declared.smoother.Smoother.{Smoother}
 use Rattle.driver.specs.declared.state.KernelProcessor.{KernelProcessor}
 use Rattle.audio.specs.Bytes.{wordOf, cut, wordsIn, bytesOut}
 use Rattle.audio.proofs.Numbers.{cut-length, out-length, words-of-bytes, bytes-of-words}
-use Rattle.state_bytes.specs.Words.{smootherIn}
+use Rattle.bank.specs.Words.{smootherIn}
 use Rattle.state_bytes.specs.State.{layout, stateBytes, stateWords, zerosAt, holdsState, isState, limiterIn, slotsOf, bankIn, stateIn, wordsOut, processorIn, stateOut}
-use Rattle.state_bytes.proofs.Shapes.{shape-back, shape-small, shape-word}
+use Rattle.bank.proofs.Shapes.{shape-back, shape-small, shape-word}
 use Rattle.state_bytes.proofs.Stored.{read-held}
 
 -- ---- from the limiter with its bank, and back

@@ -1,4 +1,5 @@
 -- Laws of the state as bytes.
-pub mod Shapes
 pub mod Stored
 pub mod Inverse
+pub mod Finished
+pub mod Vacant

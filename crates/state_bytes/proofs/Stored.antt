@@ -12,9 +12,12 @@ use borrow.Author.Tests.{eq-eqb, ne-eqb}
 use Rattle.audio.specs.Bytes.{bytesOf, joined, wordsIn, bytesOut}
 use Rattle.audio.specs.Inner.{put}
 use Rattle.audio.proofs.Numbers.{put-length, out-length}
-use Rattle.bank.specs.Bank.{slotAt}
+use Rattle.limiter.specs.State.{notSetUp}
+use Rattle.limiter.specs.Stores.{Stores, storesAt}
+use Rattle.bank.specs.Bank.{slotAt, unset}
+use Rattle.bank.specs.Words.{smootherOut}
+use Rattle.driver.specs.Machine.{Machine, machineOf, machineAt}
 use Rattle.driver.specs.declared.state.KernelProcessor.{KernelProcessor}
-use Rattle.state_bytes.specs.Words.{smootherOut}
 use Rattle.state_bytes.specs.State.{layout, stateWords, stateBytes, zerosAt, holdsState, isState, stateIn, limiterOut, wordsOut, never, processorIn, stateOut}
 
 -- ---- the room to grow
@@ -33,6 +36,10 @@ unfolding zerosAt
 zeros-done ws i n h = let e : n - i ≡ 0 = omega arith in rw e refl
 
 -- ---- reading
+-- by what it holds with any stores
+pub never-is : (p : KernelProcessor) → ((stores : Stores) → machineAt p stores ≡ machineOf notSetUp unset stores) → p ≡ never
+never-is p h = ap (λ (m : Machine). record { limiter = m .limiter; bank = m .bank }) (h (storesAt [] [] [] [] [] []))
+
 module _ (bytes : List ℕ) where
   pub read-short : length bytes ≢ stateBytes → processorIn bytes ≡ never
   unfolding processorIn isState

@@ -1,3 +1,2 @@
 -- The state as bytes: its layout, and what is read and written.
-pub mod Words
 pub mod State

@@ -15,7 +15,7 @@ use Rattle.bank.specs.Bank.{slotAt, unset}
 use Rattle.bank.specs.declared.smoother.Smoother.{Smoother}
 use Rattle.bank.specs.declared.smoother_bank.SmootherBank.{SmootherBank}
 use Rattle.driver.specs.declared.state.KernelProcessor.{KernelProcessor}
-use Rattle.state_bytes.specs.Words.{floatIn, halfIn, smootherIn, floatOut, smootherOut}
+use Rattle.bank.specs.Words.{floatIn, halfIn, smootherIn, floatOut, smootherOut}
 
 -- ---- which buffers are a state
 -- "Dyuz", and layout 1 above it

@@ -1,7 +1,5 @@
 // The limiter with its bank as 512 bytes: 64 words, low byte first (specs/State.antt).
 
-// A smoother as words.
-mod words;
 // Out of a buffer.
 pub mod read;
 // Into a buffer.

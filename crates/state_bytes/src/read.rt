@@ -1,13 +1,13 @@
 // What a buffer holds: its words, judged, then taken apart.
 ghost use mathlib.Core.Path.{_≡_};
 ghost use lib.ListN.{length};
-ghost use Rattle.state_bytes.specs.State.{stateWords, zerosAt, holdsState, settingsIn, envelopeIn, limiterIn, bankIn, stateIn, never, processorIn};
-use crate::words::float_in;
-use crate::words::half_in;
-use crate::words::smoother_in;
+ghost use Rattle.state_bytes.specs.State.{stateWords, zerosAt, holdsState, settingsIn, envelopeIn, limiterIn, bankIn, stateIn, processorIn};
 use audio::words::read_words;
 use bank::smoother::Smoother;
 use bank::smoother_bank::SmootherBank;
+use bank::words::float_in;
+use bank::words::half_in;
+use bank::words::smoother_in;
 use driver::state::KernelProcessor;
 use envelope::env::Envelope;
 use envelope::row::AttackRow;
@@ -115,25 +115,17 @@ fn holds_state(words: &[u64]) -> bool
     layout & (rate & (id & (bank & (shape & (ready & rest)))))
 }
 
-// The limiter that was never set up.
-fn never() -> KernelProcessor
-    ensures { λ r. ⌜ r ≡ never ⌝ }
-{
-    let limiter = Limiter::not_set_up();
-    let bank = SmootherBank::unset();
-    KernelProcessor { limiter, bank }
-}
-
+// A buffer that is no state holds the limiter that was never set up.
 pub fn read_state(state: &[u8]) -> KernelProcessor
     ensures { λ r. ⌜ r ≡ processorIn (now (state .entry)) ⌝ }
 {
     if state.len() != 512 {
-        return never();
+        return KernelProcessor::not_set_up();
     }
     let mut words = [0u64; 64];
     read_words(state, &mut words);
     if holds_state(&words) {
         return state_in(&words);
     }
-    never()
+    KernelProcessor::not_set_up()
 }

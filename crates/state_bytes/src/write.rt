@@ -6,11 +6,11 @@ ghost use Rattle.audio.specs.Bytes.{bytesOut};
 ghost use Rattle.audio.specs.Inner.{put};
 ghost use Rattle.bank.specs.Bank.{slotAt};
 ghost use Rattle.state_bytes.specs.State.{stateBytes, limiterOut, stateOut};
-use crate::words::flag;
-use crate::words::smoother_out;
 use arithmetic::pattern::to_bits;
 use audio::words::write_words;
 use bank::smoother::Smoother;
+use bank::words::flag;
+use bank::words::smoother_out;
 use driver::state::KernelProcessor;
 use limiter::state::Limiter;
 

@@ -16,44 +16,17 @@ to-bits-requires-2 c κs = search needs
 to-bits-requires-3 : tie.Need-to-bits-requires-3
 to-bits-requires-3 c κs = search needs
 
-enum-told : tie.Need-enum-told
-enum-told c = search needs
+enum-known-answer-2 : tie.Need-enum-known-answer-2
+enum-known-answer-2 c = search needs
 
-bare-requires : tie.Need-bare-requires
-bare-requires c κs = search needs
-
-enum-told-2 : tie.Need-enum-told-2
-enum-told-2 c = search needs
-
-bare-requires-2 : tie.Need-bare-requires-2
-bare-requires-2 c κs = search needs
-
-enum-told-3 : tie.Need-enum-told-3
-enum-told-3 c = search needs
-
-bare-requires-3 : tie.Need-bare-requires-3
-bare-requires-3 c κs = search needs
-
-enum-told-4 : tie.Need-enum-told-4
-enum-told-4 c = search needs
-
-bare-requires-4 : tie.Need-bare-requires-4
-bare-requires-4 c κs = search needs
+of-refusal-requires : tie.Need-of-refusal-requires
+of-refusal-requires c κs = search needs
 
 returns : tie.Need-returns
 returns c = rw (c .to-bits3 .ensures, c .before .to-bits2 .ensures, c .before .before .to-bits .ensures, c .before .before .before .before .answer .given .1) refl
 
 returns-2 : tie.Need-returns-2
-returns-2 c = rw (c .bare .ensures, c .before .enum-told .given .1) refl
-
-returns-3 : tie.Need-returns-3
-returns-3 c = rw (c .bare2 .ensures, c .before .enum-told2 .given .1) refl
-
-returns-4 : tie.Need-returns-4
-returns-4 c = rw (c .bare3 .ensures, c .before .enum-told3 .given .1) refl
-
-returns-5 : tie.Need-returns-5
-returns-5 c = rw (c .bare4 .ensures, c .before .enum-told4 .given .1) refl
+returns-2 c = rw (c .of-refusal .ensures, c .before .before .answer2 .given .1) refl
 
 pub of-gain-spec : {M : Type 1} → statement M
 of-gain-spec =
@@ -63,16 +36,7 @@ of-gain-spec =
     to-bits-requires
     to-bits-requires-2
     to-bits-requires-3
-    enum-told
-    bare-requires
-    enum-told-2
-    bare-requires-2
-    enum-told-3
-    bare-requires-3
-    enum-told-4
-    bare-requires-4
+    enum-known-answer-2
+    of-refusal-requires
     returns
-    returns-2
-    returns-3
-    returns-4
-    returns-5)
+    returns-2)

@@ -1,56 +1,26 @@
 -- `daggeryuzu_gain_step`: the driver's call through bytes.
 use mathlib.Core.Path.{ap, _∙_}
-use denote.Ref.{now}
-use Rattle.bank.proofs.Tests.{held, failed}
+use mathlib.Core.List.{List, []}
 use lib.Ieee.{Float}
+use denote.Ref.{now}
 use Rattle.arithmetic.specs.Number.{bits}
-use Rattle.limiter.specs.Stores.{storesAt}
+use Rattle.limiter.specs.Stores.{Stores, storesAt}
 use Rattle.driver.specs.Machine.{Machine, machineAt}
-use Rattle.driver.specs.Calls.{gainStep}
+use Rattle.driver.specs.Calls.{Left, gainStep}
 use Rattle.driver.specs.Answers.{gainReplyOf}
-use Rattle.host.proofs.Through.{ready-long, called-18, called-16, called-ran}
+use Rattle.state_bytes.proofs.Finished.{gain-set-up}
+use Rattle.host.proofs.Through.{finished-long, called}
 use borrow.Author.Needs.{needs}
 use Rattle.host.proofs.calls.daggeryuzu_gain_step.Statement.{statement}
 use Rattle.host.proofs.calls.daggeryuzu_gain_step.Tie as tie
 
+abbrev stores : tie.Start → List Float → List Float → Stores
+stores s delay detector =
+    let a = s .args in
+    storesAt delay (now (a .marks)) (now (a .minima)) (now (a .weights)) (now (a .row)) detector
+
 read-state-requires : tie.Need-read-state-requires
 read-state-requires c κs = search needs
-
-is-prepared-requires : tie.Need-is-prepared-requires
-is-prepared-requires c κs = search needs
-
-bare-requires : tie.Need-bare-requires
-bare-requires c κs = search needs
-
-tell-requires : tie.Need-tell-requires
-tell-requires c κs = search needs
-
-same-length : tie.Need-same-length
-same-length c = search needs
-
-same-length-2 : tie.Need-same-length-2
-same-length-2 c = search needs
-
-returns : tie.Need-returns
-returns c delay detector =
-    let t = c .before .before in
-    let k = t .before in
-    let e = k .before .before in
-    let g = e .before in
-    let r = g .before in
-    let a = r .before .before .before .before .before .before .before .before .args in
-    called-18 (now (a .answer)) (now (a .state)) (r .read-state .result) (r .read-state .ensures) (λ (m : Machine). gainStep m (bits (a .gain))) (storesAt delay (now (a .marks)) (now (a .minima)) (now (a .weights)) (now (a .row)) detector) (k .bare .result) _ (failed (g .is-prepared .ensures) (e .if1 .taken)) (k .bare .ensures) (t .tell .ensures)
-
-same-length-3 : tie.Need-same-length-3
-same-length-3 c = search needs
-
-returns-2 : tie.Need-returns-2
-returns-2 c delay detector =
-    let e = c .before in
-    let g = e .before in
-    let r = g .before in
-    let a = r .before .before .before .before .before .before .before .before .args in
-    called-16 (now (a .answer)) (now (a .state)) (r .read-state .result) (r .read-state .ensures) (λ (m : Machine). gainStep m (bits (a .gain))) (storesAt delay (now (a .marks)) (now (a .minima)) (now (a .weights)) (now (a .row)) detector) (held (g .is-prepared .ensures) (e .if1 .left)) (c .if2 .taken)
 
 from-bits-requires : tie.Need-from-bits-requires
 from-bits-requires c κs = search needs
@@ -63,11 +33,22 @@ of-gain-requires c κs = search needs
 
 leave-requires : tie.Need-leave-requires
 leave-requires c κs =
-    let e = c .before .before .before .before .before .before .before .before .before .before .before .before .before .before .before .before in
-    let g = e .before in
-    let r = g .before in
-    let a = r .before .before .before .before .before .before .before .before .args in
-    ready-long (now (a .answer)) (now (a .state)) (r .read-state .result) (r .read-state .ensures) (held (g .is-prepared .ensures) (e .if1 .left))
+    let k1 = c .before .before .before .before .before .before .before .before .before .before in
+    let k2 = k1 .before .before .before .before in
+    let k3 = k2 .before in
+    let k4 = k3 .before .before .before .before .before .before .before .before in
+    let m = machineAt (k3 .read-state .result) (stores k4 [] []) in
+    finished-long (now (k4 .args .answer)) (now (k4 .args .state)) (k3 .read-state .result) (k3 .read-state .ensures) (gainReplyOf (k1 .step-env .result .answer)) (gainStep m (k2 .from-bits .result) .reply) (c .of-gain .result)
+    (gain-set-up m (k2 .from-bits .result)) (ap (λ (o : Left). o .reply) (k1 .step-env .ensures [] [])) (c .of-gain .ensures)
+
+same-length : tie.Need-same-length
+same-length c = search needs
+
+same-length-2 : tie.Need-same-length-2
+same-length-2 c = search needs
+
+same-length-3 : tie.Need-same-length-3
+same-length-3 c = search needs
 
 same-length-4 : tie.Need-same-length-4
 same-length-4 c = search needs
@@ -75,50 +56,31 @@ same-length-4 c = search needs
 same-length-5 : tie.Need-same-length-5
 same-length-5 c = search needs
 
-same-length-6 : tie.Need-same-length-6
-same-length-6 c = search needs
-
-same-length-7 : tie.Need-same-length-7
-same-length-7 c = search needs
-
-same-length-8 : tie.Need-same-length-8
-same-length-8 c = search needs
-
-returns-3 : tie.Need-returns-3
-returns-3 c delay detector =
-    let l = c .before .before .before .before in
-    let o = l .before in
-    let d = o .before .before .before .before .before .before .before .before .before .before in
-    let f = d .before .before .before .before in
-    let n = f .before in
-    let e = n .before in
-    let g = e .before in
-    let r = g .before in
-    let a = r .before .before .before .before .before .before .before .before .args in
-    called-ran (now (a .answer)) (now (a .state)) (r .read-state .result) (r .read-state .ensures) (λ (m : Machine). gainStep m (bits (a .gain))) (storesAt delay (now (a .marks)) (now (a .minima)) (now (a .weights)) (now (a .row)) detector) (gainReplyOf (d .step-env .result .answer)) (d .step-env .result .processor) _ (o .of-gain .result) _ _ _ (held (g .is-prepared .ensures) (e .if1 .left)) (n .if2 .left)
-    (d .step-env .ensures delay detector ∙ ap (λ (x : Float). gainStep (machineAt (r .read-state .result) (storesAt delay (now (a .marks)) (now (a .minima)) (now (a .weights)) (now (a .row)) detector)) x) (f .from-bits .ensures))
-    (o .of-gain .ensures) (l .leave .ensures .0) (l .leave .ensures .1) (l .leave .ensures .2)
+returns : tie.Need-returns
+returns c =
+    let k1 = c .before .before .before .before in
+    let k2 = k1 .before in
+    let k3 = k2 .before .before .before .before .before .before .before .before .before .before in
+    let k4 = k3 .before .before .before .before in
+    let k5 = k4 .before in
+    let k6 = k5 .before .before .before .before .before .before .before .before in
+    λ delay detector.
+    called (now (k6 .args .answer)) (now (k6 .args .state)) (k5 .read-state .result) (k5 .read-state .ensures) (gainReplyOf (k3 .step-env .result .answer)) (k3 .step-env .result .processor) _ (k2 .of-gain .result) _ _ _
+    (k2 .of-gain .ensures) (k1 .leave .ensures .0) (k1 .leave .ensures .1 .0) (k1 .leave .ensures .1 .1) (λ (m : Machine). gainStep m (bits (k6 .args .gain))) (stores k6 delay detector)
+    (k3 .step-env .ensures delay detector ∙ ap (gainStep (machineAt (k5 .read-state .result) (stores k6 delay detector))) (k4 .from-bits .ensures))
 
 pub daggeryuzu-gain-step-spec : {M : Type 1} → statement M
 daggeryuzu-gain-step-spec =
     tie.close
     (tie.spec
     read-state-requires
-    is-prepared-requires
-    bare-requires
-    tell-requires
-    same-length
-    same-length-2
-    returns
-    same-length-3
-    returns-2
     from-bits-requires
     step-env-requires
     of-gain-requires
     leave-requires
+    same-length
+    same-length-2
+    same-length-3
     same-length-4
     same-length-5
-    same-length-6
-    same-length-7
-    same-length-8
-    returns-3)
+    returns)

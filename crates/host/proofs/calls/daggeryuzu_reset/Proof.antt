@@ -1,25 +1,38 @@
 -- `daggeryuzu_reset`: the driver's call through bytes.
+use mathlib.Core.Path.{ap}
 use denote.Ref.{now}
-use Rattle.bank.proofs.Tests.{held, failed}
-use Rattle.limiter.specs.Stores.{storesAt}
-use Rattle.driver.specs.Calls.{resetOf}
-use Rattle.driver.specs.Answers.{resetReply}
-use Rattle.host.proofs.Through.{ready-long, called-18, called-16, called-ran}
+use Rattle.limiter.specs.Stores.{Stores, storesAt}
+use Rattle.driver.specs.Machine.{machineAt}
+use Rattle.driver.specs.Calls.{Left, resetOf}
+use Rattle.driver.specs.Answers.{answerReply}
+use Rattle.state_bytes.proofs.Finished.{reset-set-up}
+use Rattle.host.proofs.Through.{finished-long, called}
 use borrow.Author.Needs.{needs}
 use Rattle.host.proofs.calls.daggeryuzu_reset.Statement.{statement}
 use Rattle.host.proofs.calls.daggeryuzu_reset.Tie as tie
 
+abbrev stores : tie.Start → Stores
+stores s =
+    let a = s .args in
+    storesAt (now (a .delay)) (now (a .marks)) (now (a .minima)) (now (a .weights)) (now (a .row)) (now (a .detector))
+
 read-state-requires : tie.Need-read-state-requires
 read-state-requires c κs = search needs
 
-is-prepared-requires : tie.Need-is-prepared-requires
-is-prepared-requires c κs = search needs
+reset-requires : tie.Need-reset-requires
+reset-requires c κs = search needs
 
-bare-requires : tie.Need-bare-requires
-bare-requires c κs = search needs
+of-answer-requires : tie.Need-of-answer-requires
+of-answer-requires c κs = search needs
 
-tell-requires : tie.Need-tell-requires
-tell-requires c κs = search needs
+leave-requires : tie.Need-leave-requires
+leave-requires c κs =
+    let k1 = c .before .before .before .before .before .before .before .before .before .before in
+    let k2 = k1 .before .before .before .before in
+    let k3 = k2 .before .before .before .before .before .before .before .before .before .before in
+    let m = machineAt (k2 .read-state .result) (stores k3) in
+    finished-long (now (k3 .args .answer)) (now (k3 .args .state)) (k2 .read-state .result) (k2 .read-state .ensures) (answerReply (k1 .reset .result .answer)) (resetOf m .reply) (c .of-answer .result) (reset-set-up m)
+    (ap (λ (o : Left). o .reply) (k1 .reset .ensures)) (c .of-answer .ensures)
 
 same-length : tie.Need-same-length
 same-length c = search needs
@@ -27,40 +40,8 @@ same-length c = search needs
 same-length-2 : tie.Need-same-length-2
 same-length-2 c = search needs
 
-returns : tie.Need-returns
-returns c =
-    let t = c .before .before in
-    let k = t .before in
-    let e = k .before .before in
-    let g = e .before in
-    let r = g .before in
-    let a = r .before .before .before .before .before .before .before .before .before .before .args in
-    called-18 (now (a .answer)) (now (a .state)) (r .read-state .result) (r .read-state .ensures) resetOf (storesAt (now (a .delay)) (now (a .marks)) (now (a .minima)) (now (a .weights)) (now (a .row)) (now (a .detector))) (k .bare .result) _ (failed (g .is-prepared .ensures) (e .if1 .taken)) (k .bare .ensures) (t .tell .ensures)
-
 same-length-3 : tie.Need-same-length-3
 same-length-3 c = search needs
-
-returns-2 : tie.Need-returns-2
-returns-2 c =
-    let e = c .before in
-    let g = e .before in
-    let r = g .before in
-    let a = r .before .before .before .before .before .before .before .before .before .before .args in
-    called-16 (now (a .answer)) (now (a .state)) (r .read-state .result) (r .read-state .ensures) resetOf (storesAt (now (a .delay)) (now (a .marks)) (now (a .minima)) (now (a .weights)) (now (a .row)) (now (a .detector))) (held (g .is-prepared .ensures) (e .if1 .left)) (c .if2 .taken)
-
-reset-requires : tie.Need-reset-requires
-reset-requires c κs = search needs
-
-of-reset-requires : tie.Need-of-reset-requires
-of-reset-requires c κs = search needs
-
-leave-requires : tie.Need-leave-requires
-leave-requires c κs =
-    let e = c .before .before .before .before .before .before .before .before .before .before .before .before .before .before .before in
-    let g = e .before in
-    let r = g .before in
-    let a = r .before .before .before .before .before .before .before .before .before .before .args in
-    ready-long (now (a .answer)) (now (a .state)) (r .read-state .result) (r .read-state .ensures) (held (g .is-prepared .ensures) (e .if1 .left))
 
 same-length-4 : tie.Need-same-length-4
 same-length-4 c = search needs
@@ -68,46 +49,27 @@ same-length-4 c = search needs
 same-length-5 : tie.Need-same-length-5
 same-length-5 c = search needs
 
-same-length-6 : tie.Need-same-length-6
-same-length-6 c = search needs
-
-same-length-7 : tie.Need-same-length-7
-same-length-7 c = search needs
-
-same-length-8 : tie.Need-same-length-8
-same-length-8 c = search needs
-
-returns-3 : tie.Need-returns-3
-returns-3 c =
-    let l = c .before .before .before .before in
-    let o = l .before in
-    let d = o .before .before .before .before .before .before .before .before .before .before in
-    let n = d .before .before .before .before in
-    let e = n .before in
-    let g = e .before in
-    let r = g .before in
-    let a = r .before .before .before .before .before .before .before .before .before .before .args in
-    called-ran (now (a .answer)) (now (a .state)) (r .read-state .result) (r .read-state .ensures) resetOf (storesAt (now (a .delay)) (now (a .marks)) (now (a .minima)) (now (a .weights)) (now (a .row)) (now (a .detector))) (resetReply (d .reset .result .answer)) (d .reset .result .processor) _ (o .of-reset .result) _ _ _ (held (g .is-prepared .ensures) (e .if1 .left)) (n .if2 .left) (d .reset .ensures) (o .of-reset .ensures) (l .leave .ensures .0) (l .leave .ensures .1) (l .leave .ensures .2)
+returns : tie.Need-returns
+returns c =
+    let k1 = c .before .before .before .before in
+    let k2 = k1 .before in
+    let k3 = k2 .before .before .before .before .before .before .before .before .before .before in
+    let k4 = k3 .before .before .before .before in
+    let k5 = k4 .before .before .before .before .before .before .before .before .before .before in
+    called (now (k5 .args .answer)) (now (k5 .args .state)) (k4 .read-state .result) (k4 .read-state .ensures) (answerReply (k3 .reset .result .answer)) (k3 .reset .result .processor) _ (k2 .of-answer .result) _ _ _
+    (k2 .of-answer .ensures) (k1 .leave .ensures .0) (k1 .leave .ensures .1 .0) (k1 .leave .ensures .1 .1) resetOf (stores k5) (k3 .reset .ensures)
 
 pub daggeryuzu-reset-spec : {M : Type 1} → statement M
 daggeryuzu-reset-spec =
     tie.close
     (tie.spec
     read-state-requires
-    is-prepared-requires
-    bare-requires
-    tell-requires
+    reset-requires
+    of-answer-requires
+    leave-requires
     same-length
     same-length-2
-    returns
     same-length-3
-    returns-2
-    reset-requires
-    of-reset-requires
-    leave-requires
     same-length-4
     same-length-5
-    same-length-6
-    same-length-7
-    same-length-8
-    returns-3)
+    returns)

@@ -1,59 +1,19 @@
--- `daggeryuzu_set_parameter`: the driver's call through bytes; 23 gives back the bits.
-use mathlib.Core.Path.{ap, _∙_}
+-- `daggeryuzu_set_parameter`: the driver's call through bytes.
+use mathlib.Core.Path.{ap}
+use mathlib.Core.List.{[]}
 use denote.Ref.{now}
-use Rattle.bank.proofs.Tests.{held, failed}
-use mathlib.Core.Bool.{cond}
-use mathlib.Core.List.{[], _∷_}
-use lib.Dec.{eqb}
-use lib.Ieee.{Float}
-use Rattle.arithmetic.specs.Reply.{refused, count}
-use Rattle.bank.specs.Answers.{paramSetReply}
+use Rattle.limiter.specs.Stores.{storesAt}
 use Rattle.driver.specs.Machine.{machineAt}
-use Rattle.driver.specs.Calls.{Left, left, parameterOf}
+use Rattle.bank.specs.Answers.{paramSetReply}
+use Rattle.driver.specs.Calls.{Left}
 use Rattle.host.specs.Host.{parameterBy}
-use Rattle.host.proofs.Through.{ready-long, called-18, called-16, called-ran, told-word}
+use Rattle.host.proofs.Through.{finished-long, called, word-given, parameter-by, parameter-word}
 use borrow.Author.Needs.{needs}
 use Rattle.host.proofs.calls.daggeryuzu_set_parameter.Statement.{statement}
 use Rattle.host.proofs.calls.daggeryuzu_set_parameter.Tie as tie
 
 read-state-requires : tie.Need-read-state-requires
 read-state-requires c κs = search needs
-
-is-prepared-requires : tie.Need-is-prepared-requires
-is-prepared-requires c κs = search needs
-
-bare-requires : tie.Need-bare-requires
-bare-requires c κs = search needs
-
-tell-requires : tie.Need-tell-requires
-tell-requires c κs = search needs
-
-same-length : tie.Need-same-length
-same-length c = search needs
-
-same-length-2 : tie.Need-same-length-2
-same-length-2 c = search needs
-
-returns : tie.Need-returns
-returns c stores =
-    let t = c .before .before in
-    let k = t .before in
-    let e = k .before .before in
-    let g = e .before in
-    let r = g .before in
-    let a = r .before .before .before .before .args in
-    called-18 (now (a .answer)) (now (a .state)) (r .read-state .result) (r .read-state .ensures) (parameterBy (a .id) (a .value)) stores (k .bare .result) _ (failed (g .is-prepared .ensures) (e .if1 .taken)) (k .bare .ensures) (t .tell .ensures)
-
-same-length-3 : tie.Need-same-length-3
-same-length-3 c = search needs
-
-returns-2 : tie.Need-returns-2
-returns-2 c stores =
-    let e = c .before in
-    let g = e .before in
-    let r = g .before in
-    let a = r .before .before .before .before .args in
-    called-16 (now (a .answer)) (now (a .state)) (r .read-state .result) (r .read-state .ensures) (parameterBy (a .id) (a .value)) stores (held (g .is-prepared .ensures) (e .if1 .left)) (c .if2 .taken)
 
 from-bits-requires : tie.Need-from-bits-requires
 from-bits-requires c κs = search needs
@@ -69,55 +29,53 @@ with-word-requires c κs = search needs
 
 leave-requires : tie.Need-leave-requires
 leave-requires c κs =
-    let e = c .before .before .before .before .before .before .before .before in
-    let g = e .before in
-    let r = g .before in
-    let a = r .before .before .before .before .args in
-    ready-long (now (a .answer)) (now (a .state)) (r .read-state .result) (r .read-state .ensures) (held (g .is-prepared .ensures) (e .if1 .left))
+    let k1 = c .before .before in
+    let k2 = k1 .before in
+    let k3 = k2 .before .before in
+    let k4 = k3 .before in
+    let k5 = k4 .before in
+    let k6 = k5 .before .before .before .before in
+    let none = storesAt [] [] [] [] [] [] in
+    let m = machineAt (k5 .read-state .result) none in
+    let o = parameter-word m (k6 .args .id) (k6 .args .value) (paramSetReply (k3 .set-parameter-immediate .result .answer)) (machineAt (k3 .set-parameter-immediate .result .processor) none) (k4 .from-bits .result)
+    (k4 .from-bits .ensures) (k3 .set-parameter-immediate .ensures none)
+    in
+    finished-long (now (k6 .args .answer)) (now (k6 .args .state)) (k5 .read-state .result) (k5 .read-state .ensures) _ (parameterBy (k6 .args .id) (k6 .args .value) m .reply) (k1 .with-word .result)
+    (parameter-by m (k6 .args .id) (k6 .args .value)) (ap (λ (l : Left). l .reply) o) (word-given (paramSetReply (k3 .set-parameter-immediate .result .answer)) _ (k2 .of-param .result) (k1 .with-word .result) (k2 .of-param .ensures) (k1 .with-word .ensures))
 
-same-length-4 : tie.Need-same-length-4
-same-length-4 c = search needs
+same-length : tie.Need-same-length
+same-length c = search needs
 
-same-length-5 : tie.Need-same-length-5
-same-length-5 c = search needs
+same-length-2 : tie.Need-same-length-2
+same-length-2 c = search needs
 
-returns-3 : tie.Need-returns-3
-returns-3 c stores =
-    let l = c .before .before .before .before in
-    let w = l .before .before .before in
-    let o = w .before in
-    let d = o .before .before in
-    let f = d .before in
-    let n = f .before in
-    let e = n .before in
-    let g = e .before in
-    let r = g .before in
-    let a = r .before .before .before .before .args in
-    let own = refused 23 (count (a .id) ∷ count (a .value) ∷ []) in
-    let m = machineAt (r .read-state .result) stores in
-    called-ran (now (a .answer)) (now (a .state)) (r .read-state .result) (r .read-state .ensures) (parameterBy (a .id) (a .value)) stores _ (d .set-parameter-immediate .result .processor) stores (w .with-word .result) _ _ _ (held (g .is-prepared .ensures) (e .if1 .left)) (n .if2 .left)
-    (ap (λ (s : Left). left (cond (eqb (s .reply .number) 23) own (s .reply)) (s .machine)) (d .set-parameter-immediate .ensures stores ∙ ap (λ (x : Float). parameterOf m (a .id) x) (f .from-bits .ensures)))
-    (told-word (paramSetReply (d .set-parameter-immediate .result .answer)) own (o .of-param .result) (w .with-word .result) (o .of-param .ensures) (w .with-word .ensures))
-    (l .leave .ensures .0) (l .leave .ensures .1) (l .leave .ensures .2)
+returns : tie.Need-returns
+returns c =
+    let k1 = c .before .before .before .before in
+    let k2 = k1 .before .before .before in
+    let k3 = k2 .before in
+    let k4 = k3 .before .before in
+    let k5 = k4 .before in
+    let k6 = k5 .before in
+    let k7 = k6 .before .before .before .before in
+    λ stores.
+    let m = machineAt (k6 .read-state .result) stores in
+    called (now (k7 .args .answer)) (now (k7 .args .state)) (k6 .read-state .result) (k6 .read-state .ensures) _ (k4 .set-parameter-immediate .result .processor) stores (k2 .with-word .result) _ _ _
+    (word-given (paramSetReply (k4 .set-parameter-immediate .result .answer)) _ (k3 .of-param .result) (k2 .with-word .result) (k3 .of-param .ensures) (k2 .with-word .ensures))
+    (k1 .leave .ensures .0) (k1 .leave .ensures .1 .0) (k1 .leave .ensures .1 .1) (parameterBy (k7 .args .id) (k7 .args .value)) stores
+    (parameter-word m (k7 .args .id) (k7 .args .value) (paramSetReply (k4 .set-parameter-immediate .result .answer)) (machineAt (k4 .set-parameter-immediate .result .processor) stores) (k5 .from-bits .result)
+    (k5 .from-bits .ensures) (k4 .set-parameter-immediate .ensures stores))
 
 pub daggeryuzu-set-parameter-spec : {M : Type 1} → statement M
 daggeryuzu-set-parameter-spec =
     tie.close
     (tie.spec
     read-state-requires
-    is-prepared-requires
-    bare-requires
-    tell-requires
-    same-length
-    same-length-2
-    returns
-    same-length-3
-    returns-2
     from-bits-requires
     set-parameter-immediate-requires
     of-param-requires
     with-word-requires
     leave-requires
-    same-length-4
-    same-length-5
-    returns-3)
+    same-length
+    same-length-2
+    returns)

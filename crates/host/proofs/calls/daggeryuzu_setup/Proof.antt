@@ -1,20 +1,28 @@
 -- `daggeryuzu_setup`: the driver's setup through bytes, on as many weights as are lent.
 use mathlib.Core.Path.{_≡_, refl, ap, _∙_}
 use Prim.Native.Nat.{_-_}
-use denote.Ref.{now}
+use lib.Dec.{eqb}
 use lib.ListN.{length, take}
+use denote.Ref.{now}
 use Rattle.arithmetic.specs.Number.{bits}
-use Rattle.settings.specs.Settings.{settingsOf}
+use Rattle.settings.specs.Settings.{settingsOf, processSpec}
 use Rattle.settings.specs.declared.LimiterSettings.{LimiterSettings}
+use Rattle.settings.specs.declared.ProcessSpec.{ProcessSpec}
 use Rattle.settings.specs.declared.memory.Cap.{Cap}
-use Rattle.limiter.specs.Stores.{storesAt}
+use Rattle.limiter.specs.Stores.{Stores, storesAt}
 use Rattle.driver.specs.Calls.{setupOf}
 use Rattle.driver.specs.Answers.{setupReply}
-use Rattle.host.specs.Host.{capOf, buffersFit, withWeights}
+use Rattle.state_bytes.specs.State.{stateBytes}
+use Rattle.host.specs.Host.{capOf, withWeights}
 use Rattle.host.proofs.Through.{lent-within, lent-part, set-up}
 use borrow.Author.Needs.{needs}
 use Rattle.host.proofs.calls.daggeryuzu_setup.Statement.{statement}
 use Rattle.host.proofs.calls.daggeryuzu_setup.Tie as tie
+
+abbrev stores : tie.Start → Stores
+stores s =
+    let a = s .args in
+    storesAt (now (a .delay)) (now (a .marks)) (now (a .minima)) (now (a .weights)) (now (a .row)) (now (a .detector))
 
 from-bits-requires : tie.Need-from-bits-requires
 from-bits-requires c κs = search needs
@@ -28,11 +36,11 @@ from-bits-requires-3 c κs = search needs
 from-bits-requires-4 : tie.Need-from-bits-requires-4
 from-bits-requires-4 c κs = search needs
 
-lent-requires : tie.Need-lent-requires
-lent-requires c κs = search needs
-
 cap-of-requires : tie.Need-cap-of-requires
 cap-of-requires c κs = search needs
+
+lent-requires : tie.Need-lent-requires
+lent-requires c κs = search needs
 
 sub-prepare : tie.Need-sub-prepare
 sub-prepare c = search needs
@@ -42,9 +50,9 @@ part-prepare-start c = search needs
 
 part-prepare-end : tie.Need-part-prepare-end
 part-prepare-end c =
-    let n = c .before .before .before .before in
-    let a = n .before .before .before .before .before .before .before .before .before .before .before .before .before .args in
-    lent-within (buffersFit (now (a .answer)) (now (a .state))) (n .lent .result) (length (now (a .weights))) (n .lent .ensures)
+    let k1 = c .before .before .before in
+    let k2 = k1 .before .before .before .before .before .before .before .before .before .before .before .before .before .before in
+    lent-within (eqb (length (now (k2 .args .state))) stateBytes) (k1 .lent .result) (length (now (k2 .args .weights))) (k1 .lent .ensures)
 
 prepare-requires : tie.Need-prepare-requires
 prepare-requires c κs = search needs
@@ -52,8 +60,8 @@ prepare-requires c κs = search needs
 of-setup-requires : tie.Need-of-setup-requires
 of-setup-requires c κs = search needs
 
-tell-requires : tie.Need-tell-requires
-tell-requires c κs = search needs
+write-answer-requires : tie.Need-write-answer-requires
+write-answer-requires c κs = search needs
 
 keep-requires : tie.Need-keep-requires
 keep-requires c κs = search needs
@@ -81,29 +89,30 @@ same-length-7 c = search needs
 
 returns : tie.Need-returns
 returns c =
-    let k = c .before .before in
-    let t = k .before .before .before .before in
-    let o = t .before .before in
-    let d = o .before .before .before .before .before .before .before .before .before .before .before .before in
-    let q = d .before .before .before .before .before .before .before in
-    let n = q .before in
-    let f4 = n .before in
-    let f3 = f4 .before in
-    let f2 = f3 .before in
-    let f1 = f2 .before in
-    let a = f1 .before .before .before .before .before .before .before .before .before .args in
-    let stores = storesAt (now (a .delay)) (now (a .marks)) (now (a .minima)) (now (a .weights)) (now (a .row)) (now (a .detector)) in
-    let part = take (n .lent .result - 0) (now (a .weights)) in
-    let settings = settingsOf (bits (a .threshold-db)) (bits (a .true-peak-margin-db)) (bits (a .lookahead-ms)) (bits (a .release-ms)) in
-    let given : settingsOf (f1 .from-bits .result) (f2 .from-bits2 .result) (f3 .from-bits3 .result) (f4 .from-bits4 .result) ≡ settings =
-    rw (f1 .from-bits .ensures, f2 .from-bits2 .ensures, f3 .from-bits3 .ensures, f4 .from-bits4 .ensures) refl
+    let k1 = c .before .before in
+    let k2 = k1 .before .before .before .before in
+    let k3 = k2 .before .before in
+    let k4 = k3 .before .before .before .before .before .before .before .before .before .before .before .before in
+    let k5 = k4 .before .before .before .before .before .before .before in
+    let k6 = k5 .before in
+    let k7 = k6 .before in
+    let k8 = k7 .before in
+    let k9 = k8 .before in
+    let k10 = k9 .before in
+    let k11 = k10 .before .before .before .before .before .before .before .before .before in
+    let s = stores (k11) in
+    let part = take (k5 .lent .result - 0) (now (k11 .args .weights)) in
+    let told = settingsOf (bits (k11 .args .threshold-db)) (bits (k11 .args .true-peak-margin-db)) (bits (k11 .args .lookahead-ms)) (bits (k11 .args .release-ms)) in
+    let spec : Cap → ProcessSpec = λ x. processSpec (k11 .args .rate) (k11 .args .channels) (k11 .args .max-block) x in
+    let given : settingsOf (k10 .from-bits .result) (k9 .from-bits2 .result) (k8 .from-bits3 .result) (k7 .from-bits4 .result) ≡ told =
+    rw (k10 .from-bits .ensures, k9 .from-bits2 .ensures, k8 .from-bits3 .ensures, k7 .from-bits4 .ensures) refl
     in
-    set-up settings (a .rate) (a .channels) (a .max-block) (capOf (a .capped) (a .cap)) (now (a .answer)) (now (a .state)) stores (setupReply (d .prepare .result .answer)) (d .prepare .result .processor) _ part (o .of-setup .result) _ _
-    (lent-part (buffersFit (now (a .answer)) (now (a .state))) (n .lent .result) (now (a .weights)) (n .lent .ensures))
-    (d .prepare .ensures
-    ∙ ap (λ (x : LimiterSettings). setupOf x (a .rate) (a .channels) (a .max-block) (q .cap-of .result) (withWeights part stores)) given
-    ∙ ap (λ (x : Cap). setupOf settings (a .rate) (a .channels) (a .max-block) x (withWeights part stores)) (q .cap-of .ensures))
-    (o .of-setup .ensures) (t .tell .ensures) (k .keep .ensures)
+    set-up told (spec (capOf (k11 .args .capped) (k11 .args .cap))) (now (k11 .args .answer)) (now (k11 .args .state)) s (setupReply (k4 .prepare .result .answer)) (k4 .prepare .result .processor) _ part (k3 .of-setup .result) _ _
+    (lent-part (eqb (length (now (k11 .args .state))) stateBytes) (k5 .lent .result) (now (k11 .args .weights)) (k5 .lent .ensures))
+    (k4 .prepare .ensures
+    ∙ ap (λ (x : LimiterSettings). setupOf x (spec (k6 .cap-of .result)) (withWeights part s)) given
+    ∙ ap (λ (x : Cap). setupOf told (spec x) (withWeights part s)) (k6 .cap-of .ensures))
+    (k3 .of-setup .ensures) (k2 .write-answer .ensures) (k1 .keep .ensures)
 
 pub daggeryuzu-setup-spec : {M : Type 1} → statement M
 daggeryuzu-setup-spec =
@@ -113,14 +122,14 @@ daggeryuzu-setup-spec =
     from-bits-requires-2
     from-bits-requires-3
     from-bits-requires-4
-    lent-requires
     cap-of-requires
+    lent-requires
     sub-prepare
     part-prepare-start
     part-prepare-end
     prepare-requires
     of-setup-requires
-    tell-requires
+    write-answer-requires
     keep-requires
     same-length
     same-length-2

@@ -5,20 +5,23 @@ use borrow.Author.Needs.{needs}
 use Rattle.host.proofs.calls.leave.Statement.{statement}
 use Rattle.host.proofs.calls.leave.Tie as tie
 
-tell-requires : tie.Need-tell-requires
-tell-requires c κs = search needs
+write-answer-requires : tie.Need-write-answer-requires
+write-answer-requires c κs = search needs
 
 same-length : tie.Need-same-length
 same-length c = search needs
 
 returns : tie.Need-returns
 returns c =
-    let t = c .before .before .before .before in
-    let a = t .before .before .before .before .args in
-    (refl, t .tell .ensures, rw (ne-eqb (a .t .number) 0 (c .if1 .taken)) refl)
+    let k1 = c .before .before .before .before in
+    let k2 = k1 .before .before .before .before in
+    (refl, (k1 .write-answer .ensures, rw (ne-eqb (k2 .args .t .number) 0 (c .if1 .taken)) refl))
 
 write-state-requires : tie.Need-write-state-requires
-write-state-requires c κs = search needs
+write-state-requires c κs =
+    let k1 = c .before in
+    let k2 = k1 .before .before .before .before .before .before .before .before in
+    k2 .pre (k1 .if1 .left)
 
 same-length-2 : tie.Need-same-length-2
 same-length-2 c = search needs
@@ -28,17 +31,17 @@ same-length-3 c = search needs
 
 returns-2 : tie.Need-returns-2
 returns-2 c =
-    let w = c .before .before in
-    let e = w .before .before in
-    let t = e .before .before .before .before in
-    let a = t .before .before .before .before .args in
-    (sym (e .if1 .left), t .tell .ensures, w .write-state .ensures ∙ rw (eq-eqb (a .t .number) 0 (e .if1 .left)) refl)
+    let k1 = c .before .before in
+    let k2 = k1 .before .before in
+    let k3 = k2 .before .before .before .before in
+    let k4 = k3 .before .before .before .before in
+    (sym (k2 .if1 .left), (k3 .write-answer .ensures, k1 .write-state .ensures ∙ rw (eq-eqb (k4 .args .t .number) 0 (k2 .if1 .left)) refl))
 
 pub leave-spec : {M : Type 1} → statement M
 leave-spec =
     tie.close
     (tie.spec
-    tell-requires
+    write-answer-requires
     same-length
     returns
     write-state-requires

@@ -2,18 +2,18 @@
 use mathlib.Core.Path.{sym, ap, _∙_}
 use denote.Ref.{now}
 use Rattle.state_bytes.specs.State.{holdsState, stateIn}
-use Rattle.state_bytes.proofs.Stored.{read-short, read-held, read-other}
+use Rattle.state_bytes.proofs.Stored.{never-is, read-short, read-held, read-other}
 use borrow.Author.Needs.{needs}
 use Rattle.state_bytes.proofs.read.read_state.Statement.{statement}
 use Rattle.state_bytes.proofs.read.read_state.Tie as tie
 
-never-requires : tie.Need-never-requires
-never-requires c κs = search needs
+not-set-up-requires : tie.Need-not-set-up-requires
+not-set-up-requires c κs = search needs
 
 returns : tie.Need-returns
 returns c =
     let a = c .before .before .before .args in
-    c .never .ensures ∙ sym (read-short (now (a .state)) (c .before .if1 .taken))
+    never-is (c .not-set-up .result) (c .not-set-up .ensures) ∙ sym (read-short (now (a .state)) (c .before .if1 .taken))
 
 slice-aggregate-read-words : tie.Need-slice-aggregate-read-words
 slice-aggregate-read-words c = search needs
@@ -42,8 +42,8 @@ returns-2 c =
     c .state-in .ensures ∙ ap stateIn (r .read-words .ensures)
     ∙ sym (read-held (now (a .state)) (e .if1 .left) (ap holdsState (sym (r .read-words .ensures)) ∙ sym (h .holds-state .ensures) ∙ c .before .before .if2 .taken))
 
-never-requires-2 : tie.Need-never-requires-2
-never-requires-2 c κs = search needs
+not-set-up-requires-2 : tie.Need-not-set-up-requires-2
+not-set-up-requires-2 c κs = search needs
 
 returns-3 : tie.Need-returns-3
 returns-3 c =
@@ -51,13 +51,13 @@ returns-3 c =
     let r = h .before .before .before in
     let e = r .before .before in
     let a = e .before .before .args in
-    c .never2 .ensures ∙ sym (read-other (now (a .state)) (e .if1 .left) (ap holdsState (sym (r .read-words .ensures)) ∙ sym (h .holds-state .ensures) ∙ c .before .if2 .left))
+    never-is (c .not-set-up2 .result) (c .not-set-up2 .ensures) ∙ sym (read-other (now (a .state)) (e .if1 .left) (ap holdsState (sym (r .read-words .ensures)) ∙ sym (h .holds-state .ensures) ∙ c .before .if2 .left))
 
 pub read-state-spec : {M : Type 1} → statement M
 read-state-spec =
     tie.close
     (tie.spec
-    never-requires
+    not-set-up-requires
     returns
     slice-aggregate-read-words
     read-words-requires
@@ -66,5 +66,5 @@ read-state-spec =
     slice-aggregate-state-in
     state-in-requires
     returns-2
-    never-requires-2
+    not-set-up-requires-2
     returns-3)
