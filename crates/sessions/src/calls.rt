@@ -10,10 +10,9 @@ use crate::head::float;
 use crate::head::places;
 use crate::samples;
 use audio::format::Format;
+use driver::answers::SetUp;
 use driver::state::KernelProcessor;
 use records::words::next;
-use settings::ProcessSpec;
-use settings::memory::Cap;
 
 // What a call leaves, the limiter and the state of the samples' source, and whether it told what was recorded.
 pub struct Played {
@@ -114,7 +113,7 @@ fn block(
     let frames = next(fd).word as usize;
     let told = 3 * count(fd, 64) as usize;
     let events = events(fd, told);
-    let bytes = 8 * places(h.channels, frames, 512);
+    let bytes = 8 * places(h.spec.channels, frames, 512);
     let mut audio = audio_room();
     process(
         fd,
@@ -180,7 +179,7 @@ fn drain(
     detector: &mut [f64],
 ) -> Played {
     let frames = next(fd).word as usize;
-    let bytes = 8 * places(h.channels, frames, 512);
+    let bytes = 8 * places(h.spec.channels, frames, 512);
     let mut audio = audio_room();
     flush(
         fd,
@@ -254,7 +253,15 @@ fn gain_step(
     Played { processor, x, same }
 }
 
-// The setup; the look that it derives is the recorded one.
+// What a setup leaves; the look that it derives is the recorded one.
+fn prepared(done: SetUp, x: u64, look: usize) -> Played {
+    let answer = done.answer;
+    let processor = done.processor;
+    let l = processor.limiter;
+    let same = answers::is_set_up(answer) & (l.env.keeper.look == look);
+    Played { processor, x, same }
+}
+
 fn setup(
     h: Head,
     x: u64,
@@ -266,18 +273,9 @@ fn setup(
     detector: &mut [f64],
 ) -> Played {
     let s = h.settings;
-    let spec = ProcessSpec {
-        rate: h.rate,
-        channels: h.channels,
-        max_block: h.max_block,
-        cap: Cap::Unlimited,
-    };
+    let spec = h.spec;
     let done = KernelProcessor::prepare(s, spec, delay, marks, minima, weights, row, detector);
-    let answer = done.answer;
-    let processor = done.processor;
-    let l = processor.limiter;
-    let same = answers::is_set_up(answer) & (l.env.keeper.look == h.look);
-    Played { processor, x, same }
+    prepared(done, x, h.look)
 }
 
 // The rest of a call whose op was read. Another op is no call's, and differs.

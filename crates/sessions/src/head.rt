@@ -3,16 +3,16 @@ ghost use Prim.Native.Nat.{_≤_, _*_};
 use arithmetic::pattern::from_bits;
 use records::words::next;
 use settings::LimiterSettings;
+use settings::ProcessSpec;
+use settings::memory::Cap;
 
 pub struct Head {
     pub settings: LimiterSettings,
-    pub rate: u32,
-    pub channels: usize,
+    pub spec: ProcessSpec,
     pub look: usize,
     pub rows: usize,
     pub seed: u64,
     pub kind: u64,
-    pub max_block: usize,
 }
 
 pub fn float(fd: i32) -> f64 {
@@ -64,15 +64,19 @@ pub fn read(fd: i32) -> Head
     let seed = next(fd).word;
     let kind = next(fd).word;
     let max_block = count(fd, 65536) as usize;
-    Head {
-        settings: s,
+    let spec = ProcessSpec {
         rate,
         channels,
+        max_block,
+        cap: Cap::Unlimited,
+    };
+    Head {
+        settings: s,
+        spec,
         look,
         rows,
         seed,
         kind,
-        max_block,
     }
 }
 

@@ -54,8 +54,8 @@ fn replayed(fd: i32, before: Tally) -> Tally {
     let h = head::read(fd);
     let rows = h.rows;
     let entries = h.look + 1;
-    let lines = head::places(h.channels, h.look, 4096);
-    let heard = head::places(h.channels, 12, 12);
+    let lines = head::places(h.spec.channels, h.look, 4096);
+    let heard = head::places(h.spec.channels, 12, 12);
     let weights = weights(fd, rows);
     let mut delay = delay_room();
     let mut marks = marks_room();
