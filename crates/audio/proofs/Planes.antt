@@ -212,17 +212,6 @@ module _ {A : Type 0} (none : A) where
         ∙ written-past k c i (drop w audio) others (length-map outputs (λ (f : List A). othersOf f) ∙ m) (rw (length-drop w audio) (omega arith)) (omega arith) g l
         ∙ getD-drop w audio (c * w + i) none)
 
-  -- frames that were not written yet are as they were
-  pub frames-ahead : (w k first n : ℕ) (audio : List A) (outputs : List (List A)) → length outputs ≡ first → k * w ≤ length audio → first + n ≤ w
-      → framesAt none w k first n (written none w k first audio outputs) ≡ framesAt none w k first n audio
-  frames-ahead w k first n audio outputs m a s =
-      frames-same w w k first first n (written none w k first audio outputs) audio same
-    where
-      same : (c i : ℕ) → c < k → i < n → getD (written none w k first audio outputs) (c * w + first + i) none ≡ getD audio (c * w + first + i) none
-      same c i h g =
-          let e : c * w + first + i ≡ c * w + (first + i) = omega arith in
-          rw e (written-past w first (omega arith) k c (first + i) audio outputs m a h (omega arith) (omega arith))
-
   -- outputs that agree are written alike
   pub written-same : (w k n : ℕ) (audio : List A) (a b : List (List A)) → length a ≡ length b → ((c i : ℕ) → c < k → i < length a → getD (getD a i []) c none ≡ getD (getD b i []) c none)
       → written none w k n audio a ≡ written none w k n audio b

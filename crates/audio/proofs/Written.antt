@@ -17,8 +17,8 @@ use Rattle.audio.specs.Format.{sampleBytes, sampleOf, bytesFor, sizeOf, 
 use Rattle.audio.specs.Inner.{PlacesCarried, Scattered}
 use Rattle.audio.specs.declared.format.Format.{Format}
 use Rattle.audio.proofs.Carry.{places-end}
-use Rattle.audio.proofs.Planes.{frames-map, frames-at-length, frames-place, frames-same, written-length, written-none, written-there, written-past, written-same, planes-same, scattered}
-use Rattle.audio.proofs.Places.{Each, Sized, each-map, written-each, joined-length, bytes-for-length, samples-count, places-sized, places-joined, sample-at, bytes-count, places-fit, joined-places, size-same}
+use Rattle.audio.proofs.Planes.{frames-map, frames-at-length, frames-place, frames-same, written-length, written-none, written-there, written-past, written-same, scattered}
+use Rattle.audio.proofs.Places.{Each, Sized, each-map, written-each, joined-length, bytes-for-length, places-sized, places-joined, sample-at, bytes-count, places-fit, joined-places, size-same}
 
 -- a block's size is no `largest`
 pub size-small : (k w : ℕ) → k ≤ 8 → w ≤ 65536 → k * w < largest
@@ -139,28 +139,6 @@ module _ (format : Format) where
             sample-of
             ∙ ap (sampleOf format) (written-past none w n short k c i (placesOf format bytes) (inBytes outputs) many enough h l g)
             ∙ sym (sample-at format bytes (c * w + i) (rw places-many place) none)
-
-      -- the samples of written bytes are written samples, where each output is had back from its bytes
-      pub samples-written : ((i c : ℕ) → (let x = getD (getD outputs i []) c nan in sampleOf format (bytesFor format x) ≡ x)) → samplesOf format after ≡ written nan w k n (samplesOf format bytes) outputs
-      samples-written good =
-          planes-same nan w k (samplesOf format after) (written nan w k n (samplesOf format bytes) outputs)
-          (samples-count format after ∙ places-fit format after (k * w) written-bytes-size small)
-          (written-length nan w k n (samplesOf format bytes) outputs short m enough' ∙ samples-many)
-          (λ c i h g. go c i h g (ltb i n) refl)
-        where
-          samples-many : length (samplesOf format bytes) ≡ k * w
-          samples-many = samples-count format bytes ∙ places-many
-
-          enough' : k * w ≤ length (samplesOf format bytes)
-          enough' = omega (arith, samples-many)
-
-          go : (c i : ℕ) → c < k → i < w → (b : Bool) → ltb i n ≡ b → getD (samplesOf format after) (c * w + i) nan ≡ getD (written nan w k n (samplesOf format bytes) outputs) (c * w + i) nan
-          go c i h g true e =
-              let l = ltb-true i n e in
-              sample-there c i h g l ∙ good i c ∙ sym (written-there nan w n short k c i (samplesOf format bytes) outputs m enough' h l)
-          go c i h g false e =
-              let l = ltb-false i n e in
-              sample-past c i h g l ∙ sym (written-past nan w n short k c i (samplesOf format bytes) outputs m enough' h l g)
 
     -- frames that were not written yet are as they were
     pub samples-ahead : (first n : ℕ) (outputs : List (List Float)) → length outputs ≡ first → first + n ≤ w

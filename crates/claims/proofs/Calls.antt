@@ -1,18 +1,21 @@
 -- State and stores tied to the book: what the tie says, what finished and refused calls come to, and the parameter call.
-use mathlib.Core.Path.{_≡_, refl, sym, subst, _∙_}
+use mathlib.Core.Path.{_≡_, refl, sym, ap, subst, _∙_}
 use mathlib.Core.Bool.{Bool, true, false, cond, not}
 use mathlib.Core.List.{List, [], _∷_}
-use Prim.Native.Nat.{ℕ, zero, suc, _≤_}
+use Prim.Native.Nat.{ℕ, zero, suc, _*_, _≤_, _<_}
 use native.Mathlib.Omega.{arith}
 use lib.Dec.{eqb, leb}
 use lib.ListN.{length, drop}
 use lib.Ieee.{Float}
 use lib.Ieee.Scale.{finite}
-use borrow.Author.Tests.{eqb-true, eqb-false, ne-eqb, le-leb}
-use Rattle.arithmetic.specs.Number.{one}
-use Rattle.arithmetic.specs.Reply.{Reply, finished, refused, count, float}
+use borrow.Author.Tests.{eqb-true, eqb-false, ne-eqb, leb-true, le-leb}
+use Rattle.arithmetic.specs.Number.{largest}
+use Rattle.arithmetic.specs.Reply.{Reply, finished, refused, count, float, andThen, must}
+use Rattle.audio.specs.declared.format.Format.{Format}
+use Rattle.audio.specs.declared.format.Format.the-variants.{F64}
+use Rattle.settings.specs.Accepted.{blockTaken}
 use Rattle.settings.specs.declared.LimiterSettings.{LimiterSettings}
-use Rattle.frame.specs.Rules.{Rules}
+use Rattle.frame.specs.Rules.{linkingOf, rulesOf}
 use Rattle.limiter.specs.Stores.{Stores}
 use Rattle.limiter.specs.Run.{movingOf}
 use Rattle.limiter.specs.declared.state.Limiter.{Limiter}
@@ -22,63 +25,75 @@ use Rattle.bank.specs.Bank.{oneChanged, valueOf}
 use Rattle.bank.specs.declared.smoother.Smoother.{Smoother}
 use Rattle.bank.specs.declared.smoother_bank.SmootherBank.{SmootherBank}
 use Rattle.driver.specs.Machine.{Machine, machineOf, readyRefusal}
-use Rattle.driver.specs.Block.{Outcome, outputsOf, refusedAs, andThen, must}
+use Rattle.driver.specs.Block.{rendered, renderedIn, Outcome, outputsOf, refusedAs}
+use Rattle.driver.proofs.Rendering.{audio-small}
 use Rattle.driver.specs.Calls.{left, settled, parameterReply, parameterOf}
-use Rattle.claims.specs.Session.{Call, parameter, audioIn, silently, called, limiting}
+use Rattle.claims.specs.Session.{Call, parameter, bytesIn, silently, called, limiting}
 use Rattle.claims.specs.Book.{Joined, Book, lookIn, coeffIn}
 use Rattle.claims.specs.BookCalls.{joinAll, lastTarget, grown, Entry, passedOver, entered, parameterJudged, parameterEntered, enter, valueIn}
-use Rattle.claims.specs.Claim.{FramesHold, Given, widthOf, CallHolds}
+use Rattle.claims.specs.Claim.{FramesHold, Given, widthOf, formatOf, rulesIn, CallHolds}
 use Rattle.claims.proofs.Tied.{MovingTied}
 use Rattle.claims.proofs.Turned.{Kernel, Steady, same-steady, Suited, frames-taken}
 use Rattle.claims.proofs.Machines.{Sound, OneParameter, immediate-sound, Whole, first-slot, whole-of, whole-set-up, whole-ready, whole-values}
 
-pub record Tied (rules : Rules) (b : Book) (m : Machine) : Type 0 where
+pub record Tied (b : Book) (m : Machine) : Type 0 where
   pub settings : m .limiter .settings ≡ b .settings
-  pub rate : m .limiter .rate ≡ b .rate
-  pub channels : m .limiter .channels ≡ b .channels
-  pub largest : m .limiter .«max_block» ≡ b .largest
+  pub rate : m .limiter .rate ≡ b .spec .rate
+  pub channels : m .limiter .channels ≡ b .spec .channels
+  pub largest : m .limiter .«max_block» ≡ b .spec .«max_block»
   pub weights : m .stores .weights ≡ b .weights
   -- exactly, as setup and reset leave it; 18 judges it by its bits
   pub coeff : m .limiter .«release_coeff» ≡ coeffIn b
   pub ready : readyRefusal m ≡ 0
-  pub moving : MovingTied rules (lookIn b) (b .channels) (b .weights) (coeffIn b) (movingOf (m .limiter) (m .stores)) (b .frames)
+  pub moving : MovingTied (linkingOf (b .settings)) (lookIn b) (b .spec .channels) (b .weights) (coeffIn b) (movingOf (m .limiter) (m .stores)) (b .frames)
   pub slots : m .bank .smoothers ≡ b .threshold ∷ drop 1 (m .bank .smoothers)
   pub target : m .limiter .target ≡ b .target
   pub drained : m .limiter .drained ≡ b .drained
 
 -- ---- what the tie says
-module _ (rules : Rules) (b : Book) (m : Machine) (t : Tied rules b m) where
+module _ (b : Book) (m : Machine) (t : Tied b m) where
   pub tied-whole : Whole (b .threshold) m
   tied-whole = subst (λ (s : Smoother). Whole s m) (first-slot (b .threshold) (m .bank) (t .slots)) (whole-of m (t .ready))
 
   pub tied-look : m .limiter .env .keeper .look ≡ lookIn b
   tied-look = prepared-is (m .limiter) (tied-whole .kernel .set-up) .look-is ∙ rw (t .settings, t .rate) refl
 
-  pub tied-suited : Suited (lookIn b) (b .channels) (b .weights) (coeffIn b) (m .limiter) (m .stores)
+  pub tied-suited : Suited (lookIn b) (b .spec .channels) (b .weights) (coeffIn b) (m .limiter) (m .stores)
   tied-suited = record { look-is = tied-look; channels-is = t .channels; weights-is = t .weights; coeff-is = t .coeff }
 
   pub tied-frames : m .limiter .env .keeper .frame ≡ length (b .frames)
-  tied-frames = frames-taken rules (lookIn b) (b .channels) (b .weights) (coeffIn b) (movingOf (m .limiter) (m .stores)) (b .frames) (t .moving)
+  tied-frames = frames-taken (linkingOf (b .settings)) (lookIn b) (b .spec .channels) (b .weights) (coeffIn b) (movingOf (m .limiter) (m .stores)) (b .frames) (t .moving)
+
+  pub tied-largest : b .spec .«max_block» ≤ 65536
+  tied-largest = leb-true (b .spec .«max_block») 65536 (subst (λ (n : ℕ). blockTaken n ≡ true) (t .largest) (prepared-is (m .limiter) (tied-whole .kernel .set-up) .rules .block-is))
+
+  -- frames are rendered by the book's rules
+  pub tied-renders : (format : Format) → rendered (rulesOf (b .settings) format) ≡ renderedIn format m
+  tied-renders format = ap (λ (s : LimiterSettings). rendered (rulesOf s format)) (sym (t .settings))
+
+  -- a block's or a drain's audio is no `largest`
+  pub tied-small : (frames : ℕ) → frames ≤ 65536 → b .spec .channels * frames < largest
+  tied-small frames short = subst (λ (c : ℕ). c * frames < largest) (t .channels) (audio-small (m .limiter) frames (tied-whole .kernel .set-up) short)
 
   pub tied-values : (id : ℕ) → valueOf (m .bank) id ≡ valueIn b id
   tied-values id = whole-values m (b .threshold) tied-whole id
 
 -- ---- what a call leaves that takes the frames js
-module _ (rules : Rules) (b : Book) (m : Machine) (t : Tied rules b m) (after : Limiter) (left : Stores) (bank : SmootherBank) (threshold : Smoother) (drained : ℕ) (js : List Joined) where
+module _ (b : Book) (m : Machine) (t : Tied b m) (after : Limiter) (left : Stores) (bank : SmootherBank) (threshold : Smoother) (drained : ℕ) (js : List Joined) where
   pub record Grown : Type 0 where
     pub steady : Steady (m .limiter) (m .stores) after left
     pub kernel : Kernel after left
     pub one : OneParameter threshold bank
     pub rate : bank .rate ≡ m .bank .rate
     pub sound : Sound (m .limiter .rate) (m .limiter .settings) threshold
-    pub moving : MovingTied rules (lookIn b) (b .channels) (b .weights) (coeffIn b) (movingOf after left) (joinAll (b .frames) js)
+    pub moving : MovingTied (linkingOf (b .settings)) (lookIn b) (b .spec .channels) (b .weights) (coeffIn b) (movingOf after left) (joinAll (b .frames) js)
     pub target : after .target ≡ lastTarget (b .target) js
     pub drained-is : after .drained ≡ drained
 
-  pub grown-tied : Grown → Tied rules (grown b threshold drained js) (machineOf after bank left)
+  pub grown-tied : Grown → Tied (grown b threshold drained js) (machineOf after bank left)
   grown-tied g =
       let k = g .steady in
-      let w = tied-whole rules b m t in
+      let w = tied-whole b m t in
       let s = subst (λ (z : LimiterSettings). Sound (after .rate) z threshold) (sym (k .settings)) (subst (λ (n : ℕ). Sound n (m .limiter .settings) threshold) (sym (k .rate)) (g .sound)) in
       record {
         settings = k .settings ∙ t .settings;
@@ -116,25 +131,13 @@ never-then r next first later = go (eqb (r .number) 0)
     go true = later
     go false = first
 
--- a reply that is finished passes its tests
-pub passed-then : (r next : Reply) → andThen r next .number ≡ 0 → (r .number ≡ 0) × (next .number ≡ 0)
-passed-then r next z = go (eqb (r .number) 0) refl z
-  where
-    go : (p : Bool) → eqb (r .number) 0 ≡ p → cond p next r .number ≡ 0 → (r .number ≡ 0) × (next .number ≡ 0)
-    go true h k = (eqb-true (r .number) 0 h, k)
-    go false h k = absurd (eqb-false (r .number) 0 h k)
-
-pub passed-must : (p : Bool) (n : ℕ) → must p (suc n) .number ≡ 0 → p ≡ true
-passed-must true n z = refl
-passed-must false n z = absurd (omega arith)
-
 -- the claim of one call, and the tie after it
-pub record Done (rules : Rules) (b : Book) (m : Machine) (call : Call) (o : Outcome) (e : Entry) : Type 0 where
-  pub holds : CallHolds rules b m call o e
-  pub tied : Tied rules (e .book) (o .machine)
+pub record Done (b : Book) (m : Machine) (call : Call) (o : Outcome) (e : Entry) : Type 0 where
+  pub holds : CallHolds b m call o e
+  pub tied : Tied (e .book) (o .machine)
 
-module _ (rules : Rules) (b : Book) (m : Machine) (t : Tied rules b m) (call : Call) where
-  pub refused-done : (r : Reply) → (r .number ≡ 0 → ⊥) → Never (r .number) → Done rules b m call (refusedAs r m (audioIn call)) (passedOver r b)
+module _ (b : Book) (m : Machine) (t : Tied b m) (call : Call) where
+  pub refused-done : (r : Reply) → (r .number ≡ 0 → ⊥) → Never (r .number) → Done b m call (refusedAs r m (bytesIn call)) (passedOver r b)
   refused-done r some never = record {
     holds = record {
       reply = refl;
@@ -143,13 +146,13 @@ module _ (rules : Rules) (b : Book) (m : Machine) (t : Tied rules b m) (call : C
       ready = t .ready;
       frames = tt;
       audio = λ z. absurd (some z);
-      values = tied-values rules b m t;
+      values = tied-values b m t;
     };
     tied = t;
   }
 
-  pub finished-done : (o : Outcome) (e : Entry) → o .reply ≡ e .reply → o .reply .number ≡ 0 → FramesHold rules (lookIn b) (b .channels) (b .weights) (coeffIn b) (b .frames) (e .joined) (o .frames)
-      → Given (b .channels) (widthOf call) (length (e .joined)) (outputsOf (o .frames)) (audioIn call) (o .audio) → Tied rules (e .book) (o .machine) → Done rules b m call o e
+  pub finished-done : (o : Outcome) (e : Entry) → o .reply ≡ e .reply → o .reply .number ≡ 0 → FramesHold (rulesIn b call) (lookIn b) (b .spec .channels) (b .weights) (coeffIn b) (b .frames) (e .joined) (o .frames)
+      → Given (formatOf call) (b .spec .channels) (widthOf call) (length (e .joined)) (outputsOf (o .frames)) (bytesIn call) (o .bytes) → Tied (e .book) (o .machine) → Done b m call o e
   finished-done o e r z f g after = record {
     holds = record {
       reply = r;
@@ -158,35 +161,35 @@ module _ (rules : Rules) (b : Book) (m : Machine) (t : Tied rules b m) (call : C
       ready = after .ready;
       frames = f;
       audio = λ h. g;
-      values = tied-values rules (e .book) (o .machine) after;
+      values = tied-values (e .book) (o .machine) after;
     };
     tied = after;
   }
 
   -- by the reply, which is the book's
-  pub by-reply : (r : Reply) (o : Outcome) (e : Entry) → Never (r .number) → (r .number ≡ 0 → Done rules b m call o e)
-      → Done rules b m call (cond (eqb (r .number) 0) o (refusedAs r m (audioIn call))) (entered r e b)
+  pub by-reply : (r : Reply) (o : Outcome) (e : Entry) → Never (r .number) → (r .number ≡ 0 → Done b m call o e)
+      → Done b m call (cond (eqb (r .number) 0) o (refusedAs r m (bytesIn call))) (entered r e b)
   by-reply r o e never done = go (eqb (r .number) 0) refl
     where
-      go : (p : Bool) → eqb (r .number) 0 ≡ p → Done rules b m call (cond p o (refusedAs r m (audioIn call))) (cond p e (passedOver r b))
+      go : (p : Bool) → eqb (r .number) 0 ≡ p → Done b m call (cond p o (refusedAs r m (bytesIn call))) (cond p e (passedOver r b))
       go true h = done (eqb-true (r .number) 0 h)
       go false h = refused-done r (eqb-false (r .number) 0 h) never
 
 -- a call without audio gives nothing out
-pub no-audio : (b : Book) → Given (b .channels) 0 0 [] [] []
-no-audio b = record { as-long = refl; placed = λ c i h k. absurd (omega arith); others = λ c i h k l. absurd (omega arith) }
+pub no-audio : (b : Book) → Given F64 (b .spec .channels) 0 0 [] [] []
+no-audio b = record { as-long = refl; placed = λ c i h k. absurd (omega arith); worth = λ c i h k. absurd (omega arith); others = λ c i h k l. absurd (omega arith) }
 
 -- ---- a parameter call
-module _ (rules : Rules) (b : Book) (m : Machine) (t : Tied rules b m) where
-  parameter-set : (v : Float) → finite v ≡ true → Done rules b m (parameter 0 v) (silently (left (finished []) (machineOf (m .limiter) (oneChanged (immediateSet v) 0 (m .bank)) (m .stores)))) (parameterEntered b v)
+module _ (b : Book) (m : Machine) (t : Tied b m) where
+  parameter-set : (v : Float) → finite v ≡ true → Done b m (parameter 0 v) (silently (left (finished []) (machineOf (m .limiter) (oneChanged (immediateSet v) 0 (m .bank)) (m .stores)))) (parameterEntered b v)
   unfolding joinAll lastTarget
   parameter-set v h =
-      let w = tied-whole rules b m t in
+      let w = tied-whole b m t in
       let new = immediateSet v (b .threshold) in
       let bank = oneChanged (immediateSet v) 0 (m .bank) in
       let slots : bank .smoothers ≡ new ∷ drop 1 (bank .smoothers) = rw (t .slots) refl in
-      finished-done rules b m t (parameter 0 v) _ (parameterEntered b v) refl refl tt (no-audio b)
-      (grown-tied rules b m t (m .limiter) (m .stores) bank new (b .drained) []
+      finished-done b m t (parameter 0 v) _ (parameterEntered b v) refl refl tt (no-audio b)
+      (grown-tied b m t (m .limiter) (m .stores) bank new (b .drained) []
       (record {
         steady = same-steady (m .limiter) (m .stores);
         kernel = w .kernel;
@@ -206,20 +209,20 @@ module _ (rules : Rules) (b : Book) (m : Machine) (t : Tied rules b m) where
   parameter-reply : (id : ℕ) (v : Float) → parameterReply m id v ≡ parameterJudged id v
   unfolding parameterReply
   parameter-reply id v =
-      let w = tied-whole rules b m t in
+      let w = tied-whole b m t in
       rw (whole-set-up m (b .threshold) w, w .one .count, only-first id) refl
 
-  pub parameter-done : (id : ℕ) (v : Float) → Done rules b m (parameter id v) (called (limiting rules) m (parameter id v)) (enter b (parameter id v))
+  pub parameter-done : (id : ℕ) (v : Float) → Done b m (parameter id v) (called limiting m (parameter id v)) (enter b (parameter id v))
   unfolding enter parameterOf
   parameter-done id v =
-      subst (λ (r : Reply). Done rules b m (parameter id v) (silently (settled r (machineOf (m .limiter) (oneChanged (immediateSet v) id (m .bank)) (m .stores)) m)) (enter b (parameter id v)))
+      subst (λ (r : Reply). Done b m (parameter id v) (silently (settled r (machineOf (m .limiter) (oneChanged (immediateSet v) id (m .bank)) (m .stores)) m)) (enter b (parameter id v)))
       (sym (parameter-reply id v)) (go id (finite v) refl)
     where
       go : (id : ℕ) (f : Bool) → finite v ≡ f
-          → Done rules b m (parameter id v) (silently (settled (parameterJudged id v) (machineOf (m .limiter) (oneChanged (immediateSet v) id (m .bank)) (m .stores)) m))
+          → Done b m (parameter id v) (silently (settled (parameterJudged id v) (machineOf (m .limiter) (oneChanged (immediateSet v) id (m .bank)) (m .stores)) m))
           (entered (parameterJudged id v) (parameterEntered b v) b)
-      go id false h = rw h (refused-done rules b m t (parameter id v) (refused 23 (count id ∷ float v ∷ [])) (λ z. omega arith) (never-later 23 (omega arith)))
+      go id false h = rw h (refused-done b m t (parameter id v) (refused 23 (count id ∷ float v ∷ [])) (λ z. omega arith) (never-later 23 (omega arith)))
       go zero true h = rw h (parameter-set v h)
       go (suc id) true h =
           rw (h, ne-eqb (suc id) 0 (λ z. omega arith))
-          (refused-done rules b m t (parameter (suc id) v) (refused 24 []) (λ z. omega arith) (never-later 24 (omega arith)))
+          (refused-done b m t (parameter (suc id) v) (refused 24 []) (λ z. omega arith) (never-later 24 (omega arith)))

@@ -1,8 +1,7 @@
--- THE CLAIM, proved: demand 3 holds of the driver's definitions, for any taps, output rule and choice of channels.
+-- THE CLAIM, proved: demand 3 holds of the driver's definitions.
 use mathlib.Core.Path.{sym, ap, _∙_, refl}
 use mathlib.Core.List.{List, [], _∷_}
 use Rattle.arithmetic.specs.Reply.{Reply}
-use Rattle.frame.specs.Rules.{Rules}
 use Rattle.driver.specs.Machine.{Machine}
 use Rattle.claims.specs.Session.{Call, block, drain, parameter, reset, limiting, called}
 use Rattle.claims.specs.Book.{Book}
@@ -14,28 +13,27 @@ use Rattle.claims.proofs.Blocks.{block-done}
 use Rattle.claims.proofs.Starts.{reset-answers, reset-keeps, reset-threshold, reset-opened, reset-done}
 use Rattle.claims.proofs.Setups.{setup-left-alone, setup-tied}
 
-module _ (rules : Rules) where
-  -- one call
-  pub call-done : (b : Book) (m : Machine) → Tied rules b m → (call : Call) → Done rules b m call (called (limiting rules) m call) (enter b call)
-  call-done b m t (block position frames events audio) = block-done rules b m t position frames events audio
-  call-done b m t (drain frames audio) = drain-done rules b m t frames audio
-  call-done b m t (parameter id v) = parameter-done rules b m t id v
-  call-done b m t reset = reset-done rules b m t
+-- one call
+pub call-done : (b : Book) (m : Machine) → Tied b m → (call : Call) → Done b m call (called limiting m call) (enter b call)
+call-done b m t (block format position frames events bytes) = block-done b m t format position frames events bytes
+call-done b m t (drain format frames bytes) = drain-done b m t format frames bytes
+call-done b m t (parameter id v) = parameter-done b m t id v
+call-done b m t reset = reset-done b m t
 
-  -- and every list of them
-  pub calls-hold : (calls : List Call) (b : Book) (m : Machine) → Tied rules b m → Holds rules (limiting rules) b m calls
-  calls-hold [] b m t = tt
-  calls-hold (call ∷ calls) b m t =
-      let d = call-done b m t call in
-      (d .holds, calls-hold calls (enter b call .book) (called (limiting rules) m call .machine) (d .tied))
+-- and every list of them
+pub calls-hold : (calls : List Call) (b : Book) (m : Machine) → Tied b m → Holds limiting b m calls
+calls-hold [] b m t = tt
+calls-hold (call ∷ calls) b m t =
+    let d = call-done b m t call in
+    (d .holds, calls-hold calls (enter b call .book) (called limiting m call .machine) (d .tied))
 
-  pub claim : Claim rules (limiting rules)
-  claim = record {
-    after-setup = λ s rate channels largest cap stores z calls. calls-hold calls _ _ (setup-tied s rate channels largest cap stores rules z);
-    setup-answered = λ s rate channels largest cap stores. refl;
-    setup-refused = setup-left-alone;
-    reset-answered = reset-answers;
-    reset-refused = reset-keeps;
-    reset-bank = reset-threshold;
-    after-reset = λ m z calls. calls-hold calls _ _ (reset-opened m (sym (ap (λ (r : Reply). r .number) (reset-answers m)) ∙ z) rules);
-  }
+pub claim : Claim limiting
+claim = record {
+  after-setup = λ s spec stores z calls. calls-hold calls _ _ (setup-tied s spec stores z);
+  setup-answered = λ s spec stores. refl;
+  setup-refused = setup-left-alone;
+  reset-answered = reset-answers;
+  reset-refused = reset-keeps;
+  reset-bank = reset-threshold;
+  after-reset = λ m z calls. calls-hold calls _ _ (reset-opened m (sym (ap (λ (r : Reply). r .number) (reset-answers m)) ∙ z));
+}

@@ -134,8 +134,8 @@ lines-start look c (suc k) =
     let e : look + k * look ≡ suc k * look = omega (arith, suc-mul k look) in
     rw (line-start [] look, silent-back 0 look, lines-start look (c + 1) k) (replicate-append-replicate look (k * look) Number.zero ∙ ap (λ (n : ℕ). replicate n Number.zero) e)
 
-pub delay-start : (look channels : ℕ) → 0 < look → DelayTied look channels 0 (replicate (channels * look) Number.zero) []
-delay-start look channels h = record { lines = sym (lines-start look 0 channels) }
+pub delay-start : (look channels : ℕ) → DelayTied look channels 0 (replicate (channels * look) Number.zero) []
+delay-start look channels = record { lines = sym (lines-start look 0 channels) }
 
 -- ---- one frame more
 module _ (rules : Rules) (look pos : ℕ) (gain : Float) (h : pos < look) (fs : List Joined) (ys : List Float) (target : Float) where
@@ -159,20 +159,20 @@ module _ (rules : Rules) (look pos : ℕ) (gain : Float) (h : pos < look) (fs : 
   givenBefore c x later = record { outputs = given c x ∷ later .outputs; delay = lineOf look (nextPos look pos) (x ∷ channelOf c fs) ++ later .delay }
 
   turn : (c : ℕ) (x : Float) (xs : List Float)
-      → delayedFrom rules look pos gain (linesFrom look pos c (suc (length xs)) fs) (x ∷ xs) ≡ givenBefore c x (delayedFrom rules look pos gain (linesFrom look pos (c + 1) (length xs) fs) xs)
+      → delayedFrom (rules .leaves) look pos gain (linesFrom look pos c (suc (length xs)) fs) (x ∷ xs) ≡ givenBefore c x (delayedFrom (rules .leaves) look pos gain (linesFrom look pos (c + 1) (length xs) fs) xs)
   unfolding delayedFrom linesFrom
   turn c x xs =
       let s = channelOf c fs in
       let line = lineOf look pos s in
       let rest = linesFrom look pos (c + 1) (length xs) fs in
       let n = line-length s look pos h in
-      let later = delayedFrom rules look pos gain rest xs in
+      let later = delayedFrom (rules .leaves) look pos gain rest xs in
       let left = lineOf look (nextPos look pos) (x ∷ s) ++ later .delay in
       rw (take-at line rest look n, drop-at line rest look n, line-set s x look pos h)
       (ap {B = Delayed} (λ (d : Float). record { outputs = rules .leaves (mul binary64 d gain) ∷ later .outputs; delay = left }) (line-read s look pos h x))
 
   delayed-from : (c : ℕ) (xs : List Float) → drop c ys ≡ xs
-      → delayedFrom rules look pos gain (linesFrom look pos c (length xs) fs) xs
+      → delayedFrom (rules .leaves) look pos gain (linesFrom look pos c (length xs) fs) xs
       ≡ record { outputs = leavingFrom rules look gain c (length xs) joined; delay = linesFrom look (nextPos look pos) c (length xs) joined }
   delayed-from c [] at = unfold delayedFrom linesFrom leavingFrom in refl
   delayed-from c (x ∷ xs) at =
@@ -181,7 +181,7 @@ module _ (rules : Rules) (look pos : ℕ) (gain : Float) (h : pos < look) (fs : 
       (turn c x xs ∙ ap (givenBefore c x) (delayed-from (c + 1) xs (samples-later c ys x xs at)))
 
 pub delay-step : (rules : Rules) (look channels pos : ℕ) (gain : Float) (delay : List Float) (fs : List Joined) (xs : List Float) (target : Float) → length xs ≡ channels → pos < look
-    → length delay ≡ channels * look → DelayTied look channels pos delay fs
-    → (delayedFrom rules look pos gain delay xs .outputs ≡ leavingFrom rules look gain 0 channels (record { samples = xs; target = target } ∷ fs))
-    × DelayTied look channels (nextPos look pos) (delayedFrom rules look pos gain delay xs .delay) (record { samples = xs; target = target } ∷ fs)
-delay-step rules look channels pos gain delay fs xs target n h l t = rw (t .lines, sym n) (rw (delayed-from rules look pos gain h fs xs target 0 xs refl) (refl, record { lines = refl }))
+    → DelayTied look channels pos delay fs
+    → (delayedFrom (rules .leaves) look pos gain delay xs .outputs ≡ leavingFrom rules look gain 0 channels (record { samples = xs; target = target } ∷ fs))
+    × DelayTied look channels (nextPos look pos) (delayedFrom (rules .leaves) look pos gain delay xs .delay) (record { samples = xs; target = target } ∷ fs)
+delay-step rules look channels pos gain delay fs xs target n h t = rw (t .lines, sym n) (rw (delayed-from rules look pos gain h fs xs target 0 xs refl) (refl, record { lines = refl }))

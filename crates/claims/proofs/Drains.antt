@@ -9,30 +9,30 @@ use lib.ListN.{length, replicate, length-replicate, length-map}
 use lib.Ieee.{Float}
 use borrow.Author.Tests.{eqb-true, leb-true, le-leb, lt-ltb}
 use Rattle.arithmetic.specs.Number
-use Rattle.arithmetic.specs.Number.{one}
-use Rattle.arithmetic.specs.Reply.{Reply, finished, count}
+use Rattle.arithmetic.specs.Reply.{Reply, finished, count, must}
 use Rattle.arithmetic.proofs.Order.{and-true}
+use Rattle.arithmetic.proofs.Passed.{passed-must, passed-then}
+use Rattle.audio.specs.Format.{sizeOf, writtenBytes}
+use Rattle.audio.specs.declared.format.Format.{Format}
 use Rattle.keeper.specs.InOrder.{mostFrames}
-use Rattle.frame.specs.Rules.{Rules}
+use Rattle.frame.specs.Rules.{Rules, rulesOf}
 use Rattle.frame.specs.Frame.{Framed}
-use Rattle.frame.proofs.Keeps.{frames-many}
 use Rattle.limiter.specs.Stores.{Stores}
 use Rattle.limiter.specs.Order.{prepared, inOrder}
-use Rattle.limiter.specs.Run.{movingOf}
 use Rattle.limiter.specs.declared.state.Limiter.{Limiter}
 use Rattle.limiter.proofs.Frames.{order-is}
 use Rattle.driver.specs.Machine.{Machine, machineOf}
-use Rattle.driver.specs.Planar.{written}
-use Rattle.driver.specs.Block.{Rendered, rendered, Outcome, outputsOf, refusedAs, must}
+use Rattle.driver.specs.Block.{Renderer, Rendered, rendered, Outcome, outputsOf, refusedAs}
 use Rattle.driver.specs.Drain.{longestDrain, drainReply, drainable, doneAt, withDrained, silence, drainDone, drainBy}
+use Rattle.driver.proofs.Rendering
 use Rattle.claims.specs.Session.{drain, limiting, called}
 use Rattle.claims.specs.Book.{Joined, Book, lookIn, coeffIn}
 use Rattle.claims.specs.BookCalls.{lastTarget, silentFrame, grown, Entry, drainJudged, drainEntered, enter}
 use Rattle.claims.specs.Claim.{Given}
 use Rattle.claims.proofs.Tied.{AllLong, joinedAt}
 use Rattle.claims.proofs.Turned.{Kernel, Holding, rendered-holds}
-use Rattle.claims.proofs.Given.{given}
-use Rattle.claims.proofs.Calls.{Tied, tied-whole, tied-look, tied-suited, tied-frames, never-must, never-then, passed-then, passed-must, Done, finished-done, by-reply, grown-tied}
+use Rattle.claims.proofs.Given.{outputs-back, given}
+use Rattle.claims.proofs.Calls.{Tied, tied-whole, tied-look, tied-suited, tied-frames, tied-small, tied-renders, never-must, never-then, Done, finished-done, by-reply, grown-tied}
 
 -- ---- silence
 silent-long : (channels n : ℕ) → AllLong channels (silence channels n)
@@ -61,11 +61,14 @@ drained-kernel l s drained h k =
       order = rw (o .ring-is, o .row-is, lt-ltb (l .«delay_pos») look (o .place), le-leb drained look h, o .gain-is, o .target-is) refl;
     }
 
-module _ (rules : Rules) (b : Book) (m : Machine) (t : Tied rules b m) (frames : ℕ) (audio : List Float) where
+module _ (b : Book) (m : Machine) (t : Tied b m) (format : Format) (frames : ℕ) (bytes : List ℕ) where
+  abbrev rules : Rules
+  rules = rulesOf (b .settings) format
+
   -- ---- the reply
-  drain-reply : drainReply m frames (length audio) ≡ drainJudged b frames (length audio)
+  drain-reply : drainReply m frames (sizeOf format bytes) ≡ drainJudged b frames (sizeOf format bytes)
   unfolding drainReply
-  drain-reply = rw (t .ready, t .channels, tied-frames rules b m t) refl
+  drain-reply = rw (t .ready, t .channels, tied-frames b m t) refl
 
   -- ---- n frames of silence
   abbrev shown : ℕ → Rendered
@@ -78,7 +81,7 @@ module _ (rules : Rules) (b : Book) (m : Machine) (t : Tied rules b m) (frames :
       record {
         reply = finished (count n ∷ count (doneAt l (l .drained + n)) ∷ []);
         machine = machineOf (withDrained (r .limiter) (l .drained + n)) (m .bank) (r .stores);
-        audio = written frames (l .channels) n audio (outputsOf (r .frames));
+        bytes = writtenBytes format frames (l .channels) n bytes (outputsOf (r .frames));
         frames = r .frames;
       }
 
@@ -95,41 +98,42 @@ module _ (rules : Rules) (b : Book) (m : Machine) (t : Tied rules b m) (frames :
   silent-is n = silent-joined (m .limiter .target) (m .limiter .channels) n ∙ rw (t .target, t .channels) refl
 
   module _ (n : ℕ) (room : length (b .frames) + n ≤ mostFrames) where
-    drain-holds : Holding rules (lookIn b) (b .channels) (b .weights) (coeffIn b) (m .limiter) (m .stores) (b .frames) (replicate n (silentFrame b)) (shown n)
+    drain-holds : Holding rules (lookIn b) (b .spec .channels) (b .weights) (coeffIn b) (m .limiter) (m .stores) (b .frames) (replicate n (silentFrame b)) (shown n)
     drain-holds =
-        let k = tied-whole rules b m t .kernel in
+        let k = tied-whole b m t .kernel in
         let o = order-is (m .limiter) (m .stores .marks) (m .stores .minima) (m .stores .row) (k .order) in
         let many : length (silence (m .limiter .channels) n) ≡ n = length-replicate n (replicate (m .limiter .channels) Number.zero) in
-        subst (λ (js : List Joined). Holding rules (lookIn b) (b .channels) (b .weights) (coeffIn b) (m .limiter) (m .stores) (b .frames) js (shown n)) (silent-is n)
-        (rendered-holds rules (lookIn b) (b .channels) (b .weights) (coeffIn b) (silence (m .limiter .channels) n) (m .limiter .target) (m .limiter) (m .stores) (b .frames) (tied-suited rules b m t) k (t .moving)
+        subst (λ (js : List Joined). Holding rules (lookIn b) (b .spec .channels) (b .weights) (coeffIn b) (m .limiter) (m .stores) (b .frames) js (shown n)) (silent-is n)
+        (rendered-holds rules (lookIn b) (b .spec .channels) (b .weights) (coeffIn b) (silence (m .limiter .channels) n) (m .limiter .target) (m .limiter) (m .stores) (b .frames) (tied-suited b m t) k (t .moving)
         (subst (λ (c : ℕ). AllLong c (silence (m .limiter .channels) n)) (t .channels) (silent-long (m .limiter .channels) n)) (o .target-is) (omega arith))
 
     shown-many : length (outputsOf (shown n .frames)) ≡ n
-    unfolding rendered
     shown-many =
         let l = m .limiter in
-        let s = m .stores in
-        let xss = silence (l .channels) n in
         length-map (shown n .frames) (λ (f : Framed). f .outputs)
-        ∙ frames-many rules (s .weights) (l .«release_coeff») (l .env .keeper .look) (l .target) xss (movingOf l s)
+        ∙ Rendering.shown-many rules l (l .target) (m .stores) (silence (l .channels) n)
         ∙ length-replicate n (replicate (l .channels) Number.zero)
 
-    drain-given : n ≤ frames → length audio ≡ b .channels * frames
-        → Given (b .channels) frames (length (replicate n (silentFrame b))) (outputsOf (shown n .frames)) audio (written frames (m .limiter .channels) n audio (outputsOf (shown n .frames)))
-    drain-given few fit =
-        subst (λ (k : ℕ). Given (b .channels) frames k (outputsOf (shown n .frames)) audio (written frames (m .limiter .channels) n audio (outputsOf (shown n .frames)))) (sym (length-replicate n (silentFrame b)))
-        (subst (λ (c : ℕ). Given (b .channels) frames n (outputsOf (shown n .frames)) audio (written frames c n audio (outputsOf (shown n .frames)))) (sym (t .channels))
-        (given frames (b .channels) n audio (outputsOf (shown n .frames)) shown-many few fit))
+    abbrev written : ℕ → List ℕ
+    written channels = writtenBytes format frames channels n bytes (outputsOf (shown n .frames))
 
-    drain-tied : m .limiter .drained + n ≤ m .limiter .env .keeper .look → Tied rules (entryOf n .book) (drainLeft n .machine)
+    drain-given : n ≤ frames → frames ≤ longestDrain → sizeOf format bytes ≡ b .spec .channels * frames
+        → Given format (b .spec .channels) frames (length (replicate n (silentFrame b))) (outputsOf (shown n .frames)) bytes (written (m .limiter .channels))
+    drain-given few short fit =
+        subst (λ (k : ℕ). Given format (b .spec .channels) frames k (outputsOf (shown n .frames)) bytes (written (m .limiter .channels))) (sym (length-replicate n (silentFrame b)))
+        (subst (λ (c : ℕ). Given format (b .spec .channels) frames n (outputsOf (shown n .frames)) bytes (written c)) (sym (t .channels))
+        (given format frames (b .spec .channels) n bytes (outputsOf (shown n .frames)) shown-many few fit (tied-small b m t frames short)
+        (outputs-back (b .settings) format (lookIn b) (b .spec .channels) (b .weights) (coeffIn b) (b .frames) (replicate n (silentFrame b)) (shown n .frames) (drain-holds .frames))))
+
+    drain-tied : m .limiter .drained + n ≤ m .limiter .env .keeper .look → Tied (entryOf n .book) (drainLeft n .machine)
     unfolding rendered
     drain-tied most =
-        let w = tied-whole rules b m t in
+        let w = tied-whole b m t in
         let h = drain-holds in
         let r = shown n in
         let k = h .steady in
         let d = m .limiter .drained + n in
-        grown-tied rules b m t (withDrained (r .limiter) d) (r .stores) (m .bank) (b .threshold) (b .drained + n) (replicate n (silentFrame b))
+        grown-tied b m t (withDrained (r .limiter) d) (r .stores) (m .bank) (b .threshold) (b .drained + n) (replicate n (silentFrame b))
         (record {
           steady = record { settings = k .settings; rate = k .rate; channels = k .channels; largest = k .largest; look = k .look; coeff = k .coeff; weights = k .weights };
           kernel = drained-kernel (r .limiter) (r .stores) d (rw (k .look) most) (h .kernel);
@@ -141,36 +145,37 @@ module _ (rules : Rules) (b : Book) (m : Machine) (t : Tied rules b m) (frames :
           drained-is = rw (t .drained) refl;
         })
 
-    drain-left : n ≤ frames → m .limiter .drained + n ≤ m .limiter .env .keeper .look → length audio ≡ b .channels * frames → Done rules b m (drain frames audio) (drainLeft n) (entryOf n)
-    drain-left few most fit =
-        finished-done rules b m t (drain frames audio) (drainLeft n) (entryOf n) (rw (tied-look rules b m t, t .drained) refl) refl (drain-holds .frames) (drain-given few fit) (drain-tied most)
+    drain-left : n ≤ frames → frames ≤ longestDrain → m .limiter .drained + n ≤ m .limiter .env .keeper .look → sizeOf format bytes ≡ b .spec .channels * frames → Done b m (drain format frames bytes) (drainLeft n) (entryOf n)
+    drain-left few short most fit =
+        finished-done b m t (drain format frames bytes) (drainLeft n) (entryOf n) (rw (tied-look b m t, t .drained) refl) refl (drain-holds .frames) (drain-given few short fit) (drain-tied most)
 
   -- ---- the call
   -- as many frames as the book says
   as-many : drainable (m .limiter) frames ≡ min frames (lookIn b - b .drained)
-  as-many = rw (tied-look rules b m t, t .drained) refl
+  as-many = rw (tied-look b m t, t .drained) refl
 
-  drain-finished : drainJudged b frames (length audio) .number ≡ 0 → Done rules b m (drain frames audio) (drainDone (rendered rules) m frames audio) (drainEntered b frames)
+  drain-finished : drainJudged b frames (sizeOf format bytes) .number ≡ 0 → Done b m (drain format frames bytes) (drainDone (rendered rules) format m frames bytes) (drainEntered b frames)
   unfolding drainEntered
   drain-finished z =
-      let sizes = leb frames longestDrain && eqb (length audio) (b .channels * frames) in
+      let sizes = leb frames longestDrain && eqb (sizeOf format bytes) (b .spec .channels * frames) in
       let roomy = leb (length (b .frames) + frames) mostFrames in
       let p = passed-then (must sizes 20) (must roomy 22) z in
-      let q = and-true (leb frames longestDrain) (eqb (length audio) (b .channels * frames)) (passed-must sizes 19 (p .0)) in
+      let q = and-true (leb frames longestDrain) (eqb (sizeOf format bytes) (b .spec .channels * frames)) (passed-must sizes 19 (p .0)) in
       let room : length (b .frames) + frames ≤ mostFrames = leb-true (length (b .frames) + frames) mostFrames (passed-must roomy 21 (p .1)) in
       let n = drainable (m .limiter) frames in
-      let k = tied-whole rules b m t .kernel in
+      let k = tied-whole b m t .kernel in
       let o = order-is (m .limiter) (m .stores .marks) (m .stores .minima) (m .stores .row) (k .order) in
-      subst (λ (j : ℕ). Done rules b m (drain frames audio) (drainLeft n) (entryOf j)) as-many
-      (drain-left n (omega arith) (omega arith) (omega (arith, o .drained-most)) (eqb-true (length audio) (b .channels * frames) (q .1)))
+      subst (λ (j : ℕ). Done b m (drain format frames bytes) (drainLeft n) (entryOf j)) as-many
+      (drain-left n (omega arith) (omega arith) (leb-true frames longestDrain (q .0)) (omega (arith, o .drained-most)) (eqb-true (sizeOf format bytes) (b .spec .channels * frames) (q .1)))
 
-  pub drain-done : Done rules b m (drain frames audio) (called (limiting rules) m (drain frames audio)) (enter b (drain frames audio))
+  pub drain-done : Done b m (drain format frames bytes) (called limiting m (drain format frames bytes)) (enter b (drain format frames bytes))
   unfolding enter drainBy
   drain-done =
-      let call = drain frames audio in
-      let sizes = leb frames longestDrain && eqb (length audio) (b .channels * frames) in
+      let call = drain format frames bytes in
+      let sizes = leb frames longestDrain && eqb (sizeOf format bytes) (b .spec .channels * frames) in
       let roomy = leb (length (b .frames) + frames) mostFrames in
-      let done = drainDone (rendered rules) m frames audio in
-      subst (λ (r : Reply). Done rules b m call (cond (eqb (r .number) 0) done (refusedAs r m audio)) (enter b call)) (sym drain-reply)
-      (by-reply rules b m t call (drainJudged b frames (length audio)) done (drainEntered b frames)
-      (never-then (must sizes 20) (must roomy 22) (never-must sizes 20 (omega arith)) (never-must roomy 22 (omega arith))) drain-finished)
+      let doneBy : Renderer → Outcome = λ (render : Renderer). drainDone render format m frames bytes in
+      subst (λ (render : Renderer). Done b m call (drainBy render format m frames bytes) (enter b call)) (tied-renders b m t format)
+      (subst (λ (r : Reply). Done b m call (cond (eqb (r .number) 0) (doneBy (rendered rules)) (refusedAs r m bytes)) (enter b call)) (sym drain-reply)
+      (by-reply b m t call (drainJudged b frames (sizeOf format bytes)) (doneBy (rendered rules)) (drainEntered b frames)
+      (never-then (must sizes 20) (must roomy 22) (never-must sizes 20 (omega arith)) (never-must roomy 22 (omega arith))) drain-finished))

@@ -40,11 +40,6 @@ module _ (rules : Rules) (weights : List Float) (coeff : Float) (look : ℕ) (ta
   frames-look (xs ∷ fs) m = frames-look fs (frameOf rules weights coeff look target m xs .moving)
 
 module _ (rules : Rules) where
-  -- no frame: limiter and stores stay
-  pub each-none : (l : Limiter) (s : Stores) → renderEach rules l s [] ≡ record { limiter = l; stores = s; frames = [] }
-  unfolding renderEach
-  each-none l s = refl
-
   -- frames in two lists, one after the other
   pub each-append : (fs gs : List Joined) (l : Limiter) (s : Stores)
       → renderEach rules l s (fs ++ gs) ≡ (let first = renderEach rules l s fs in andLater first (renderEach rules (first .limiter) (first .stores) gs))
@@ -79,8 +74,3 @@ module _ (rules : Rules) where
   rendered-each target xs (ys ∷ fs) l s =
       let r = rendered rules l s target (xs ∷ []) in
       rendered-append target (xs ∷ []) (ys ∷ fs) l s ∙ ap (andLater r) (rendered-each target ys fs (r .limiter) (r .stores))
-
-  -- frames keep the settings
-  pub rendered-settings : (target : Float) (fs : List (List Float)) (l : Limiter) (s : Stores) → rendered rules l s target fs .limiter .settings ≡ l .settings
-  unfolding rendered
-  rendered-settings target fs l s = refl

@@ -92,15 +92,6 @@ module _ (look : ℕ) (weights : List Float) (coeff : Float) (e : Enveloped) (ga
   pub env-ready : length gains < mostFrames → EnvReady weights e
   env-ready h = record { keeper = follows-ready (e .keeping) gains (t .follows) h; row = t .row; weighed = t .weights-fit ∙ sym (t .row-fit) }
 
-  pub env-in-order : EnvInOrder weights e
-  env-in-order = record {
-    marks-fit = t .follows .marks-fit;
-    minima-fit = t .follows .minima-fit;
-    in-order = t .follows .in-order;
-    row = t .row;
-    weighed = t .weights-fit ∙ sym (t .row-fit);
-  }
-
 -- ---- the start
 down-ones : (n m : ℕ) → n ≤ m → down (replicate m one) 0 n ≡ replicate n one
 down-ones zero m h = refl

@@ -4,11 +4,10 @@ use mathlib.Core.Bool.{Bool, true, false, cond, not, _||_}
 use mathlib.Core.List.{List, [], _∷_}
 use Prim.Native.Nat.{ℕ, zero, suc, _+_}
 use native.Mathlib.Omega.{arith}
-use lib.Dec.{leb, ltb}
+use lib.Dec.{eqb, leb, ltb}
 use lib.ListN.{length}
 use lib.Ieee.{Float}
 use lib.Ieee.Scale.{finite}
-use lib.Dec.{eqb}
 use Rattle.arithmetic.specs.Reply.{refused, count}
 use Rattle.arithmetic.proofs.Order.{clash}
 use Rattle.settings.proofs.Unit.{target-unit}
@@ -17,7 +16,7 @@ use Rattle.bank.specs.Smoother.{stepped, targetSet}
 use Rattle.bank.specs.declared.smoother.Smoother.{Smoother}
 use Rattle.driver.specs.Events.{Event, misplaced, eventsReply}
 use Rattle.claims.specs.Book.{Book}
-use Rattle.claims.specs.BookCalls.{told, toldWhere, thresholdAt, stepsAt, latchesAt, samplesFrom, joiningFrom}
+use Rattle.claims.specs.BookCalls.{latch, latchWhere, thresholdAt, stepsAt, latchesAt, samplesFrom, joiningFrom}
 use Rattle.claims.proofs.Turned.{AllFit}
 use Rattle.claims.proofs.Machines.{Sound, target-sound, stepped-sound}
 
@@ -33,12 +32,12 @@ module _ (b : Book) (position width : ℕ) (events : List Event) (audio : List F
   joining-many i zero s = refl
   joining-many i (suc n) s = ap suc (joining-many (i + 1) n (thresholdAt position events i s))
 
-  pub joining-fit : (i n : ℕ) (s : Smoother) → AllFit (b .channels) (joiningFrom b position width events audio i n s .frames)
+  pub joining-fit : (i n : ℕ) (s : Smoother) → AllFit (b .spec .channels) (joiningFrom b position width events audio i n s .frames)
   unfolding joiningFrom
   joining-fit i zero s = tt
   joining-fit i (suc n) s =
       let t = thresholdAt position events i s in
-      (samples-many width i 0 (b .channels) audio, (target-unit (t .cur) (b .settings .«true_peak_margin_db»), joining-fit (i + 1) n t))
+      (samples-many width i 0 (b .spec .channels) audio, (target-unit (t .cur) (b .settings .«true_peak_margin_db»), joining-fit (i + 1) n t))
 
 -- ---- every event's value is finite where 21 does not arise
 abbrev pub AllSet : List Event → Type 0
@@ -63,20 +62,20 @@ events-set frames before index (e ∷ es) h = go (misplaced frames before e) ref
 
 -- ---- the threshold
 module _ (rate : ℕ) (settings : LimiterSettings) where
-  told-sound : (e : Event) (s : Smoother) → finite (e .value) ≡ true → Sound rate settings s → Sound rate settings (told e s)
-  told-sound e s f k = go (eqb (e .id) 0)
+  latch-sound : (e : Event) (s : Smoother) → finite (e .value) ≡ true → Sound rate settings s → Sound rate settings (latch e s)
+  latch-sound e s f k = go (eqb (e .id) 0)
     where
       go : (b : Bool) → Sound rate settings (cond b (targetSet (e .value) s) s)
       go true = target-sound rate settings s (e .value) f k
       go false = k
 
-  pub where-sound : (test : ℕ → Bool) (position : ℕ) (events : List Event) (s : Smoother) → AllSet events → Sound rate settings s → Sound rate settings (toldWhere test position events s)
-  unfolding toldWhere
+  pub where-sound : (test : ℕ → Bool) (position : ℕ) (events : List Event) (s : Smoother) → AllSet events → Sound rate settings s → Sound rate settings (latchWhere test position events s)
+  unfolding latchWhere
   where-sound test position [] s f k = k
-  where-sound test position (e ∷ es) s f k = where-sound test position es (cond (test (latchesAt position (e .offset))) (told e s) s) (f .1) (go (test (latchesAt position (e .offset))))
+  where-sound test position (e ∷ es) s f k = where-sound test position es (cond (test (latchesAt position (e .offset))) (latch e s) s) (f .1) (go (test (latchesAt position (e .offset))))
     where
-      go : (b : Bool) → Sound rate settings (cond b (told e s) s)
-      go true = told-sound e s (f .0) k
+      go : (b : Bool) → Sound rate settings (cond b (latch e s) s)
+      go true = latch-sound e s (f .0) k
       go false = k
 
   at-sound : (position : ℕ) (events : List Event) (i : ℕ) (s : Smoother) → AllSet events → Sound rate settings s → Sound rate settings (thresholdAt position events i s)
@@ -84,7 +83,7 @@ module _ (rate : ℕ) (settings : LimiterSettings) where
   at-sound position events i s f k = go (stepsAt (position + i))
     where
       t : Smoother
-      t = toldWhere (λ (g : ℕ). eqb g i) position events s
+      t = latchWhere (λ (g : ℕ). eqb g i) position events s
 
       go : (b : Bool) → Sound rate settings (cond b (stepped t) t)
       go true = stepped-sound rate settings t (where-sound (λ (g : ℕ). eqb g i) position events s f k)

@@ -15,7 +15,7 @@ use Rattle.bank.specs.declared.smoother.Smoother.{Smoother}
 use Rattle.bank.specs.declared.smoother_bank.SmootherBank.{SmootherBank}
 use Rattle.driver.specs.Events.{Event, eventsReply, latchedOne, Latched, latched, latchedAll}
 use Rattle.driver.specs.Block.{bankAt}
-use Rattle.claims.specs.BookCalls.{latchesAt, told, toldWhere, stepsAt, thresholdAt}
+use Rattle.claims.specs.BookCalls.{latchesAt, latch, latchWhere, stepsAt, thresholdAt}
 
 -- ---- positions
 -- a run opens at the block's first frame or at a multiple of 32
@@ -63,22 +63,22 @@ sorted-of frames before index (e ∷ es) h = go (leb frames (e .offset)) (ltb (e
     go false false true t later h = absurd (omega (arith, h))
     go false false false t later h = (ltb-false (e .offset) before t, later h)
 
--- ---- what the book tells
+-- ---- what the book latches
 module _ (test : ℕ → Bool) (position : ℕ) where
   -- nothing, where no frame of the rest passes its test
-  pub told-none : (k : ℕ) (w : List Event) (s : Smoother) → Sorted k w → ((x : ℕ) → k ≤ x → test (latchesAt position x) ≡ false) → toldWhere test position w s ≡ s
-  unfolding toldWhere
-  told-none k [] s sorted none = refl
-  told-none k (e ∷ es) s sorted none =
-      rw (none (e .offset) (sorted .0)) (told-none (e .offset) es s (sorted .1) (λ x h. none x (omega (arith, sorted .0))))
+  pub latch-none : (k : ℕ) (w : List Event) (s : Smoother) → Sorted k w → ((x : ℕ) → k ≤ x → test (latchesAt position x) ≡ false) → latchWhere test position w s ≡ s
+  unfolding latchWhere
+  latch-none k [] s sorted none = refl
+  latch-none k (e ∷ es) s sorted none =
+      rw (none (e .offset) (sorted .0)) (latch-none (e .offset) es s (sorted .1) (λ x h. none x (omega (arith, sorted .0))))
 
 -- ---- a bank of one parameter: the threshold, and slots that are carried
 abbrev pub bankWith : SmootherBank → List Smoother → Smoother → SmootherBank
 bankWith b others s = withSlots (s ∷ others) b
 
 module _ (b : SmootherBank) (others : List Smoother) (one : b .count ≡ 1) where
-  pub latched-told : (e : Event) (s : Smoother) → latchedOne e (bankWith b others s) ≡ bankWith b others (told e s)
-  latched-told e s = ap (λ (n : ℕ). cond (ltb (e .id) n) (oneChanged (targetSet (e .value)) (e .id) (bankWith b others s)) (bankWith b others s)) one ∙ go (e .id) (e .value)
+  pub latched-one : (e : Event) (s : Smoother) → latchedOne e (bankWith b others s) ≡ bankWith b others (latch e s)
+  latched-one e s = ap (λ (n : ℕ). cond (ltb (e .id) n) (oneChanged (targetSet (e .value)) (e .id) (bankWith b others s)) (bankWith b others s)) one ∙ go (e .id) (e .value)
     where
       go : (id : ℕ) (v : Float) → cond (ltb id 1) (withSlots (slotMapped (targetSet v) id (s ∷ others)) b) (bankWith b others s) ≡ bankWith b others (cond (eqb id 0) (targetSet v s) s)
       go zero v = refl
@@ -95,13 +95,13 @@ module _ (b : SmootherBank) (others : List Smoother) (one : b .count ≡ 1) wher
       go true = all-stepped s
       go false = refl
 
-  -- the events whose frames all pass a test are told: so it is when the rest is latched after the last run
+  -- the events whose frames all pass a test latch: so it is when the rest is latched after the last run
   pub latched-all : (test : ℕ → Bool) (position k : ℕ) (w : List Event) (s : Smoother) → Sorted k w → ((x : ℕ) → k ≤ x → test (latchesAt position x) ≡ true)
-      → latchedAll w (bankWith b others s) ≡ bankWith b others (toldWhere test position w s)
-  unfolding latchedAll toldWhere
+      → latchedAll w (bankWith b others s) ≡ bankWith b others (latchWhere test position w s)
+  unfolding latchedAll latchWhere
   latched-all test position k [] s sorted all = refl
   latched-all test position k (e ∷ es) s sorted all =
-      rw (latched-told e s, all (e .offset) (sorted .0)) (latched-all test position (e .offset) es (told e s) (sorted .1) (λ x h. all x (omega (arith, sorted .0))))
+      rw (latched-one e s, all (e .offset) (sorted .0)) (latched-all test position (e .offset) es (latch e s) (sorted .1) (λ x h. all x (omega (arith, sorted .0))))
 
 -- those that wait for a later opening than o
 unfoldable pub waitingAfter : ℕ → List Event → List Event
@@ -118,24 +118,24 @@ module _ (position o : ℕ) (opens : Opens position o) where
   latches-not-here x h = ne-eqb (latchesAt position x) o (λ e. omega (arith, e, latches-from position x))
 
   pub latched-here : (b : SmootherBank) (others : List Smoother) (one : b .count ≡ 1) (k : ℕ) (w : List Event) (s : Smoother) → Sorted k w → ((x : ℕ) → k ≤ x → o ≤ latchesAt position x)
-      → latched o w (bankWith b others s) ≡ record { bank = bankWith b others (toldWhere (λ (f : ℕ). eqb f o) position w s); waiting = waitingAfter o w }
-  unfolding latched toldWhere waitingAfter
+      → latched o w (bankWith b others s) ≡ record { bank = bankWith b others (latchWhere (λ (f : ℕ). eqb f o) position w s); waiting = waitingAfter o w }
+  unfolding latched latchWhere waitingAfter
   latched-here b others one k [] s sorted late = refl
   latched-here b others one k (e ∷ es) s sorted late =
-      go (leb (e .offset) o) refl (latched-here b others one (e .offset) es (told e s) (sorted .1) (λ x h. late x (omega (arith, sorted .0))))
+      go (leb (e .offset) o) refl (latched-here b others one (e .offset) es (latch e s) (sorted .1) (λ x h. late x (omega (arith, sorted .0))))
     where
       here : ℕ → Bool
       here f = eqb f o
 
       go : (t : Bool) → leb (e .offset) o ≡ t
-          → latched o es (bankWith b others (told e s)) ≡ record { bank = bankWith b others (toldWhere here position es (told e s)); waiting = waitingAfter o es }
+          → latched o es (bankWith b others (latch e s)) ≡ record { bank = bankWith b others (latchWhere here position es (latch e s)); waiting = waitingAfter o es }
           → cond t (latched o es (latchedOne e (bankWith b others s))) (record { bank = bankWith b others s; waiting = e ∷ es })
-          ≡ record { bank = bankWith b others (toldWhere here position es (cond (here (latchesAt position (e .offset))) (told e s) s)); waiting = cond t (waitingAfter o es) (e ∷ es) }
+          ≡ record { bank = bankWith b others (latchWhere here position es (cond (here (latchesAt position (e .offset))) (latch e s) s)); waiting = cond t (waitingAfter o es) (e ∷ es) }
       go true h later =
-          rw (latched-told b others one e s, eq-eqb (latchesAt position (e .offset)) o (latches-here (e .offset) (late (e .offset) (sorted .0)) (leb-true (e .offset) o h))) later
+          rw (latched-one b others one e s, eq-eqb (latchesAt position (e .offset)) o (latches-here (e .offset) (late (e .offset) (sorted .0)) (leb-true (e .offset) o h))) later
       go false h later =
           ap (λ (z : Smoother). record { bank = bankWith b others z; waiting = e ∷ es })
-          (sym (told-none here position (o + 1) (e ∷ es) s (omega (arith, leb-false (e .offset) o h), sorted .1) latches-not-here))
+          (sym (latch-none here position (o + 1) (e ∷ es) s (omega (arith, leb-false (e .offset) o h), sorted .1) latches-not-here))
 
   pub waiting-sorted : (k : ℕ) (w : List Event) → Sorted k w → Sorted (o + 1) (waitingAfter o w)
   unfolding waitingAfter
@@ -147,14 +147,14 @@ module _ (position o : ℕ) (opens : Opens position o) where
       go false h later = (omega (arith, leb-false (e .offset) o h), sorted .1)
 
   -- the book passes over those that were latched
-  pub waiting-told : (test : ℕ → Bool) → test o ≡ false → (k : ℕ) (w : List Event) (s : Smoother) → Sorted k w → ((x : ℕ) → k ≤ x → o ≤ latchesAt position x)
-      → toldWhere test position w s ≡ toldWhere test position (waitingAfter o w) s
-  unfolding waitingAfter toldWhere
-  waiting-told test past k [] s sorted late = refl
-  waiting-told test past k (e ∷ es) s sorted late = go (leb (e .offset) o) refl (waiting-told test past (e .offset) es s (sorted .1) (λ x h. late x (omega (arith, sorted .0))))
+  pub waiting-latch : (test : ℕ → Bool) → test o ≡ false → (k : ℕ) (w : List Event) (s : Smoother) → Sorted k w → ((x : ℕ) → k ≤ x → o ≤ latchesAt position x)
+      → latchWhere test position w s ≡ latchWhere test position (waitingAfter o w) s
+  unfolding waitingAfter latchWhere
+  waiting-latch test past k [] s sorted late = refl
+  waiting-latch test past k (e ∷ es) s sorted late = go (leb (e .offset) o) refl (waiting-latch test past (e .offset) es s (sorted .1) (λ x h. late x (omega (arith, sorted .0))))
     where
-      go : (t : Bool) → leb (e .offset) o ≡ t → toldWhere test position es s ≡ toldWhere test position (waitingAfter o es) s
-          → toldWhere test position (e ∷ es) s ≡ toldWhere test position (cond t (waitingAfter o es) (e ∷ es)) s
+      go : (t : Bool) → leb (e .offset) o ≡ t → latchWhere test position es s ≡ latchWhere test position (waitingAfter o es) s
+          → latchWhere test position (e ∷ es) s ≡ latchWhere test position (cond t (waitingAfter o es) (e ∷ es)) s
       go true h later = rw (latches-here (e .offset) (late (e .offset) (sorted .0)) (leb-true (e .offset) o h), past) later
       go false h later = refl
 
@@ -164,7 +164,7 @@ pub record Waiting (position o : ℕ) (events w : List Event) : Type 0 where
   pub from : ℕ
   pub sorted : Sorted from w
   pub late : (x : ℕ) → from ≤ x → o ≤ latchesAt position x
-  pub same : (test : ℕ → Bool) → ((f : ℕ) → f < o → test f ≡ false) → (s : Smoother) → toldWhere test position events s ≡ toldWhere test position w s
+  pub same : (test : ℕ → Bool) → ((f : ℕ) → f < o → test f ≡ false) → (s : Smoother) → latchWhere test position events s ≡ latchWhere test position w s
 
 pub waiting-start : (position : ℕ) (events : List Event) → Sorted 0 events → Waiting position 0 events events
 waiting-start position events sorted = record { from = 0; sorted = sorted; late = λ x h. omega arith; same = λ test none s. refl }
@@ -176,7 +176,7 @@ waiting-next position o next events w opens on end a = record {
   from = o + 1;
   sorted = waiting-sorted position o opens (a .from) w (a .sorted);
   late = λ x h. latches-after position o next x end (omega arith);
-  same = λ test none s. a .same test (λ f h. none f (omega arith)) s ∙ waiting-told position o opens test (none o on) (a .from) w s (a .sorted) (a .late);
+  same = λ test none s. a .same test (λ f h. none f (omega arith)) s ∙ waiting-latch position o opens test (none o on) (a .from) w s (a .sorted) (a .late);
 }
 
 module _ (b : SmootherBank) (others : List Smoother) (one : b .count ≡ 1) (position : ℕ) (events w : List Event) (s : Smoother) where
@@ -187,13 +187,13 @@ module _ (b : SmootherBank) (others : List Smoother) (one : b .count ≡ 1) (pos
   opening o opens a =
       let here : ℕ → Bool = λ (f : ℕ). eqb f o in
       let e = latched-here position o opens b others one (a .from) w s (a .sorted) (a .late) in (
-        ap (λ (r : Latched). bankAt (position + o) (r .bank)) e ∙ bank-at b others one (position + o) (toldWhere here position w s)
+        ap (λ (r : Latched). bankAt (position + o) (r .bank)) e ∙ bank-at b others one (position + o) (latchWhere here position w s)
             ∙ ap (λ (z : Smoother). bankWith b others (cond (stepsAt (position + o)) (stepped z) z)) (sym (a .same here (λ f h. ne-eqb f o (λ q. omega (arith, q))) s)),
         ap (λ (r : Latched). r .waiting) e,
       )
 
   -- after the last run: the rest
-  pub ending : (frames : ℕ) → Waiting position frames events w → latchedAll w (bankWith b others s) ≡ bankWith b others (toldWhere (λ (f : ℕ). leb frames f) position events s)
+  pub ending : (frames : ℕ) → Waiting position frames events w → latchedAll w (bankWith b others s) ≡ bankWith b others (latchWhere (λ (f : ℕ). leb frames f) position events s)
   ending frames a =
       latched-all b others one (λ (f : ℕ). leb frames f) position (a .from) w s (a .sorted) (λ x h. le-leb frames (latchesAt position x) (a .late x h))
       ∙ ap (λ (z : Smoother). bankWith b others z) (sym (a .same (λ (f : ℕ). leb frames f) (λ f h. lt-leb frames f h) s))
@@ -203,4 +203,4 @@ pub threshold-still : (position : ℕ) (events : List Event) (i : ℕ) (s : Smoo
 unfolding thresholdAt
 threshold-still position events i s sorted inside still =
     rw (ne-eqb ((position + i) % 32) 0 still)
-    (told-none (λ (f : ℕ). eqb f i) position 0 events s sorted (λ x h. ne-eqb (latchesAt position x) i (λ e. still (rw e at (latches-opening position x) inside))))
+    (latch-none (λ (f : ℕ). eqb f i) position 0 events s sorted (λ x h. ne-eqb (latchesAt position x) i (λ e. still (rw e at (latches-opening position x) inside))))

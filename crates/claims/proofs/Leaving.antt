@@ -11,11 +11,10 @@ use lib.Ieee.{Float, nan, le}
 use lib.Ieee.Scale.{finite}
 use Rattle.arithmetic.specs.Number
 use Rattle.arithmetic.specs.Number.{one, within}
-use Rattle.arithmetic.specs.Sanitize.{unitGain}
 use Rattle.arithmetic.proofs.Within.{gain-within, unit→finite}
 use Rattle.keeper.proofs.Scan.{All, AllFinite, all-take, least-le, least-each}
 use Rattle.settings.specs.Derived.{rowOf}
-use Rattle.frame.specs.Rules.{Rules}
+use Rattle.frame.specs.Rules.{Linking}
 use Rattle.frame.specs.Frame.{requiredGain}
 use Rattle.claims.specs.Book.{Joined, peakFrom, requiredOf, floorsOf, attackRow}
 
@@ -27,22 +26,16 @@ pub units-finite : (gs : List Float) → AllUnit gs → AllFinite gs
 units-finite [] u = tt
 units-finite (g ∷ gs) u = (unit→finite g (u .0), units-finite gs (u .1))
 
-module _ (rules : Rules) (channels : ℕ) where
-  -- a frame more
-  pub required-step : (f : Joined) (fs : List Joined)
-      → requiredOf rules channels (f ∷ fs) ≡ unitGain (requiredGain (f .target) (peakFrom rules 0 channels Number.zero (f ∷ fs))) ∷ requiredOf rules channels fs
-  unfolding requiredOf
-  required-step f fs = refl
-
-  pub required-unit : (fs : List Joined) → AllUnit (requiredOf rules channels fs)
+module _ (linking : Linking) (channels : ℕ) where
+  pub required-unit : (fs : List Joined) → AllUnit (requiredOf linking channels fs)
   unfolding requiredOf
   required-unit [] = tt
-  required-unit (f ∷ fs) = (gain-within (requiredGain (f .target) (peakFrom rules 0 channels Number.zero (f ∷ fs))), required-unit fs)
+  required-unit (f ∷ fs) = (gain-within (requiredGain (f .target) (peakFrom linking 0 channels Number.zero (f ∷ fs))), required-unit fs)
 
-  pub required-finite : (fs : List Joined) → AllFinite (requiredOf rules channels fs)
-  required-finite fs = units-finite (requiredOf rules channels fs) (required-unit fs)
+  pub required-finite : (fs : List Joined) → AllFinite (requiredOf linking channels fs)
+  required-finite fs = units-finite (requiredOf linking channels fs) (required-unit fs)
 
-  pub required-length : (fs : List Joined) → length (requiredOf rules channels fs) ≡ length fs
+  pub required-length : (fs : List Joined) → length (requiredOf linking channels fs) ≡ length fs
   unfolding requiredOf
   required-length [] = refl
   required-length (f ∷ fs) = ap suc (required-length fs)
@@ -78,6 +71,6 @@ pub leaving : (look : ℕ) (gains : List Float) → AllFinite gains → 11 ≤ l
 leaving look gains f m l i k h s = rw (row-at look gains i h (omega arith)) (floors-least look gains f i (look - k) (omega arith) (omega arith) (omega arith))
 
 -- the same of the book's frames
-pub frames-leaving : (rules : Rules) (look channels : ℕ) (fs : List Joined) → 11 ≤ look → look < length fs → (i k : ℕ) → i < rowOf look → k ≤ 11
-    → le (getD (attackRow look (requiredOf rules channels fs)) i nan) (getD (requiredOf rules channels fs) (look - k) nan) ≡ true
-frames-leaving rules look channels fs m l = leaving look (requiredOf rules channels fs) (required-finite rules channels fs) m (rw (required-length rules channels fs) l)
+pub frames-leaving : (linking : Linking) (look channels : ℕ) (fs : List Joined) → 11 ≤ look → look < length fs → (i k : ℕ) → i < rowOf look → k ≤ 11
+    → le (getD (attackRow look (requiredOf linking channels fs)) i nan) (getD (requiredOf linking channels fs) (look - k) nan) ≡ true
+frames-leaving linking look channels fs m l = leaving look (requiredOf linking channels fs) (required-finite linking channels fs) m (rw (required-length linking channels fs) l)

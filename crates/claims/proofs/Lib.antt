@@ -18,6 +18,6 @@ pub mod Blocks
 pub mod Setups
 pub mod Claimed
 pub mod ControlsStart
-pub mod ControlsPresent
+pub mod ControlsRight
 pub mod Controls
 pub mod Rows

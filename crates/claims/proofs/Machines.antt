@@ -10,13 +10,13 @@ use lib.Ieee.{Float, toBits, ofBits, eq}
 use lib.Ieee.Scale.{finite}
 use borrow.Author.Tests.{eqb-true, eq-eqb, ne-eqb, le-leb}
 use Rattle.arithmetic.specs.Number.{within}
-use Rattle.arithmetic.specs.Reply.{finished, refused, float}
+use Rattle.arithmetic.specs.Reply.{finished, refused, float, unless}
 use Rattle.arithmetic.proofs.Order.{and-true, clash}
+use Rattle.arithmetic.proofs.Passed.{passed-unless}
 use Rattle.arithmetic.proofs.Within.{clamp-within}
 use Rattle.settings.specs.declared.LimiterSettings.{LimiterSettings}
 use Rattle.limiter.specs.Order
 use Rattle.limiter.specs.declared.state.Limiter.{Limiter}
-use Rattle.limiter.proofs.Frames.{all-passed}
 use Rattle.bank.specs.Smoother.{infoOf, derived, slotPrepared, changed, ranged, aimed, targetSet, immediateSet, resetOne, stepped}
 use Rattle.bank.specs.Param.{faultOf}
 use Rattle.bank.specs.Bank
@@ -143,10 +143,11 @@ module _ (m : Machine) where
   pub whole-of : readyRefusal m ≡ 0 → Whole (thresholdOf (m .bank)) m
   unfolding readyRefusal inOrder
   whole-of h =
-      let p = all-passed (prepared (m .limiter) (m .bank)) (fits m) (inOrder m) h in
+      let p = passed-unless (prepared (m .limiter) (m .bank)) 17 (unless (fits m) 16 (unless (inOrder m) 19 0)) h in
+      let q = passed-unless (fits m) 15 (unless (inOrder m) 19 0) (p .1) in
       let s = set-up-of (m .limiter) (m .bank) (p .0) in
-      let o = and-true (Order.inOrder (m .limiter) (m .stores .marks) (m .stores .minima) (m .stores .row)) (targetInRange (m .bank)) (p .2) in
-      record { kernel = record { set-up = s .kernel; lengths = p .1; order = o .0 }; one = s .one; rate = s .rate; sound = record { declared = s .declared; inside = o .1 } }
+      let o = and-true (Order.inOrder (m .limiter) (m .stores .marks) (m .stores .minima) (m .stores .row)) (targetInRange (m .bank)) (passed-unless (inOrder m) 18 0 (q .1) .0) in
+      record { kernel = record { set-up = s .kernel; lengths = q .0; order = o .0 }; one = s .one; rate = s .rate; sound = record { declared = s .declared; inside = o .1 } }
 
   module _ (t : Smoother) (w : Whole t m) where
     pub whole-set-up : prepared (m .limiter) (m .bank) ≡ true

@@ -11,7 +11,7 @@ use Rattle.arithmetic.specs.Number
 use Rattle.detector.specs.Oversample.{remembered, sumsOf, largestOf, detected}
 use Rattle.detector.specs.History.{silent, latest}
 use Rattle.detector.proofs.Store.{latest-none, latest-length, push-latest}
-use Rattle.frame.specs.Rules.{Rules}
+use Rattle.frame.specs.Rules.{Linking}
 use Rattle.frame.specs.Frame.{Linked, heard, linkedFrom}
 use Rattle.claims.specs.Book.{Joined, channelOf, between, peakFrom}
 
@@ -45,17 +45,17 @@ pub detector-start : (channels : ℕ) → DetectorTied channels (replicate (chan
 detector-start channels = record { stores = sym (stores-start 0 channels) }
 
 -- ---- one frame more
-module _ (rules : Rules) (fs : List Joined) (ys : List Float) (target : Float) where
+module _ (linking : Linking) (fs : List Joined) (ys : List Float) (target : Float) where
   abbrev joined : List Joined
   joined = record { samples = ys; target = target } ∷ fs
 
   -- the answer of the detector that holds the newest samples of a channel, x the newest of them
   abbrev answer : ℕ → Float → Float
-  answer c x = largestOf (sumsOf (rules .taps) (latest silent (x ∷ channelOf c fs)))
+  answer c x = largestOf (sumsOf (linking .taps) (latest silent (x ∷ channelOf c fs)))
 
-  peak-more : (c k : ℕ) (peak x : Float) → getD ys c Number.zero ≡ x → peakFrom rules c (suc k) peak joined ≡ peakFrom rules (c + 1) k (heard (rules .counts c) peak x (answer c x)) joined
+  peak-more : (c k : ℕ) (peak x : Float) → getD ys c Number.zero ≡ x → peakFrom linking c (suc k) peak joined ≡ peakFrom linking (c + 1) k (heard (linking .counts c) peak x (answer c x)) joined
   unfolding peakFrom between
-  peak-more c k peak x e = ap (λ (y : Float). peakFrom rules (c + 1) k (heard (rules .counts c) peak y (answer c y)) joined) e
+  peak-more c k peak x e = ap (λ (y : Float). peakFrom linking (c + 1) k (heard (linking .counts c) peak y (answer c y)) joined) e
 
   stores-more : (c k : ℕ) (x : Float) → getD ys c Number.zero ≡ x → storesFrom c (suc k) joined ≡ latest silent (x ∷ channelOf c fs) ++ storesFrom (c + 1) k joined
   unfolding storesFrom
@@ -65,24 +65,24 @@ module _ (rules : Rules) (fs : List Joined) (ys : List Float) (target : Float) w
   abbrev pushedBefore : ℕ → Float → Linked → Linked
   pushedBefore c x later = record { peak = later .peak; detector = latest silent (x ∷ channelOf c fs) ++ later .detector }
 
-  turn : (c : ℕ) (peak x : Float) (xs : List Float) → linkedFrom rules c peak (storesFrom c (suc (length xs)) fs) (x ∷ xs)
-      ≡ pushedBefore c x (linkedFrom rules (c + 1) (heard (rules .counts c) peak x (answer c x)) (storesFrom (c + 1) (length xs) fs) xs)
+  turn : (c : ℕ) (peak x : Float) (xs : List Float) → linkedFrom linking c peak (storesFrom c (suc (length xs)) fs) (x ∷ xs)
+      ≡ pushedBefore c x (linkedFrom linking (c + 1) (heard (linking .counts c) peak x (answer c x)) (storesFrom (c + 1) (length xs) fs) xs)
   unfolding linkedFrom storesFrom detected
   turn c peak x xs =
       let old = latest silent (channelOf c fs) in
       let rest = storesFrom (c + 1) (length xs) fs in
       let n = latest-length silent (channelOf c fs) refl in
-      rw (take-at old rest remembered n, drop-at old rest remembered n, push-latest silent (rules .taps) (channelOf c fs) x refl) refl
+      rw (take-at old rest remembered n, drop-at old rest remembered n, push-latest silent (linking .taps) (channelOf c fs) x refl) refl
 
   linked-from : (c : ℕ) (peak : Float) (xs : List Float) → drop c ys ≡ xs
-      → linkedFrom rules c peak (storesFrom c (length xs) fs) xs ≡ record { peak = peakFrom rules c (length xs) peak joined; detector = storesFrom c (length xs) joined }
+      → linkedFrom linking c peak (storesFrom c (length xs) fs) xs ≡ record { peak = peakFrom linking c (length xs) peak joined; detector = storesFrom c (length xs) joined }
   linked-from c peak [] at = unfold linkedFrom storesFrom peakFrom in refl
   linked-from c peak (x ∷ xs) at =
       let here = sample-here c ys x xs at in
       rw (peak-more c (length xs) peak x here, stores-more c (length xs) x here)
-      (turn c peak x xs ∙ ap (pushedBefore c x) (linked-from (c + 1) (heard (rules .counts c) peak x (answer c x)) xs (samples-later c ys x xs at)))
+      (turn c peak x xs ∙ ap (pushedBefore c x) (linked-from (c + 1) (heard (linking .counts c) peak x (answer c x)) xs (samples-later c ys x xs at)))
 
-pub detector-step : (rules : Rules) (channels : ℕ) (detector : List Float) (fs : List Joined) (xs : List Float) (target : Float) → length xs ≡ channels → DetectorTied channels detector fs
-    → (linkedFrom rules 0 Number.zero detector xs .peak ≡ peakFrom rules 0 channels Number.zero (record { samples = xs; target = target } ∷ fs))
-    × DetectorTied channels (linkedFrom rules 0 Number.zero detector xs .detector) (record { samples = xs; target = target } ∷ fs)
-detector-step rules channels detector fs xs target n t = rw (t .stores, sym n) (rw (linked-from rules fs xs target 0 Number.zero xs refl) (refl, record { stores = refl }))
+pub detector-step : (linking : Linking) (channels : ℕ) (detector : List Float) (fs : List Joined) (xs : List Float) (target : Float) → length xs ≡ channels → DetectorTied channels detector fs
+    → (linkedFrom linking 0 Number.zero detector xs .peak ≡ peakFrom linking 0 channels Number.zero (record { samples = xs; target = target } ∷ fs))
+    × DetectorTied channels (linkedFrom linking 0 Number.zero detector xs .detector) (record { samples = xs; target = target } ∷ fs)
+detector-step linking channels detector fs xs target n t = rw (t .stores, sym n) (rw (linked-from linking fs xs target 0 Number.zero xs refl) (refl, record { stores = refl }))

@@ -1,22 +1,22 @@
 -- The starred rows hold: computed, or by the layers' named facts; the drains by the claim.
-use Prim.Native.Nat.{ℕ}
 use mathlib.Core.Path.{_≡_, refl, sym, ap, _∙_}
 use mathlib.Core.Bool.{Bool, true, false, cond}
 use mathlib.Core.List.{List, [], _∷_, map}
 use lib.Dec.{eqb}
 use lib.ListN.{replicate}
 use lib.Ieee.{Float, eq, lt, le, ofBits, mul, ofInt}
-use Rattle.arithmetic.specs.Reply.{Reply, Value, finished, refused, float, count}
+use Rattle.arithmetic.specs.Reply.{Reply, Value, finished, refused, numbered, float, count}
+use Rattle.audio.specs.Format.{sizeOf}
+use Rattle.audio.specs.declared.format.Format.the-variants.{F64}
 use Rattle.keeper.proofs.Rows.{gains-count, half-then-ones, setUp11}
-use Rattle.arithmetic.specs.Number.{zero}
 use Rattle.settings.specs.Settings.{defaults}
 use Rattle.settings.specs.Derived.{lookOf}
 use Rattle.settings.proofs.Rows.{default-look, default-row, default-bytes, shortest, longest, too-short, too-long}
-use Rattle.frame.specs.Rules.{presentRules}
 use Rattle.settings.specs.declared.LimiterSettings.{LimiterSettings}
+use Rattle.settings.specs.declared.ProcessSpec.{ProcessSpec}
 use Rattle.settings.specs.declared.memory.Cap.{Cap}
 use Rattle.limiter.specs.Stores.{Stores, lengthsOf}
-use Rattle.limiter.specs.Prepare.{numbered, storesRefusal, prepareRefusal, Outcome, outcome, prepareOf}
+use Rattle.limiter.specs.Prepare.{storesRefusal, prepareRefusal, LimiterLeft, limiterLeft, prepareOf}
 use Rattle.bank.specs.Param.{faultOf}
 use Rattle.bank.specs.Smoother.{stepped}
 use Rattle.bank.specs.Bank.{allChanged, firstFault, declaredReply, setUpOf}
@@ -29,18 +29,18 @@ use Rattle.floors_text.proofs.Rows
 use Rattle.claims.specs.Session.{Call, drain}
 use Rattle.claims.specs.BookCalls.{enter, drainEntered, joinAll, lastTarget}
 use Rattle.claims.proofs.Claimed.{claim}
-use Rattle.claims.specs.Rows.{told50, drained50, cappedAt, lookingAt, ms0·21, ms0·22, ms85·34, ms85·36, minus4, ramped, Starred}
+use Rattle.claims.specs.Rows.{stereo, reply50, drained50, cappedAt, lookingAt, ms0·21, ms0·22, ms85·34, ms85·36, minus4, ramped, Starred}
 
 -- ---- setup
 -- what the limiter's own setup replies, finished or not
-prepare-replies : (s : LimiterSettings) (rate channels block : ℕ) (cap : Cap) (stores : Stores) → prepareOf s rate channels block cap stores .reply ≡ prepareRefusal s rate channels block cap (lengthsOf stores) (stores .weights)
+prepare-replies : (s : LimiterSettings) (spec : ProcessSpec) (stores : Stores) → prepareOf s spec stores .reply ≡ prepareRefusal s spec (lengthsOf stores) (stores .weights)
 unfolding prepareOf
-prepare-replies s rate channels block cap stores = either (eqb (r .number) 0) (outcome r _ _) (outcome r _ _) refl refl
+prepare-replies s spec stores = either (eqb (r .number) 0) (limiterLeft r _ _) (limiterLeft r _ _) refl refl
   where
     r : Reply
-    r = prepareRefusal s rate channels block cap (lengthsOf stores) (stores .weights)
+    r = prepareRefusal s spec (lengthsOf stores) (stores .weights)
 
-    either : (b : Bool) (x y : Outcome) → x .reply ≡ r → y .reply ≡ r → cond b x y .reply ≡ r
+    either : (b : Bool) (x y : LimiterLeft) → x .reply ≡ r → y .reply ≡ r → cond b x y .reply ≡ r
     either true x y p q = p
     either false x y p q = q
 
@@ -50,11 +50,11 @@ four-looks = rw (shortest, longest, too-short, too-long) refl
 module _ (stores : Stores) where
   passes : cappedAt 4336 stores ≡ numbered (storesRefusal 2 72 (lengthsOf stores) (stores .weights))
   unfolding Calls.setupOf setUpOf declaredReply firstFault faultOf mul ofInt ofBits lt le
-  passes = prepare-replies _ _ _ _ _ stores
+  passes = prepare-replies _ _ stores
 
   over-15 : cappedAt 4335 stores ≡ refused 15 (count 4256 ∷ count 4255 ∷ [])
   unfolding Calls.setupOf setUpOf declaredReply firstFault faultOf mul ofInt ofBits lt le
-  over-15 = prepare-replies _ _ _ _ _ stores
+  over-15 = prepare-replies _ _ stores
 
   over-7 : cappedAt 79 stores ≡ refused 7 (count 80 ∷ count 79 ∷ [])
   unfolding Calls.setupOf setUpOf declaredReply firstFault faultOf ofBits lt le
@@ -62,19 +62,19 @@ module _ (stores : Stores) where
 
   pass-11 : lookingAt ms0·22 stores ≡ numbered (storesRefusal 2 11 (lengthsOf stores) (stores .weights))
   unfolding Calls.setupOf setUpOf declaredReply firstFault faultOf mul ofInt ofBits lt le
-  pass-11 = prepare-replies _ _ _ _ _ stores
+  pass-11 = prepare-replies _ _ stores
 
   pass-4096 : lookingAt ms85·34 stores ≡ numbered (storesRefusal 2 4096 (lengthsOf stores) (stores .weights))
   unfolding Calls.setupOf setUpOf declaredReply firstFault faultOf mul ofInt ofBits lt le
-  pass-4096 = prepare-replies _ _ _ _ _ stores
+  pass-4096 = prepare-replies _ _ stores
 
   short-12 : lookingAt ms0·21 stores ≡ refused 12 []
   unfolding Calls.setupOf setUpOf declaredReply firstFault faultOf mul ofInt ofBits lt le
-  short-12 = prepare-replies _ _ _ _ _ stores
+  short-12 = prepare-replies _ _ stores
 
   long-12 : lookingAt ms85·36 stores ≡ refused 12 []
   unfolding Calls.setupOf setUpOf declaredReply firstFault faultOf mul ofInt ofBits lt le
-  long-12 = prepare-replies _ _ _ _ _ stores
+  long-12 = prepare-replies _ _ stores
 
 -- ---- runs
 module _ (render : Renderer) (fs : List (List Float)) (m : Machine) where
@@ -114,18 +114,18 @@ ramp-lands = minus-one-to-minus-four .0
 -- ---- the drains, by the claim: the book's replies compute
 module _ (cap : Cap) (stores : Stores) where
   abbrev start : Calls.Left
-  start = Calls.setupOf defaults 48000 2 512 cap stores
+  start = Calls.setupOf defaults (stereo cap) stores
 
   abbrev silence50 : Call
-  silence50 = drain 50 (replicate 100 zero)
+  silence50 = drain F64 50 (replicate 800 0)
 
-  drains-told : start .reply .number ≡ 0
-      → (told50 (start .machine) ≡ finished (count 50 ∷ count 0 ∷ []))
-      × (told50 (drained50 (start .machine)) ≡ finished (count 22 ∷ count 1 ∷ []))
-      × (told50 (drained50 (drained50 (start .machine))) ≡ finished (count 0 ∷ count 1 ∷ []))
-  unfolding enter drainEntered joinAll lastTarget mul ofInt ofBits
-  drains-told z =
-      let h = claim presentRules .after-setup defaults 48000 2 512 cap stores z (silence50 ∷ silence50 ∷ silence50 ∷ []) in
+  drains-reply : start .reply .number ≡ 0
+      → (reply50 (start .machine) ≡ finished (count 50 ∷ count 0 ∷ []))
+      × (reply50 (drained50 (start .machine)) ≡ finished (count 22 ∷ count 1 ∷ []))
+      × (reply50 (drained50 (drained50 (start .machine))) ≡ finished (count 0 ∷ count 1 ∷ []))
+  unfolding enter drainEntered joinAll lastTarget sizeOf mul ofInt ofBits
+  drains-reply z =
+      let h = claim .after-setup defaults (stereo cap) stores z (silence50 ∷ silence50 ∷ silence50 ∷ []) in
       (h .0 .reply, h .1 .0 .reply, h .1 .1 .0 .reply)
 
 -- ---- all of them
@@ -149,6 +149,6 @@ starred = record {
   steps-33 = one-step;
   ramp-8 = ramp-lands;
   ramp-7 = not-yet;
-  drains = drains-told;
+  drains = drains-reply;
   floors = Rows.starred;
 }

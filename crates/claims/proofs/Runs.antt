@@ -8,6 +8,8 @@ use lib.Dec.{leb}
 use lib.ListN.{drop}
 use lib.Seq.{getD-drop, drop-drop}
 use lib.Ieee.{Float, nan}
+use Rattle.audio.specs.Planar.{frameAt, framesAt}
+use Rattle.audio.proofs.Planes.{frames-take, frames-drop}
 use Rattle.settings.specs.Target.{targetOf}
 use Rattle.settings.specs.declared.LimiterSettings.{LimiterSettings}
 use Rattle.limiter.specs.Stores.{Stores}
@@ -17,13 +19,12 @@ use Rattle.bank.specs.Bank.{withSlots}
 use Rattle.bank.specs.declared.smoother.Smoother.{Smoother}
 use Rattle.bank.specs.declared.smoother_bank.SmootherBank.{SmootherBank}
 use Rattle.driver.specs.Machine.{Machine, machineOf, targetNow}
-use Rattle.driver.specs.Planar.{frameAt, framesAt}
 use Rattle.driver.specs.Events.{Event, eventsReply, latched}
 use Rattle.driver.specs.Block.{Rendered, rendered, runAt, runsFrom, runsOf, bankAt, Ran, runsThrough}
-use Rattle.driver.proofs.Planes.{frames-take, frames-drop}
+use Rattle.driver.proofs.Rendering.{settings-kept}
 use Rattle.claims.specs.Book.{Book}
-use Rattle.claims.specs.BookCalls.{toldWhere, thresholdAt, samplesFrom, Joining, joiningFrom}
-use Rattle.claims.proofs.Each.{renderEach, allAt, each-append, rendered-each, rendered-settings}
+use Rattle.claims.specs.BookCalls.{latchWhere, thresholdAt, samplesFrom, Joining, joiningFrom}
+use Rattle.claims.proofs.Each.{renderEach, allAt, each-append, rendered-each}
 use Rattle.claims.proofs.Latches.{Opens, Sorted, sorted-of, bankWith, waitingAfter, Waiting, waiting-start, waiting-next, opening, ending, threshold-still}
 
 -- ---- a place and what is left from it on: no frame further, and one further
@@ -35,14 +36,14 @@ onward f i left n = ap (λ (k : ℕ). f k (left - n)) (omega arith) ∙ ap (λ (
 
 -- ---- the audio
 -- a frame's samples, as the book counts their places
-pub frame-samples : (width i c k : ℕ) (audio : List Float) → frameAt width k i (drop (c * width) audio) ≡ samplesFrom width i c k audio
+pub frame-samples : (width i c k : ℕ) (audio : List Float) → frameAt nan width k i (drop (c * width) audio) ≡ samplesFrom width i c k audio
 unfolding frameAt samplesFrom
 frame-samples width i c zero audio = refl
 frame-samples width i c (suc k) audio =
     let next : c * width + width ≡ (c + 1) * width = rw (add-mul c 1 width, one-mul width) refl in
     rw (getD-drop (c * width) audio i nan, drop-drop width (c * width) audio, next, frame-samples width i (c + 1) k audio) refl
 
-pub frame-is : (width channels i : ℕ) (audio : List Float) → frameAt width channels i audio ≡ samplesFrom width i 0 channels audio
+pub frame-is : (width channels i : ℕ) (audio : List Float) → frameAt nan width channels i audio ≡ samplesFrom width i 0 channels audio
 frame-is width channels i audio = rw (zero-mul width) at (frame-samples width i 0 channels audio)
 
 -- ---- the book's frames of a run
@@ -55,19 +56,19 @@ module _ (b : Book) (position frames : ℕ) (events : List Event) (audio : List 
 
   -- n frames at one threshold, and then the rest
   abbrev runThen : ℕ → ℕ → Smoother → Joining → Joining
-  runThen i n t later = record { frames = allAt (targetAt t) (framesAt frames (b .channels) i n audio) ++ later .frames; threshold = later .threshold }
+  runThen i n t later = record { frames = allAt (targetAt t) (framesAt nan frames (b .spec .channels) i n audio) ++ later .frames; threshold = later .threshold }
 
   -- a frame of these samples at a threshold, and then the rest
   abbrev frameThen : Smoother → List Float → Joining → Joining
   frameThen t xs later = record { frames = record { samples = xs; target = targetAt t } ∷ later .frames; threshold = later .threshold }
 
   joining-first : (n left i : ℕ) (t : Smoother) → joining (i + 1) left t ≡ runThen (i + 1) n t (joining (i + 1 + n) (left - n) t)
-      → frameThen t (samplesFrom frames i 0 (b .channels) audio) (joining (i + 1) left t) ≡ runThen i (suc n) t (joining (i + suc n) (suc left - suc n) t)
+      → frameThen t (samplesFrom frames i 0 (b .spec .channels) audio) (joining (i + 1) left t) ≡ runThen i (suc n) t (joining (i + suc n) (suc left - suc n) t)
   unfolding framesAt allAt
   joining-first n left i t later =
-      ap (frameThen t (samplesFrom frames i 0 (b .channels) audio)) later
-      ∙ ap (λ (xs : List Float). frameThen t xs (runThen (i + 1) n t (joining (i + 1 + n) (left - n) t))) (sym (frame-is frames (b .channels) i audio))
-      ∙ onward (λ (k r : ℕ). frameThen t (frameAt frames (b .channels) i audio) (runThen (i + 1) n t (joining k r t))) i left n
+      ap (frameThen t (samplesFrom frames i 0 (b .spec .channels) audio)) later
+      ∙ ap (λ (xs : List Float). frameThen t xs (runThen (i + 1) n t (joining (i + 1 + n) (left - n) t))) (sym (frame-is frames (b .spec .channels) i audio))
+      ∙ onward (λ (k r : ℕ). frameThen t (frameAt nan frames (b .spec .channels) i audio) (runThen (i + 1) n t (joining k r t))) i left n
 
   -- where the threshold stays
   joining-still : (n left i : ℕ) (t : Smoother) → n ≤ left → ((j : ℕ) → i ≤ j → j < i + n → thresholdAt position events j t ≡ t)
@@ -76,7 +77,7 @@ module _ (b : Book) (position frames : ℕ) (events : List Event) (audio : List 
   joining-still zero left i t h still = stays (λ (k r : ℕ). joining k r t) i left
   joining-still (suc n) zero i t h still = absurd (omega arith)
   joining-still (suc n) (suc left) i t h still =
-      ap (λ (z : Smoother). frameThen z (samplesFrom frames i 0 (b .channels) audio) (joining (i + 1) left z)) (still i (omega arith) (omega arith))
+      ap (λ (z : Smoother). frameThen z (samplesFrom frames i 0 (b .spec .channels) audio) (joining (i + 1) left z)) (still i (omega arith) (omega arith))
       ∙ joining-first n left i t (joining-still n left (i + 1) t (omega arith) (λ j f g. still j (omega arith) (omega arith)))
 
   -- a run: its first frame, and the others at the same threshold
@@ -92,7 +93,7 @@ module _ (b : Book) (position frames : ℕ) (events : List Event) (audio : List 
 module _ (rules : Rules) (b : Book) (position frames : ℕ) (events : List Event) (audio : List Float) (sorted : Sorted 0 events) (bank : SmootherBank) (others : List Smoother) (one : bank .count ≡ 1) where
   -- what frames that join leave: each rendered at its target, and then the events that no frame latched
   abbrev shownBy : Rendered → Smoother → Ran
-  shownBy r s = record { machine = machineOf (r .limiter) (bankWith bank others (toldWhere (λ (f : ℕ). leb frames f) position events s)) (r .stores); frames = r .frames }
+  shownBy r s = record { machine = machineOf (r .limiter) (bankWith bank others (latchWhere (λ (f : ℕ). leb frames f) position events s)) (r .stores); frames = r .frames }
 
   abbrev eachRan : Limiter → Stores → Joining → Ran
   eachRan l st j = shownBy (renderEach rules l st (j .frames)) (j .threshold)
@@ -102,7 +103,7 @@ module _ (rules : Rules) (b : Book) (position frames : ℕ) (events : List Event
   Agrees most left =
       (o q : ℕ) (w : List Event) (s : Smoother) (l : Limiter) (st : Stores) → q ≡ position + o → left ≤ most → o + left ≡ frames → (0 < left → Opens position o)
       → l .settings ≡ b .settings → Waiting position o events w
-      → runsThrough (rendered rules) q o (runsFrom most q left) w (framesAt frames (b .channels) o left audio) (machineOf l (bankWith bank others s) st)
+      → runsThrough (rendered rules) q o (runsFrom most q left) w (framesAt nan frames (b .spec .channels) o left audio) (machineOf l (bankWith bank others s) st)
       ≡ eachRan l st (joiningFrom b position frames events audio o left s)
 
   -- no run: the events that wait
@@ -125,13 +126,13 @@ module _ (rules : Rules) (b : Book) (position frames : ℕ) (events : List Event
   -- a run of n + 1 frames
   agrees-run : (most left n : ℕ) → ((rest : ℕ) → Agrees most rest) → (o q : ℕ) (w : List Event) (s : Smoother) (l : Limiter) (st : Stores) → q ≡ position + o → left ≤ most → o + suc left ≡ frames
       → Opens position o → l .settings ≡ b .settings → Waiting position o events w → n ≤ left → suc n ≤ 32 - (position + o) % 32 → (n < left → suc n ≡ 32 - (position + o) % 32)
-      → runsThrough (rendered rules) q o (suc n ∷ runsFrom most (q + suc n) (suc left - suc n)) w (framesAt frames (b .channels) o (suc left) audio) (machineOf l (bankWith bank others s) st)
+      → runsThrough (rendered rules) q o (suc n ∷ runsFrom most (q + suc n) (suc left - suc n)) w (framesAt nan frames (b .spec .channels) o (suc left) audio) (machineOf l (bankWith bank others s) st)
       ≡ eachRan l st (joiningFrom b position frames events audio o (suc left) s)
   unfolding runsThrough framesAt
   agrees-run most left n later o q w s l st at fits total opens settings a short inside full =
       let t = thresholdAt position events o s in
-      let xs = framesAt frames (b .channels) o (suc n) audio in
-      let ys = framesAt frames (b .channels) (o + suc n) (suc left - suc n) audio in
+      let xs = framesAt nan frames (b .spec .channels) o (suc n) audio in
+      let ys = framesAt nan frames (b .spec .channels) (o + suc n) (suc left - suc n) audio in
       let ns = runsFrom most (q + suc n) (suc left - suc n) in
       let z = bankWith bank others t in
       let opened = opening bank others one position events w s o opens a in
@@ -140,17 +141,17 @@ module _ (rules : Rules) (b : Book) (position frames : ℕ) (events : List Event
       let r = rendered rules l st target xs in
       let thenAt : Rendered → Ran = λ (v : Rendered). andRun v (runsThrough (rendered rules) (q + suc n) (o + suc n) ns (waitingAfter o w) ys (machineOf (v .limiter) z (v .stores))) in
       let la = latched o w (bankWith bank others s) in
-      ap (λ (fs : List (List Float)). ranThen (q + suc n) (o + suc n) ns l st (la .waiting) fs (drop (suc n) (framesAt frames (b .channels) o (suc left) audio)) (bankAt q (la .bank)))
-      (frames-take frames (b .channels) o (suc n) (suc left) audio (omega arith))
-      ∙ ap (λ (fs : List (List Float)). ranThen (q + suc n) (o + suc n) ns l st (la .waiting) xs fs (bankAt q (la .bank))) (frames-drop frames (b .channels) o (suc n) (suc left) audio (omega arith))
+      ap (λ (fs : List (List Float)). ranThen (q + suc n) (o + suc n) ns l st (la .waiting) fs (drop (suc n) (framesAt nan frames (b .spec .channels) o (suc left) audio)) (bankAt q (la .bank)))
+      (frames-take nan frames (b .spec .channels) o (suc n) (suc left) audio (omega arith))
+      ∙ ap (λ (fs : List (List Float)). ranThen (q + suc n) (o + suc n) ns l st (la .waiting) xs fs (bankAt q (la .bank))) (frames-drop nan frames (b .spec .channels) o (suc n) (suc left) audio (omega arith))
       ∙ ap (λ (v : List Event). ranThen (q + suc n) (o + suc n) ns l st v xs ys (bankAt q (la .bank))) (opened .1)
       ∙ ap (λ (v : SmootherBank). ranThen (q + suc n) (o + suc n) ns l st (waitingAfter o w) xs ys v) (ap (λ (p : ℕ). bankAt p (la .bank)) at ∙ opened .0)
       ∙ ap (λ (m : LimiterSettings). thenAt (rendered rules l st (targetOf (t .cur) (m .«true_peak_margin_db»)) xs)) settings
       ∙ ap (andRun r)
       (later (suc left - suc n) (o + suc n) (q + suc n) (waitingAfter o w) t (r .limiter) (r .stores) (omega arith) (omega arith) (omega arith)
-      (λ some on. omega (arith, full (omega arith))) (rendered-settings rules target xs l st ∙ settings)
+      (λ some on. omega (arith, full (omega arith))) (settings-kept rules l target st xs (r .limiter) refl ∙ settings)
       (waiting-next position o (o + suc n) events w opens (omega arith) (omega arith) a))
-      ∙ ap (λ (v : Rendered). andRun v (eachRan (v .limiter) (v .stores) j)) (rendered-each rules target (frameAt frames (b .channels) o audio) (framesAt frames (b .channels) (o + 1) n audio) l st)
+      ∙ ap (λ (v : Rendered). andRun v (eachRan (v .limiter) (v .stores) j)) (rendered-each rules target (frameAt nan frames (b .spec .channels) o audio) (framesAt nan frames (b .spec .channels) (o + 1) n audio) l st)
       ∙ ap (λ (v : Rendered). shownBy v (j .threshold)) (sym (each-append rules (allAt target xs) (j .frames) l st))
       ∙ ap (eachRan l st)
       (sym (joining-run b position frames events audio n left o s (omega arith)
@@ -164,7 +165,7 @@ module _ (rules : Rules) (b : Book) (position frames : ℕ) (events : List Event
   agrees (suc most) (suc left) o q w s l st at fits total opens settings a = go (runAt q (suc left)) refl (λ rest. agrees most rest)
     where
       go : (n : ℕ) → min (32 - q % 32) (suc left) ≡ n → ((rest : ℕ) → Agrees most rest)
-          → runsThrough (rendered rules) q o (n ∷ runsFrom most (q + n) (suc left - n)) w (framesAt frames (b .channels) o (suc left) audio) (machineOf l (bankWith bank others s) st)
+          → runsThrough (rendered rules) q o (n ∷ runsFrom most (q + n) (suc left - n)) w (framesAt nan frames (b .spec .channels) o (suc left) audio) (machineOf l (bankWith bank others s) st)
           ≡ eachRan l st (joiningFrom b position frames events audio o (suc left) s)
       go zero e later = absurd (omega arith)
       go (suc n) e later =
@@ -174,14 +175,14 @@ module _ (rules : Rules) (b : Book) (position frames : ℕ) (events : List Event
 -- ---- a block's runs
 -- the frames are the book's, each rendered at its own target, and the threshold afterwards is the book's; the other slots are carried
 module _ (rules : Rules) (b : Book) (position frames : ℕ) (events : List Event) (audio : List Float) (m : Machine) (others : List Smoother) where
-  pub runs-each : m .bank .count ≡ 1 → m .bank .smoothers ≡ b .threshold ∷ others → m .limiter .channels ≡ b .channels → m .limiter .settings ≡ b .settings → eventsReply frames 0 0 events .number ≡ 0
+  pub runs-each : m .bank .count ≡ 1 → m .bank .smoothers ≡ b .threshold ∷ others → m .limiter .channels ≡ b .spec .channels → m .limiter .settings ≡ b .settings → eventsReply frames 0 0 events .number ≡ 0
       → (let j = joiningFrom b position frames events audio 0 frames (b .threshold) in
       let r = renderEach rules (m .limiter) (m .stores) (j .frames) in
-      runsThrough (rendered rules) position 0 (runsOf position frames) events (framesAt frames (m .limiter .channels) 0 frames audio) m
-      ≡ record { machine = machineOf (r .limiter) (bankWith (m .bank) others (toldWhere (λ (f : ℕ). leb frames f) position events (j .threshold))) (r .stores); frames = r .frames })
+      runsThrough (rendered rules) position 0 (runsOf position frames) events (framesAt nan frames (m .limiter .channels) 0 frames audio) m
+      ≡ record { machine = machineOf (r .limiter) (bankWith (m .bank) others (latchWhere (λ (f : ℕ). leb frames f) position events (j .threshold))) (r .stores); frames = r .frames })
   runs-each one slots channels settings passed =
       let sorted = sorted-of frames 0 0 events passed in
-      ap (λ (k : ℕ). runsThrough (rendered rules) position 0 (runsOf position frames) events (framesAt frames k 0 frames audio) m) channels
-      ∙ ap (λ (ss : List Smoother). runsThrough (rendered rules) position 0 (runsOf position frames) events (framesAt frames (b .channels) 0 frames audio) (machineOf (m .limiter) (withSlots ss (m .bank)) (m .stores))) slots
+      ap (λ (k : ℕ). runsThrough (rendered rules) position 0 (runsOf position frames) events (framesAt nan frames k 0 frames audio) m) channels
+      ∙ ap (λ (ss : List Smoother). runsThrough (rendered rules) position 0 (runsOf position frames) events (framesAt nan frames (b .spec .channels) 0 frames audio) (machineOf (m .limiter) (withSlots ss (m .bank)) (m .stores))) slots
       ∙ agrees rules b position frames events audio sorted (m .bank) others one frames frames 0 position events (b .threshold) (m .limiter) (m .stores) (omega arith) (omega arith) (omega arith)
       (λ some on. absurd (omega arith)) settings (waiting-start position events sorted)

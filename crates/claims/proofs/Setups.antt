@@ -9,17 +9,17 @@ use lib.ListN.{length, replicate, length-replicate}
 use borrow.Author.Tests.{eq-eqb, ne-eqb, eqb-false}
 use Rattle.arithmetic.specs.Number
 use Rattle.arithmetic.specs.Number.{one}
-use Rattle.arithmetic.specs.Reply.{Reply}
+use Rattle.arithmetic.specs.Reply.{Reply, andThen}
 use Rattle.arithmetic.proofs.Order.{and-true}
+use Rattle.arithmetic.proofs.Passed.{passed-then}
 use Rattle.arithmetic.proofs.Same.{same-self}
 use Rattle.settings.specs.Derived.{lookOf, coefficientOf}
-use Rattle.settings.specs.Memory.{leftOf}
 use Rattle.settings.specs.declared.LimiterSettings.{LimiterSettings}
-use Rattle.settings.specs.declared.memory.Cap.{Cap}
-use Rattle.frame.specs.Rules.{Rules}
+use Rattle.settings.specs.declared.ProcessSpec.{ProcessSpec}
+use Rattle.frame.specs.Rules.{linkingOf}
 use Rattle.limiter.specs.State.{notSetUp, started}
 use Rattle.limiter.specs.Stores.{Stores, lengthsOf, lengthsFit, filled}
-use Rattle.limiter.specs.Prepare.{prepareRefusal, Outcome, outcome, prepareOf}
+use Rattle.limiter.specs.Prepare.{prepareRefusal, LimiterLeft, limiterLeft, prepareOf}
 use Rattle.limiter.specs.Order.{prepared, inOrder}
 use Rattle.limiter.specs.declared.state.Limiter.{Limiter}
 use Rattle.limiter.proofs.Judge.{Fit, fit}
@@ -32,12 +32,11 @@ use Rattle.bank.specs.declared.smoother.Smoother.{Smoother}
 use Rattle.bank.specs.declared.smoother_bank.SmootherBank.{SmootherBank}
 use Rattle.bank.proofs.Prepared.{set-up-prepared}
 use Rattle.driver.specs.Machine.{Machine, machineOf, lowest, fiveMs, thresholdParam, declares}
-use Rattle.driver.specs.Block.{andThen}
-use Rattle.driver.specs.Calls.{bankBytes, budgetReply, setupOf}
+use Rattle.driver.specs.Calls.{budgetReply, withRest, setupOf}
 use Rattle.claims.specs.BookCalls.{openedNew}
 use Rattle.claims.proofs.Turned.{Kernel, deep-enough}
 use Rattle.claims.proofs.Machines.{Declared, Sound, default-inside, OneParameter, one-prepared, whole-ready}
-use Rattle.claims.proofs.Calls.{Tied, passed-then}
+use Rattle.claims.proofs.Calls.{Tied}
 use Rattle.claims.proofs.Starts.{fresh-tied}
 
 -- ---- the bank: its one parameter is the threshold, at its default
@@ -74,73 +73,73 @@ module _ (s : LimiterSettings) (rate : ℕ) where
     new-sound = record { declared = new-declared; inside = default-inside rate s threshold new-declared }
 
 -- ---- the limiter
-module _ (s : LimiterSettings) (rate channels block : ℕ) (cap : Cap) (stores : Stores) where
+module _ (s : LimiterSettings) (spec : ProcessSpec) (stores : Stores) where
   abbrev reply : Reply
-  reply = prepareRefusal s rate channels block cap (lengthsOf stores) (stores .weights)
+  reply = prepareRefusal s spec (lengthsOf stores) (stores .weights)
 
   -- what is left of a finished setup
-  prepare-left : (let o = prepareOf s rate channels block cap stores in o .reply .number ≡ 0 → (o .limiter ≡ started s rate channels block) × (o .stores ≡ filled stores))
+  prepare-left : (let o = prepareOf s spec stores in o .reply .number ≡ 0 → (o .limiter ≡ started s spec) × (o .stores ≡ filled stores))
   unfolding prepareOf
   prepare-left = go (eqb (reply .number) 0) refl
     where
       go : (b : Bool) → eqb (reply .number) 0 ≡ b
-          → (let o = cond b (outcome reply (started s rate channels block) (filled stores)) (outcome reply notSetUp stores) in
-          o .reply .number ≡ 0 → (o .limiter ≡ started s rate channels block) × (o .stores ≡ filled stores))
+          → (let o = cond b (limiterLeft reply (started s spec) (filled stores)) (limiterLeft reply notSetUp stores) in
+          o .reply .number ≡ 0 → (o .limiter ≡ started s spec) × (o .stores ≡ filled stores))
       go true e z = (refl, refl)
       go false e z = absurd (eqb-false (reply .number) 0 e z)
 
-  module _ (z : prepareOf s rate channels block cap stores .reply .number ≡ 0) where
-    prepare-kernel : Kernel (started s rate channels block) (filled stores)
+  module _ (z : prepareOf s spec stores .reply .number ≡ 0) where
+    prepare-kernel : Kernel (started s spec) (filled stores)
     prepare-kernel =
         let e = prepare-left z in
-        let r = subst (Judged (started s rate channels block)) (e .1) (subst (λ (l : Limiter). Judged l (prepareOf s rate channels block cap stores .stores)) (e .0) (setup-ready s rate channels block cap stores z)) in
+        let r = subst (Judged (started s spec)) (e .1) (subst (λ (l : Limiter). Judged l (prepareOf s spec stores .stores)) (e .0) (setup-ready s spec stores z)) in
         record { set-up = r .0; lengths = r .1; order = r .2 }
       where
         Judged : Limiter → Stores → Type 0
-        Judged l t = (prepared l ≡ true) × (lengthsFit channels (l .env .keeper .look) (lengthsOf t) ≡ true) × (inOrder l (t .marks) (t .minima) (t .row) ≡ true)
+        Judged l t = (prepared l ≡ true) × (lengthsFit (spec .channels) (l .env .keeper .look) (lengthsOf t) ≡ true) × (inOrder l (t .marks) (t .minima) (t .row) ≡ true)
 
-    prepare-fit : Fit channels (lookOf (s .«lookahead_ms») rate) (lengthsOf (filled stores))
-    prepare-fit = fit channels (lookOf (s .«lookahead_ms») rate) (lengthsOf (filled stores)) (prepare-kernel .lengths)
+    prepare-fit : Fit (spec .channels) (lookOf (s .«lookahead_ms») (spec .rate)) (lengthsOf (filled stores))
+    prepare-fit = fit (spec .channels) (lookOf (s .«lookahead_ms») (spec .rate)) (lengthsOf (filled stores)) (prepare-kernel .lengths)
 
 -- ---- both
-pub setup-left-alone : (s : LimiterSettings) (rate channels largest : ℕ) (cap : Cap) (stores : Stores)
-    → (let start = setupOf s rate channels largest cap stores in (start .reply .number ≡ 0 → ⊥) → start .machine ≡ machineOf notSetUp unset stores)
+pub setup-left-alone : (s : LimiterSettings) (spec : ProcessSpec) (stores : Stores)
+    → (let start = setupOf s spec stores in (start .reply .number ≡ 0 → ⊥) → start .machine ≡ machineOf notSetUp unset stores)
 unfolding setupOf
-setup-left-alone s rate channels largest cap stores some = rw (ne-eqb (setupOf s rate channels largest cap stores .reply .number) 0 some) refl
+setup-left-alone s spec stores some = rw (ne-eqb (setupOf s spec stores .reply .number) 0 some) refl
 
-module _ (s : LimiterSettings) (rate channels largest : ℕ) (cap : Cap) (stores : Stores) (rules : Rules) (z : setupOf s rate channels largest cap stores .reply .number ≡ 0) where
+module _ (s : LimiterSettings) (spec : ProcessSpec) (stores : Stores) (z : setupOf s spec stores .reply .number ≡ 0) where
   abbrev bank-set : Reply
-  bank-set = setUpOf (params s rate) 1 rate .reply
+  bank-set = setUpOf (params s (spec .rate)) 1 (spec .rate) .reply
 
-  abbrev own : Outcome
-  own = prepareOf s rate channels largest (leftOf bankBytes cap) stores
+  abbrev own : LimiterLeft
+  own = prepareOf s (withRest spec) stores
 
   -- what the bank, the budget and the limiter reply
   all-finished : (bank-set .number ≡ 0) × (own .reply .number ≡ 0)
   unfolding setupOf
   all-finished =
-      let p = passed-then bank-set (andThen (budgetReply cap) (own .reply)) z in
-      (p .0, passed-then (budgetReply cap) (own .reply) (p .1) .1)
+      let p = passed-then bank-set (andThen (budgetReply (spec .cap)) (own .reply)) z in
+      (p .0, passed-then (budgetReply (spec .cap)) (own .reply) (p .1) .1)
 
   abbrev start : Machine
-  start = machineOf (started s rate channels largest) (new s rate) (filled stores)
+  start = machineOf (started s spec) (new s (spec .rate)) (filled stores)
 
-  setup-machine : setupOf s rate channels largest cap stores .machine ≡ start
+  setup-machine : setupOf s spec stores .machine ≡ start
   unfolding setupOf
   setup-machine =
       let f = all-finished in
-      let e = prepare-left s rate channels largest (leftOf bankBytes cap) stores (f .1) in
-      ap (λ (p : Bool). cond p (machineOf (own .limiter) (setUpOf (params s rate) 1 rate .bank) (own .stores)) (machineOf notSetUp unset stores)) (eq-eqb _ 0 z)
-      ∙ ap (λ (l : Limiter). machineOf l (setUpOf (params s rate) 1 rate .bank) (own .stores)) (e .0)
-      ∙ ap (λ (b : SmootherBank). machineOf (started s rate channels largest) b (own .stores)) (new-bank s rate (f .0))
-      ∙ ap (λ (t : Stores). machineOf (started s rate channels largest) (new s rate) t) (e .1)
+      let e = prepare-left s (withRest spec) stores (f .1) in
+      ap (λ (p : Bool). cond p (machineOf (own .limiter) (setUpOf (params s (spec .rate)) 1 (spec .rate) .bank) (own .stores)) (machineOf notSetUp unset stores)) (eq-eqb _ 0 z)
+      ∙ ap (λ (l : Limiter). machineOf l (setUpOf (params s (spec .rate)) 1 (spec .rate) .bank) (own .stores)) (e .0)
+      ∙ ap (λ (b : SmootherBank). machineOf (started s spec) b (own .stores)) (new-bank s (spec .rate) (f .0))
+      ∙ ap (λ (t : Stores). machineOf (started s spec) (new s (spec .rate)) t) (e .1)
 
-  start-tied : Tied rules (openedNew s rate channels largest (stores .weights)) start
+  start-tied : Tied (openedNew s spec (stores .weights)) start
   start-tied =
       let f = all-finished in
-      let look = lookOf (s .«lookahead_ms») rate in
-      let k = prepare-kernel s rate channels largest (leftOf bankBytes cap) stores (f .1) in
-      let h = prepare-fit s rate channels largest (leftOf bankBytes cap) stores (f .1) in
+      let look = lookOf (s .«lookahead_ms») (spec .rate) in
+      let k = prepare-kernel s (withRest spec) stores (f .1) in
+      let h = prepare-fit s (withRest spec) stores (f .1) in
       record {
         settings = refl;
         rate = refl;
@@ -148,15 +147,15 @@ module _ (s : LimiterSettings) (rate channels largest : ℕ) (cap : Cap) (stores
         largest = refl;
         weights = refl;
         coeff = refl;
-        ready = whole-ready start (threshold s rate) (record { kernel = k; one = new-one s rate; rate = refl; sound = new-sound s rate (f .0) });
+        ready = whole-ready start (threshold s (spec .rate)) (record { kernel = k; one = new-one s (spec .rate); rate = refl; sound = new-sound s (spec .rate) (f .0) });
         moving =
-            fresh-tied rules look channels (filled stores .marks) (filled stores .minima) (stores .weights) (coefficientOf (s .«release_ms») rate) (length (stores .delay)) (length (stores .row)) (length (stores .detector))
-            (omega (arith, deep-enough (started s rate channels largest) (k .set-up))) (sym (length-replicate (length (stores .delay)) Number.zero) ∙ h .delay-is) (h .marks-is) (h .minima-is) (h .weights-is)
+            fresh-tied (linkingOf s) look (spec .channels) (filled stores .marks) (filled stores .minima) (stores .weights) (coefficientOf (s .«release_ms») (spec .rate)) (length (stores .delay)) (length (stores .row)) (length (stores .detector))
+            (omega (arith, deep-enough (started s spec) (k .set-up))) (sym (length-replicate (length (stores .delay)) Number.zero) ∙ h .delay-is) (h .marks-is) (h .minima-is) (h .weights-is)
             (sym (length-replicate (length (stores .row)) one) ∙ h .row-is) (sym (length-replicate (length (stores .detector)) Number.zero) ∙ h .detector-is);
-        slots = new-one s rate .slots;
+        slots = new-one s (spec .rate) .slots;
         target = refl;
         drained = refl;
       }
 
-  pub setup-tied : Tied rules (openedNew s rate channels largest (stores .weights)) (setupOf s rate channels largest cap stores .machine)
-  setup-tied = subst (λ (m : Machine). Tied rules (openedNew s rate channels largest (stores .weights)) m) (sym setup-machine) start-tied
+  pub setup-tied : Tied (openedNew s spec (stores .weights)) (setupOf s spec stores .machine)
+  setup-tied = subst (λ (m : Machine). Tied (openedNew s spec (stores .weights)) m) (sym setup-machine) start-tied

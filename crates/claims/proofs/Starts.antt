@@ -1,5 +1,5 @@
 -- Where the book opens: a finished reset of any state and stores leaves them tied to the book that opens with it.
-use mathlib.Core.Path.{_≡_, refl, sym, subst, _∙_}
+use mathlib.Core.Path.{_≡_, refl, sym, subst}
 use mathlib.Core.Bool.{true}
 use mathlib.Core.List.{List, []}
 use Prim.Native.Nat.{ℕ, _+_, _*_, _<_}
@@ -9,18 +9,22 @@ use lib.Ieee.{Float}
 use borrow.Author.Tests.{ne-eqb}
 use Rattle.arithmetic.specs.Number
 use Rattle.arithmetic.specs.Number.{one}
+use Rattle.arithmetic.specs.Reply.{numbered, unless}
+use Rattle.arithmetic.proofs.Passed.{passed-unless}
 use Rattle.detector.specs.Oversample.{remembered}
+use Rattle.settings.specs.Settings.{processSpec}
 use Rattle.settings.specs.Derived.{lookOf, rowOf, coefficientOf}
-use Rattle.frame.specs.Rules.{Rules}
+use Rattle.frame.specs.Rules.{Linking, linkingOf}
+use Rattle.settings.specs.declared.ProcessSpec.{ProcessSpec}
+use Rattle.settings.specs.declared.memory.Cap.{Cap}
 use Rattle.frame.specs.Run.{movingAt}
-use Rattle.limiter.specs.State.{freshEnvelope}
+use Rattle.limiter.specs.State.{freshEnvelope, specOf}
 use Rattle.limiter.specs.Stores.{lengthsOf, cleared}
-use Rattle.limiter.specs.Prepare.{numbered}
 use Rattle.limiter.specs.Reset
 use Rattle.limiter.specs.Reset.{resetState}
 use Rattle.limiter.specs.Order.{inOrder}
+use Rattle.limiter.specs.declared.state.Limiter.{Limiter}
 use Rattle.limiter.proofs.Judge.{Fit, fit}
-use Rattle.limiter.proofs.Frames.{all-passed}
 use Rattle.limiter.proofs.Ready.{prepared-is, reset-prepared, reset-in-order}
 use Rattle.bank.specs.Smoother.{resetOne}
 use Rattle.bank.specs.Bank.{allChanged, firstMapped}
@@ -39,20 +43,22 @@ use Rattle.claims.proofs.Machines.{OneParameter, SetUp, reset-sound, fi
 use Rattle.claims.proofs.Calls.{Tied, tied-whole, Done, finished-done, no-audio}
 
 -- ---- nothing taken yet, whatever marks and minima hold
-module _ (rules : Rules) (look channels : ℕ) (marks : List ℕ) (minima weights : List Float) (coeff : Float) (d r k : ℕ) where
+module _ (linking : Linking) (look channels : ℕ) (marks : List ℕ) (minima weights : List Float) (coeff : Float) (d r k : ℕ) where
   pub fresh-tied : 0 < look → d ≡ channels * look → length marks ≡ look + 1 → length minima ≡ look + 1 → length weights ≡ rowOf look → r ≡ rowOf look → k ≡ channels * remembered
-      → MovingTied rules look channels weights coeff (movingAt (freshEnvelope look) 0 (replicate d Number.zero) marks minima (replicate r one) (replicate k Number.zero)) []
+      → MovingTied linking look channels weights coeff (movingAt (freshEnvelope look) 0 (replicate d Number.zero) marks minima (replicate r one) (replicate k Number.zero)) []
   unfolding requiredOf
   fresh-tied some delay marked least weighed row detector = record {
     env = env-start look r marks minima weights coeff marked least weighed row;
     detector = rw detector (detector-start channels);
-    delay = rw delay (delay-start look channels some);
+    delay = rw delay (delay-start look channels);
     place = some;
-    delay-fit = length-replicate d Number.zero ∙ delay;
-    detector-fit = length-replicate k Number.zero ∙ detector;
   }
 
 -- ---- a reset
+-- what setup was told, with any cap
+abbrev specWith : Limiter → Cap → ProcessSpec
+specWith l cap = processSpec (l .rate) (l .channels) (l .«max_block») cap
+
 pub reset-answers : (m : Machine) → resetOf m .reply ≡ numbered (resetRefusal m)
 unfolding resetOf
 reset-answers m = refl
@@ -67,7 +73,9 @@ module _ (m : Machine) (passed : resetRefusal m ≡ 0) where
 
   reset-judged : (prepared (m .limiter) (m .bank) ≡ true) × (fits m ≡ true)
   unfolding resetRefusal
-  reset-judged = let p = all-passed (prepared (m .limiter) (m .bank)) (fits m) true passed in (p .0, p .1)
+  reset-judged =
+      let p = passed-unless (prepared (m .limiter) (m .bank)) 17 (unless (fits m) 16 0) passed in
+      (p .0, passed-unless (fits m) 15 0 (p .1) .0)
 
   reset-set-up : SetUp (thresholdOf (m .bank)) (m .limiter) (m .bank)
   reset-set-up = set-up-of (m .limiter) (m .bank) (reset-judged .0)
@@ -98,10 +106,9 @@ module _ (m : Machine) (passed : resetRefusal m ≡ 0) where
       let o = reset-set-up .one in
       record { slots = rw (o .count, o .slots) refl; count = o .count; ready = o .ready }
 
-  pub reset-tied : (rules : Rules) → (let l = m .limiter in
-      Tied rules (opened (l .settings) (l .rate) (l .channels) (l .«max_block») (m .stores .weights) (resetOne (thresholdOf (m .bank)))) (resetDone m))
+  reset-tied : (cap : Cap) → Tied (opened (m .limiter .settings) (specWith (m .limiter) cap) (m .stores .weights) (resetOne (thresholdOf (m .bank)))) (resetDone m)
   unfolding Reset.resetOf
-  reset-tied rules =
+  reset-tied cap =
       let l = m .limiter in
       let s = m .stores in
       let f = reset-fit in
@@ -116,8 +123,8 @@ module _ (m : Machine) (passed : resetRefusal m ≡ 0) where
             whole-ready (resetDone m) (resetOne (thresholdOf (m .bank)))
             (record { kernel = reset-kernel; one = reset-one; rate = reset-set-up .rate; sound = reset-sound (l .rate) (l .settings) (thresholdOf (m .bank)) (reset-set-up .declared) });
         moving =
-            subst (λ (n : ℕ). MovingTied rules n (l .channels) (s .weights) (coefficientOf (l .settings .«release_ms») (l .rate)) (movingAt (freshEnvelope n) 0 (replicate (length (s .delay)) Number.zero) (s .marks) (s .minima) (replicate (length (s .row)) one) (replicate (length (s .detector)) Number.zero)) []) reset-look
-            (fresh-tied rules look (l .channels) (s .marks) (s .minima) (s .weights) (coefficientOf (l .settings .«release_ms») (l .rate)) (length (s .delay)) (length (s .row)) (length (s .detector)) (omega (arith, deep-enough l (reset-set-up .kernel))) (f .delay-is) (f .marks-is) (f .minima-is) (f .weights-is) (f .row-is) (f .detector-is));
+            subst (λ (n : ℕ). MovingTied (linkingOf (l .settings)) n (l .channels) (s .weights) (coefficientOf (l .settings .«release_ms») (l .rate)) (movingAt (freshEnvelope n) 0 (replicate (length (s .delay)) Number.zero) (s .marks) (s .minima) (replicate (length (s .row)) one) (replicate (length (s .detector)) Number.zero)) []) reset-look
+            (fresh-tied (linkingOf (l .settings)) look (l .channels) (s .marks) (s .minima) (s .weights) (coefficientOf (l .settings .«release_ms») (l .rate)) (length (s .delay)) (length (s .row)) (length (s .detector)) (omega (arith, deep-enough l (reset-set-up .kernel))) (f .delay-is) (f .marks-is) (f .minima-is) (f .weights-is) (f .row-is) (f .detector-is));
         slots = reset-one .slots;
         target = refl;
         drained = refl;
@@ -131,26 +138,22 @@ module _ (m : Machine) (passed : resetRefusal m ≡ 0) where
   reset-threshold = rw passed reset-first
 
   -- a finished reset of any state and stores at all
-  pub reset-opened : (rules : Rules) → (let l = m .limiter in let start = resetOf m in
-      Tied rules (opened (l .settings) (l .rate) (l .channels) (l .«max_block») (m .stores .weights) (thresholdOf (start .machine .bank))) (start .machine))
+  pub reset-opened : (let start = resetOf m in Tied (opened (m .limiter .settings) (specOf (m .limiter)) (m .stores .weights) (thresholdOf (start .machine .bank))) (start .machine))
   unfolding resetOf
-  reset-opened rules =
-      let l = m .limiter in
+  reset-opened =
       rw passed
-      (subst (λ (s : Smoother). Tied rules (opened (l .settings) (l .rate) (l .channels) (l .«max_block») (m .stores .weights) s) (resetDone m))
-      (sym reset-first) (reset-tied rules))
+      (subst (λ (s : Smoother). Tied (opened (m .limiter .settings) (specOf (m .limiter)) (m .stores .weights) s) (resetDone m)) (sym reset-first) (reset-tied Cap.Unlimited))
 
 -- ---- the call, on state and stores that are tied to the book
-module _ (rules : Rules) (b : Book) (m : Machine) (t : Tied rules b m) where
+module _ (b : Book) (m : Machine) (t : Tied b m) where
   reset-passed : resetRefusal m ≡ 0
-  reset-passed = whole-resets m (b .threshold) (tied-whole rules b m t)
+  reset-passed = whole-resets m (b .threshold) (tied-whole b m t)
 
-  reset-reopened : (let l = m .limiter in
-      opened (l .settings) (l .rate) (l .channels) (l .«max_block») (m .stores .weights) (resetOne (thresholdOf (m .bank))) ≡ reopened b)
+  reset-reopened : opened (m .limiter .settings) (specWith (m .limiter) (b .spec .cap)) (m .stores .weights) (resetOne (thresholdOf (m .bank))) ≡ reopened b
   reset-reopened = rw (t .settings, t .rate, t .channels, t .largest, t .weights, first-slot (b .threshold) (m .bank) (t .slots)) refl
 
-  pub reset-done : Done rules b m reset (called (limiting rules) m reset) (enter b reset)
+  pub reset-done : Done b m reset (called limiting m reset) (enter b reset)
   unfolding enter resetOf
   reset-done =
-      subst (λ (n : ℕ). Done rules b m reset (silently (settled (numbered n) (resetDone m) m)) (enter b reset)) (sym reset-passed)
-      (finished-done rules b m t reset _ (enter b reset) refl refl tt (no-audio b) (subst (λ (c : Book). Tied rules c (resetDone m)) reset-reopened (reset-tied m reset-passed rules)))
+      subst (λ (n : ℕ). Done b m reset (silently (settled (numbered n) (resetDone m) m)) (enter b reset)) (sym reset-passed)
+      (finished-done b m t reset _ (enter b reset) refl refl tt (no-audio b) (subst (λ (c : Book). Tied c (resetDone m)) reset-reopened (reset-tied m reset-passed (b .spec .cap))))

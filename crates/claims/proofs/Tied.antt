@@ -1,20 +1,19 @@
 -- The limiter tied to the book: what moves with the frames is what the book's frames make of it. A frame keeps the tie, and demand 3 holds of what it shows.
 use mathlib.Core.Path.{_≡_, refl, sym, subst, _∙_}
 use mathlib.Core.List.{List, [], _∷_, map}
-use Prim.Native.Nat.{ℕ, _+_, _*_, _≤_, _<_}
+use Prim.Native.Nat.{ℕ, _+_, _≤_, _<_}
 use native.Mathlib.Omega.{arith}
 use lib.ListN.{length, getD}
 use lib.Ieee.{Float, nan}
 use Rattle.arithmetic.specs.Number
 use Rattle.arithmetic.specs.Sanitize.{unitGain}
-use Rattle.detector.specs.Oversample.{remembered}
 use Rattle.keeper.specs.InOrder.{mostFrames}
 use Rattle.envelope.specs.Mean.{meanOf}
 use Rattle.envelope.specs.Step.{gainStepOf}
-use Rattle.frame.specs.Rules.{Rules}
+use Rattle.frame.specs.Rules.{Linking, Rules}
 use Rattle.frame.specs.Frame.{linkedFrom, requiredGain, Moving, Framed, frameOf}
 use Rattle.frame.specs.Run.{Frames, framesOf}
-use Rattle.frame.proofs.Keeps.{frame-gain, delay-length, detector-length}
+use Rattle.frame.proofs.Keeps.{frame-gain}
 use Rattle.envelope.proofs.Gain.{next-inside}
 use Rattle.claims.specs.Book.{Joined, requiredOf, floorsOf, attackRow, notOne, gainAfter}
 use Rattle.claims.specs.BookCalls.{joinAll}
@@ -24,13 +23,11 @@ use Rattle.claims.proofs.Delays.{DelayTied, delay-step}
 use Rattle.claims.proofs.Floors.{EnvTied, StepTied, env-step, quiet, floors-first}
 use Rattle.claims.proofs.Leaving.{required-length, frames-leaving}
 
-pub record MovingTied (rules : Rules) (look channels : ℕ) (weights : List Float) (coeff : Float) (mv : Moving) (fs : List Joined) : Type 0 where
-  pub env : EnvTied look weights coeff (mv .env) (requiredOf rules channels fs)
+pub record MovingTied (linking : Linking) (look channels : ℕ) (weights : List Float) (coeff : Float) (mv : Moving) (fs : List Joined) : Type 0 where
+  pub env : EnvTied look weights coeff (mv .env) (requiredOf linking channels fs)
   pub detector : DetectorTied channels (mv .detector) fs
   pub delay : DelayTied look channels (mv .pos) (mv .delay) fs
   pub place : mv .pos < look
-  pub delay-fit : length (mv .delay) ≡ channels * look
-  pub detector-fit : length (mv .detector) ≡ channels * remembered
 
 -- the samples of a frame at a target
 abbrev pub joinedAt : Float → List Float → Joined
@@ -43,32 +40,30 @@ AllLong channels (xs ∷ xss) = (length xs ≡ channels) × AllLong channels xss
 
 module _ (rules : Rules) (look channels : ℕ) (weights : List Float) (coeff target : Float) where
   -- ---- one frame
-  module _ (mv : Moving) (fs : List Joined) (xs : List Float) (known : length xs ≡ channels) (t : MovingTied rules look channels weights coeff mv fs) where
+  module _ (mv : Moving) (fs : List Joined) (xs : List Float) (known : length xs ≡ channels) (t : MovingTied (rules .linking) look channels weights coeff mv fs) where
     abbrev asked : Float
-    asked = requiredGain target (linkedFrom rules 0 Number.zero (mv .detector) xs .peak)
+    asked = requiredGain target (linkedFrom (rules .linking) 0 Number.zero (mv .detector) xs .peak)
 
     abbrev stepped-to : Framed
     stepped-to = frameOf rules weights coeff look target mv xs
 
     -- the book's required gain is the one that the limiter asks for
-    required-is : unitGain asked ∷ requiredOf rules channels fs ≡ requiredOf rules channels (joinedAt target xs ∷ fs)
+    required-is : unitGain asked ∷ requiredOf (rules .linking) channels fs ≡ requiredOf (rules .linking) channels (joinedAt target xs ∷ fs)
     unfolding requiredOf
-    required-is = rw (detector-step rules channels (mv .detector) fs xs target known (t .detector) .0) refl
+    required-is = rw (detector-step (rules .linking) channels (mv .detector) fs xs target known (t .detector) .0) refl
 
-    frame-env : length fs < mostFrames → StepTied look weights coeff (mv .env) asked (requiredOf rules channels fs)
-    frame-env room = env-step look weights coeff (mv .env) asked (requiredOf rules channels fs) (t .env) (rw (required-length rules channels fs) room)
+    frame-env : length fs < mostFrames → StepTied look weights coeff (mv .env) asked (requiredOf (rules .linking) channels fs)
+    frame-env room = env-step look weights coeff (mv .env) asked (requiredOf (rules .linking) channels fs) (t .env) (rw (required-length (rules .linking) channels fs) room)
 
-    pub frame-tied : length fs < mostFrames → MovingTied rules look channels weights coeff (stepped-to .moving) (joinedAt target xs ∷ fs)
+    pub frame-tied : length fs < mostFrames → MovingTied (rules .linking) look channels weights coeff (stepped-to .moving) (joinedAt target xs ∷ fs)
     unfolding frameOf
     frame-tied room =
         let g = gainStepOf weights coeff (mv .env) asked in
         record {
           env = subst (λ (gs : List Float). EnvTied look weights coeff (g .env) gs) required-is (frame-env room .env);
-          detector = detector-step rules channels (mv .detector) fs xs target known (t .detector) .1;
-          delay = delay-step rules look channels (mv .pos) (g .env .gain) (mv .delay) fs xs target known (t .place) (t .delay-fit) (t .delay) .1;
+          detector = detector-step (rules .linking) channels (mv .detector) fs xs target known (t .detector) .1;
+          delay = delay-step rules look channels (mv .pos) (g .env .gain) (mv .delay) fs xs target known (t .place) (t .delay) .1;
           place = next-inside look (mv .pos) (t .place);
-          delay-fit = delay-length rules look (mv .pos) (g .env .gain) (mv .delay) xs ∙ t .delay-fit;
-          detector-fit = detector-length rules 0 Number.zero (mv .detector) xs ∙ t .detector-fit;
         }
 
     pub frame-holds : 11 ≤ look → length fs < mostFrames → FrameHolds rules look channels weights coeff (joinedAt target xs ∷ fs) stepped-to
@@ -77,31 +72,31 @@ module _ (rules : Rules) (look channels : ℕ) (weights : List Float) (coeff tar
         let j = joinedAt target xs in
         let s = frame-env room in
         let g = gainStepOf weights coeff (mv .env) asked in
-        let gains = requiredOf rules channels (j ∷ fs) in
+        let gains = requiredOf (rules .linking) channels (j ∷ fs) in
         let mean : g .mean ≡ meanOf weights (attackRow look gains) = subst (λ (gs : List Float). g .mean ≡ meanOf weights (attackRow look gs)) required-is (s .mean) in
         record {
-          floor = subst (λ (gs : List Float). g .floor ≡ getD (floorsOf look gs) 0 nan) required-is (s .floor ∙ sym (floors-first look (unitGain asked) (requiredOf rules channels fs)));
+          floor = subst (λ (gs : List Float). g .floor ≡ getD (floorsOf look gs) 0 nan) required-is (s .floor ∙ sym (floors-first look (unitGain asked) (requiredOf (rules .linking) channels fs)));
           tally = subst (λ (gs : List Float). g .env .rowed .state .tally ≡ notOne (attackRow look gs)) required-is (s .tally);
           gain = frame-gain rules weights coeff look target mv xs;
           mean = mean;
           follows = subst (λ (gs : List Float). g .env .gain ≡ gainAfter look weights coeff gs) required-is (s .env .gain);
           quiet = λ all. mean ∙ quiet look weights gains all;
-          outputs = delay-step rules look channels (mv .pos) (g .env .gain) (mv .delay) fs xs target known (t .place) (t .delay-fit) (t .delay) .0;
-          leaving = λ far i k inside few. frames-leaving rules look channels (j ∷ fs) deep far i k inside (omega arith);
+          outputs = delay-step rules look channels (mv .pos) (g .env .gain) (mv .delay) fs xs target known (t .place) (t .delay) .0;
+          leaving = λ far i k inside few. frames-leaving (rules .linking) look channels (j ∷ fs) deep far i k inside (omega arith);
         }
 
   -- ---- frames in turn, at one target
   abbrev later : Moving → List (List Float) → Frames
   later mv xss = framesOf rules weights coeff look target mv xss
 
-  pub frames-tied : (xss : List (List Float)) (mv : Moving) (fs : List Joined) → AllLong channels xss → length fs + length xss ≤ mostFrames → MovingTied rules look channels weights coeff mv fs
-      → MovingTied rules look channels weights coeff (later mv xss .moving) (joinAll fs (map (joinedAt target) xss))
+  pub frames-tied : (xss : List (List Float)) (mv : Moving) (fs : List Joined) → AllLong channels xss → length fs + length xss ≤ mostFrames → MovingTied (rules .linking) look channels weights coeff mv fs
+      → MovingTied (rules .linking) look channels weights coeff (later mv xss .moving) (joinAll fs (map (joinedAt target) xss))
   unfolding framesOf joinAll
   frames-tied [] mv fs long room t = t
   frames-tied (xs ∷ xss) mv fs long room t =
       frames-tied xss (frameOf rules weights coeff look target mv xs .moving) (joinedAt target xs ∷ fs) (long .1) (omega arith) (frame-tied mv fs xs (long .0) t (omega arith))
 
-  pub frames-hold : (xss : List (List Float)) (mv : Moving) (fs : List Joined) → 11 ≤ look → AllLong channels xss → length fs + length xss ≤ mostFrames → MovingTied rules look channels weights coeff mv fs
+  pub frames-hold : (xss : List (List Float)) (mv : Moving) (fs : List Joined) → 11 ≤ look → AllLong channels xss → length fs + length xss ≤ mostFrames → MovingTied (rules .linking) look channels weights coeff mv fs
       → FramesHold rules look channels weights coeff fs (map (joinedAt target) xss) (later mv xss .frames)
   unfolding framesOf
   frames-hold [] mv fs deep long room t = tt

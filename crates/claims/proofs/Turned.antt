@@ -13,7 +13,7 @@ use Rattle.arithmetic.specs.Number
 use Rattle.arithmetic.specs.Number.{one, within}
 use Rattle.keeper.specs.InOrder.{mostFrames}
 use Rattle.settings.specs.Derived.{lookOf}
-use Rattle.frame.specs.Rules.{Rules}
+use Rattle.frame.specs.Rules.{Linking, Rules}
 use Rattle.frame.specs.Frame.{Moving}
 use Rattle.frame.specs.Run.{Frames, framesOf}
 use Rattle.frame.proofs.Keeps.{Kept, EnvInOrder, frames-kept}
@@ -115,8 +115,8 @@ pub record Suited (look channels : ℕ) (weights : List Float) (coeff : Float) (
   pub coeff-is : l .«release_coeff» ≡ coeff
 
 -- the frames since the start, as the keeper counts them
-pub frames-taken : (rules : Rules) (look channels : ℕ) (weights : List Float) (coeff : Float) (mv : Moving) (fs : List Joined) → MovingTied rules look channels weights coeff mv fs → mv .env .keeping .keeper .frame ≡ length fs
-frames-taken rules look channels weights coeff mv fs t = t .env .follows .frame ∙ required-length rules channels fs
+pub frames-taken : (linking : Linking) (look channels : ℕ) (weights : List Float) (coeff : Float) (mv : Moving) (fs : List Joined) → MovingTied linking look channels weights coeff mv fs → mv .env .keeping .keeper .frame ≡ length fs
+frames-taken linking look channels weights coeff mv fs t = t .env .follows .frame ∙ required-length linking channels fs
 
 -- what is set up looks at least 11 frames ahead
 pub deep-enough : (l : Limiter) → prepared l ≡ true → 11 ≤ l .env .keeper .look
@@ -128,7 +128,7 @@ deep-enough l h =
 module _ (rules : Rules) (look channels : ℕ) (weights : List Float) (coeff : Float) where
   -- what frames come to: js join fs, and r is what the limiter makes of them
   pub record Holding (l : Limiter) (s : Stores) (fs js : List Joined) (r : Rendered) : Type 0 where
-    pub tied : MovingTied rules look channels weights coeff (movingOf (r .limiter) (r .stores)) (joinAll fs js)
+    pub tied : MovingTied (rules .linking) look channels weights coeff (movingOf (r .limiter) (r .stores)) (joinAll fs js)
     pub kernel : Kernel (r .limiter) (r .stores)
     pub steady : Steady l s (r .limiter) (r .stores)
     pub frames : FramesHold rules look channels weights coeff fs js (r .frames)
@@ -142,16 +142,16 @@ module _ (rules : Rules) (look channels : ℕ) (weights : List Float) (coeff : F
       sym (ap (λ (ws : List Float). run ws (l .«release_coeff») (l .env .keeper .look)) (u .weights-is) ∙ ap (λ (c : Float). run weights c (l .env .keeper .look)) (u .coeff-is) ∙ ap (run weights coeff) (u .look-is))
 
   pub rendered-holds : (xss : List (List Float)) (target : Float) (l : Limiter) (s : Stores) (fs : List Joined)
-      → Suited look channels weights coeff l s → Kernel l s → MovingTied rules look channels weights coeff (movingOf l s) fs → AllLong channels xss → within Number.zero one target ≡ true → length fs + length xss ≤ mostFrames
+      → Suited look channels weights coeff l s → Kernel l s → MovingTied (rules .linking) look channels weights coeff (movingOf l s) fs → AllLong channels xss → within Number.zero one target ≡ true → length fs + length xss ≤ mostFrames
       → Holding l s fs (map (joinedAt target) xss) (rendered rules l s target xss)
   unfolding rendered
   rendered-holds xss target l s fs u k t long unit room =
       let js = map (joinedAt target) xss in
       let same = suited-frames xss target l s u in
       let deep : 11 ≤ look = subst (λ (n : ℕ). 11 ≤ n) (u .look-is) (deep-enough l (k .set-up)) in
-      let taken : l .env .keeper .frame ≡ length fs = frames-taken rules look channels weights coeff (movingOf l s) fs t in
+      let taken : l .env .keeper .frame ≡ length fs = frames-taken (rules .linking) look channels weights coeff (movingOf l s) fs t in
       record {
-        tied = subst (λ (r : Frames). MovingTied rules look channels weights coeff (r .moving) (joinAll fs js)) same (frames-tied rules look channels weights coeff target xss (movingOf l s) fs long room t);
+        tied = subst (λ (r : Frames). MovingTied (rules .linking) look channels weights coeff (r .moving) (joinAll fs js)) same (frames-tied rules look channels weights coeff target xss (movingOf l s) fs long room t);
         kernel = render-kernel rules l s target xss k unit (omega arith);
         steady = render-steady rules l s target xss k;
         frames = subst (λ (r : Frames). FramesHold rules look channels weights coeff fs js (r .frames)) same (frames-hold rules look channels weights coeff target xss (movingOf l s) fs deep long room t);
@@ -162,7 +162,7 @@ module _ (rules : Rules) (look channels : ℕ) (weights : List Float) (coeff : F
   after-suited l s after left u k = record { look-is = k .look ∙ u .look-is; channels-is = k .channels ∙ u .channels-is; weights-is = k .weights ∙ u .weights-is; coeff-is = k .coeff ∙ u .coeff-is }
 
   pub each-holds : (js : List Joined) (l : Limiter) (s : Stores) (fs : List Joined)
-      → Suited look channels weights coeff l s → Kernel l s → MovingTied rules look channels weights coeff (movingOf l s) fs → AllFit channels js → length fs + length js ≤ mostFrames → Holding l s fs js (renderEach rules l s js)
+      → Suited look channels weights coeff l s → Kernel l s → MovingTied (rules .linking) look channels weights coeff (movingOf l s) fs → AllFit channels js → length fs + length js ≤ mostFrames → Holding l s fs js (renderEach rules l s js)
   unfolding renderEach joinAll rendered framesOf
   each-holds [] l s fs u k t fit room = record { tied = t; kernel = k; steady = same-steady l s; frames = tt }
   each-holds (j ∷ js) l s fs u k t fit room =

@@ -11,7 +11,7 @@ use lib.Ieee.{Float, nan, le, eq}
 use Rattle.arithmetic.specs.Number
 use Rattle.arithmetic.specs.Number.{one, within}
 use Rattle.arithmetic.specs.Reply.{numbered}
-use Rattle.audio.specs.Format.{bytesFor, placesOf}
+use Rattle.audio.specs.Format.{bytesFor, placesOf, samplesOf}
 use Rattle.audio.specs.declared.format.Format.{Format}
 use Rattle.audio.specs.declared.format.Format.the-variants.{F64}
 use Rattle.envelope.specs.Mean.{meanOf}
@@ -61,10 +61,11 @@ FramesHold rules look channels weights coeff history (j ∷ js) [] = ⊥
 FramesHold rules look channels weights coeff history (j ∷ js) (f ∷ fs) =
     FrameHolds rules look channels weights coeff (j ∷ history) f × FramesHold rules look channels weights coeff (j ∷ history) js fs
 
--- the audio that the call gives out: of each channel the first n samples have the bytes of the frames' outputs, and every other sample's are as they were
+-- the audio that the call gives out: of each channel the first n samples have the bytes of the frames' outputs, which are worth those outputs, and every other sample's are as they were
 pub record Given (format : Format) (channels width n : ℕ) (outputs : List (List Float)) (before after : List ℕ) : Type 0 where
   pub as-long : length after ≡ length before
   pub placed : (c i : ℕ) → c < channels → i < n → getD (placesOf format after) (c * width + i) [] ≡ bytesFor format (getD (getD outputs i []) c nan)
+  pub worth : (c i : ℕ) → c < channels → i < n → getD (samplesOf format after) (c * width + i) nan ≡ getD (getD outputs i []) c nan
   pub others : (c i : ℕ) → c < channels → n ≤ i → i < width → getD (placesOf format after) (c * width + i) [] ≡ getD (placesOf format before) (c * width + i) []
 
 -- how many frames a channel of the call's audio has

@@ -19,8 +19,7 @@ use Rattle.envelope.specs.Follow.{followed}
 use Rattle.envelope.specs.Step.{Enveloped, enveloped, GainStepped, gainStepped}
 use Rattle.frame.specs.Rules.{Rules, rulesOf}
 use Rattle.frame.specs.Frame.{linkedFrom, requiredGain, givenOut, Delayed, delayedFrom, Moving, Framed}
-use Rattle.frame.specs.Run
-use Rattle.frame.specs.Run.{Frames}
+use Rattle.frame.specs.Run.{Frames, frameFirst}
 use Rattle.limiter.specs.Stores.{storesAt}
 use Rattle.limiter.specs.Run.{movingOf, envelopeOf, movedOn, storesOf}
 use Rattle.limiter.specs.declared.state.Limiter.{Limiter}
@@ -40,16 +39,16 @@ pub record Steps : Type 0 where
   pub fronts : ℕ → ℕ → List Entry → List Entry
   -- how the gain follows the mean: gain, mean, coefficient
   pub follow : Float → Float → Float → Float
-  -- the delay lines: rules, look, position, gain, lines, samples
-  pub delays : Rules → ℕ → ℕ → Float → List Float → List Float → Delayed
+  -- the delay lines: output rule, look, position, gain, lines, samples
+  pub delays : (Float → Float) → ℕ → ℕ → Float → List Float → List Float → Delayed
 
--- the right ones: with them the limiter is `limiting` (proofs/ControlsPresent.antt)
+-- the right ones: with them the limiter is `limiting` (proofs/ControlsRight.antt)
 abbrev pub rightSteps : Steps
 rightSteps = record {
   backs = λ gain ring. dropBack gain ring;
   fronts = λ look frame ring. dropFront look frame ring;
   follow = λ gain mean coeff. followed gain mean coeff;
-  delays = λ rules look pos gain delay xs. delayedFrom rules look pos gain delay xs;
+  delays = λ leaves look pos gain delay xs. delayedFrom leaves look pos gain delay xs;
 }
 
 -- keeper's `steppedOf`
@@ -86,7 +85,7 @@ unfoldable pub frameBy : Steps → Rules → List Float → Float → ℕ → Fl
 frameBy steps rules weights coeff look target m xs =
     let l = linkedFrom (rules .linking) 0 Number.zero (m .detector) xs in
     let g = gainStepBy steps weights coeff (m .env) (requiredGain target (l .peak)) in
-    let d = steps .delays rules look (m .pos) (g .env .gain) (m .delay) xs in
+    let d = steps .delays (rules .leaves) look (m .pos) (g .env .gain) (m .delay) xs in
     record {
       floor = g .floor;
       dropped = g .dropped;
@@ -101,7 +100,7 @@ unfoldable pub framesBy : Steps → Rules → List Float → Float → ℕ → F
 framesBy steps rules weights coeff look target m [] = record { frames = []; moving = m }
 framesBy steps rules weights coeff look target m (xs ∷ later) =
     let f = frameBy steps rules weights coeff look target m xs in
-    Run.followed f (framesBy steps rules weights coeff look target (f .moving) later)
+    frameFirst f (framesBy steps rules weights coeff look target (f .moving) later)
 
 -- driver's `rendered`
 unfoldable pub renderedBy : Steps → Rules → Renderer
@@ -218,19 +217,19 @@ targetLost = withBlocks (λ format m position frames events bytes.
     leaving o (machineOf (withTarget (o .machine .limiter) (m .limiter .target)) (o .machine .bank) (o .machine .stores)))
 
 -- ---- 7: the new sample is stored at the delay position before the old one is read out there
-unfoldable pub storedFirst : Rules → ℕ → ℕ → Float → List Float → List Float → Delayed
-storedFirst rules look pos gain delay [] = record { outputs = []; delay = delay }
-storedFirst rules look pos gain delay (x ∷ xs) =
+unfoldable pub storedFirst : (Float → Float) → ℕ → ℕ → Float → List Float → List Float → Delayed
+storedFirst leaves look pos gain delay [] = record { outputs = []; delay = delay }
+storedFirst leaves look pos gain delay (x ∷ xs) =
     let line = set (take look delay) pos (finiteOrZero x) in
-    let later = storedFirst rules look pos gain (drop look delay) xs in
-    record { outputs = givenOut rules (getD line pos nan) gain ∷ later .outputs; delay = line ++ later .delay }
+    let later = storedFirst leaves look pos gain (drop look delay) xs in
+    record { outputs = givenOut leaves (getD line pos nan) gain ∷ later .outputs; delay = line ++ later .delay }
 
 abbrev pub noDelay : Limiting
 noDelay = limitingBy (record {
   backs = rightSteps .backs;
   fronts = rightSteps .fronts;
   follow = rightSteps .follow;
-  delays = λ rules look pos gain delay xs. storedFirst rules look pos gain delay xs;
+  delays = λ leaves look pos gain delay xs. storedFirst leaves look pos gain delay xs;
 })
 
 -- ---- 8: an event latches one run late: as if it were stamped a frame after the one at which it should latch. What a block refuses is judged by the stamps as they are.

@@ -11,7 +11,7 @@ use Rattle.arithmetic.specs.Reply.{Reply, finished, refused, numbered, count, f
 use Rattle.audio.specs.declared.format.Format.the-variants.{F64}
 use Rattle.keeper.specs.Keeper.{setupOf}
 use Rattle.keeper.specs.History.{repliesAfter}
-use Rattle.settings.specs.Settings.{settingsOf, defaults}
+use Rattle.settings.specs.Settings.{settingsOf, processSpec, defaults}
 use Rattle.settings.specs.Derived.{lookOf, rowOf}
 use Rattle.settings.specs.Memory.{needed}
 use Rattle.settings.specs.declared.memory.Cap.{Cap}
@@ -36,7 +36,7 @@ tells floor dropped kept = finished (float floor ∷ count dropped ∷ count kep
 
 -- 48,000, stereo, a largest block of 512
 abbrev pub stereo : Cap → ProcessSpec
-stereo cap = record { rate = 48000; channels = 2; «max_block» = 512; cap = cap }
+stereo cap = processSpec 48000 2 512 cap
 
 -- what setup replies there: by default, with a cap; and with another lookahead
 abbrev pub cappedAt : ℕ → Stores → Reply

@@ -5,7 +5,7 @@ use mathlib.Core.List.{List, _++_, map-append}
 use Prim.Native.Nat.{ℕ, _+_, _-_, _*_, _≤_, _<_, min}
 use native.Mathlib.Omega.{arith}
 use lib.ListN.{length, replicate, length-replicate, length-map, replicate-append-replicate}
-use lib.Ieee.{Float, nan}
+use lib.Ieee.{Float}
 use Rattle.arithmetic.specs.Number
 use Rattle.arithmetic.specs.Number.{one, within}
 use Rattle.audio.specs.Format.{sizeOf, writtenBytes}
@@ -27,7 +27,7 @@ use Rattle.limiter.proofs.Frames.{order-is}
 use Rattle.limiter.proofs.Keeping.{frames-held, drain-prepared, drain-lengths, drain-in-order}
 use Rattle.driver.specs.Block.{Rendered, rendered, outputsOf}
 use Rattle.driver.specs.Drain.{silence, withDrained}
-use Rattle.driver.specs.Inner.{RunsReady, Lends, Joins, silent, DrainAsked}
+use Rattle.driver.specs.Inner.{RunsReady, Joins, silent, DrainAsked}
 use Rattle.driver.proofs.Rendering.{ran-as, shown-many, frames-counted, channels-kept, kernel-asks, run-room, audio-small, outputs-join}
 
 -- ---- frames in two lists, one after the other

@@ -14,13 +14,11 @@ use Rattle.audio.proofs.Written.{written-bytes-none, written-bytes-size, sample
 use Rattle.detector.specs.Run.{runLength}
 use Rattle.frame.specs.Rules.{rulesOf}
 use Rattle.frame.specs.Frame.{Framed}
-use Rattle.limiter.specs.declared.state.Limiter.{Limiter}
-use Rattle.settings.specs.declared.LimiterSettings.{LimiterSettings}
 use Rattle.bank.specs.declared.smoother_bank.SmootherBank.{SmootherBank}
 use Rattle.driver.specs.Machine.{Machine, machineOf}
 use Rattle.driver.specs.Events.{Event, eventsOf, latchedAll}
-use Rattle.driver.specs.Block.{Renderer, rendered, renderedIn, runAt, runsFrom, runsOf, Turn, turnOf, Ran, runsThrough, outputsOf, blockDone}
-use Rattle.driver.specs.Inner.{waitingAt, RunsReady, Lends, Joins, leftOf, standsAt, turnAt, TurnAsked, TurnGiven, BlockAsked, driven}
+use Rattle.driver.specs.Block.{Renderer, rendered, renderedIn, runAt, runsFrom, runsOf, Turn, turnOf, Ran, runsThrough, outputsOf}
+use Rattle.driver.specs.Inner.{waitingAt, RunsReady, Joins, leftOf, standsAt, turnAt, TurnAsked, TurnGiven, BlockAsked, driven}
 use Rattle.driver.specs.declared.turn.Unfinished.{Unfinished}
 use Rattle.driver.proofs.Rendering.{shown-many, channels-kept, settings-kept, audio-small}
 

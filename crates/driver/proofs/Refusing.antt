@@ -2,13 +2,13 @@
 use mathlib.Core.Path.{_≡_, refl, sym, ap, _∙_}
 use mathlib.Core.Bool.{Bool, true, false, not, _&&_}
 use mathlib.Core.List.{List, []}
-use Prim.Native.Nat.{ℕ, suc, _+_, _-_, _*_, _≤_, _<_}
+use Prim.Native.Nat.{ℕ, _+_, _-_, _*_, _≤_, _<_}
 use native.Mathlib.Nat.{mul-le-mul-right}
 use native.Mathlib.Omega.{arith}
 use lib.Dec.{eqb, leb}
 use lib.ListN.{length}
 use lib.Ieee.{Float}
-use borrow.Author.Tests.{eqb-true, eqb-false, eq-eqb, ne-eqb, leb-true, leb-false, le-leb, lt-leb, not-true, not-false}
+use borrow.Author.Tests.{eqb-true, eq-eqb, ne-eqb, leb-true, leb-false, le-leb, lt-leb, not-true, not-false}
 use Rattle.arithmetic.specs.Reply.{Reply, finished, numbered, unless, andThen, must}
 use Rattle.arithmetic.proofs.Order.{and-true}
 use Rattle.arithmetic.proofs.Passed.{passed-must, passed-then}
@@ -25,7 +25,7 @@ use Rattle.driver.specs.Machine.{Machine, machineOf, prepared, fits, inO
 use Rattle.driver.specs.Events.{Event, eventsReply}
 use Rattle.driver.specs.Block.{outputsOf, sized, hasRoom, reaches, farthest, callReply, blockReply, renderedIn, blockDone, blockBy, blockOf}
 use Rattle.driver.specs.Drain.{longestDrain, tailReply, drainReply, drainable, withDrained, drainBy, drainOf}
-use Rattle.driver.specs.Inner.{RunsReady, Lends, BlockAsked, silent, DrainAsked}
+use Rattle.driver.specs.Inner.{RunsReady, BlockAsked, silent, DrainAsked}
 use Rattle.driver.specs.Answers.{refusedBy, answerReply, flushReply, seen}
 use Rattle.driver.specs.declared.answers.Refusal.{Refusal}
 use Rattle.driver.specs.declared.answers.Answer.{Answer}

@@ -27,7 +27,7 @@ use Rattle.limiter.specs.declared.state.Limiter.{Limiter}
 use Rattle.limiter.proofs.Frames.{bounds-of}
 use Rattle.limiter.proofs.Keeping.{render-prepared, render-lengths, render-in-order}
 use Rattle.driver.specs.Block.{rendered, outputsOf}
-use Rattle.driver.specs.Inner.{RunsReady, Lends, RunAsked, Joins, RunGiven}
+use Rattle.driver.specs.Inner.{RunsReady, RunAsked, Joins, RunGiven}
 
 -- ---- the kernel's run, as frames in turn
 -- a run of its frames

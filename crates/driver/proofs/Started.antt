@@ -1,16 +1,14 @@
 -- Setup: what the callees' promises add up to, by the first refusal that arises.
 use mathlib.Core.Path.{_≡_, refl, sym, ap}
 use mathlib.Core.Bool.{Bool, true, false, cond}
-use mathlib.Core.List.{[]}
 use Prim.Native.Nat.{ℕ}
 use lib.Dec.{eqb}
 use lib.ListN.{replicate}
 use borrow.Author.Tests.{ne-eqb}
-use Rattle.arithmetic.specs.Reply.{Reply, finished, andThen}
-use Rattle.arithmetic.proofs.Order.{clash}
-use Rattle.settings.specs.Memory.{fitsCap}
+use Rattle.arithmetic.specs.Reply.{Reply, andThen}
+use Rattle.settings.specs.Memory.{capJudged, capReply}
 use Rattle.settings.specs.declared.LimiterSettings.{LimiterSettings}
-use Rattle.settings.specs.declared.memory.Cap.{Cap}
+use Rattle.settings.specs.declared.memory.CapJudged.{CapJudged}
 use Rattle.settings.specs.declared.ProcessSpec.{ProcessSpec}
 use Rattle.limiter.specs.State.{notSetUp, started}
 use Rattle.limiter.specs.Stores.{Stores, lengthsOf, filled}
@@ -27,15 +25,6 @@ use Rattle.bank.specs.declared.smoother_bank.SmootherBank.{SmootherBank}
 use Rattle.bank.proofs.Slots.{above-zero}
 use Rattle.driver.specs.Machine.{Machine, machineOf, thresholdParam}
 use Rattle.driver.specs.Calls.{Left, left, settled, bankBytes, budgetReply, withRest, setupOf}
-
--- 7, by the test
-over : (cap : Cap) → fitsCap bankBytes cap ≡ false → eqb (budgetReply cap .number) 0 ≡ false
-over Cap.Unlimited h = clash true refl h
-over (Cap.Bytes n) h = rw h refl
-
-within : (cap : Cap) → fitsCap bankBytes cap ≡ true → budgetReply cap ≡ finished []
-within Cap.Unlimited h = refl
-within (Cap.Bytes n) h = rw h refl
 
 stopped : (r : Reply) (new old : Machine) → eqb (r .number) 0 ≡ false → left r old ≡ settled r new old
 stopped r new old h = rw h refl
@@ -67,12 +56,12 @@ module _ (s : LimiterSettings) (spec : ProcessSpec) (stores : Stores) (set : Ban
       rw (e, whole, k, n) (stopped (refusalReply why) (machineOf (share .limiter) (set .bank) (share .stores)) (machineOf notSetUp unset stores) n)
 
   module _ (k : set .answer ≡ BankAnswer.Finished) where
-    pub over-budget : fitsCap bankBytes (spec .cap) ≡ false → (b : Reply) → b ≡ budgetReply (spec .cap) → (r : Left) → r ≡ left b (machineOf notSetUp unset stores) → r ≡ setupOf s spec stores
-    over-budget h b B r e = rw (e, B, whole, k, over (spec .cap) h) (stopped (budgetReply (spec .cap)) (machineOf (share .limiter) (set .bank) (share .stores)) (machineOf notSetUp unset stores) (over (spec .cap) h))
+    pub over-budget : (need cap : ℕ) → capJudged bankBytes (spec .cap) ≡ CapJudged.Over need cap → (r : Left) → r ≡ left (capReply 7 (CapJudged.Over need cap)) (machineOf notSetUp unset stores) → r ≡ setupOf s spec stores
+    over-budget need cap h r e = rw (e, whole, k, h) (stopped (capReply 7 (CapJudged.Over need cap)) (machineOf (share .limiter) (set .bank) (share .stores)) (machineOf notSetUp unset stores) refl)
 
-    pub limiter-told : fitsCap bankBytes (spec .cap) ≡ true → (rest : ProcessSpec) → rest ≡ withRest spec → (o : Prepare.LimiterLeft) → o ≡ prepareOf s rest stores → (b : SmootherBank) → b ≡ cond (eqb (o .reply .number) 0) (set .bank) unset
+    pub limiter-told : capJudged bankBytes (spec .cap) ≡ CapJudged.Passed → (rest : ProcessSpec) → rest ≡ withRest spec → (o : Prepare.LimiterLeft) → o ≡ prepareOf s rest stores → (b : SmootherBank) → b ≡ cond (eqb (o .reply .number) 0) (set .bank) unset
         → left (o .reply) (machineOf (o .limiter) b (o .stores)) ≡ setupOf s spec stores
     unfolding prepareOf
     limiter-told h rest c o e b j =
-        rw (j, e, c, whole, k, within (spec .cap) h)
+        rw (j, e, c, whole, k, h)
         (carried (prepareRefusal s (withRest spec) (lengthsOf stores) (stores .weights)) (started s (withRest spec)) (filled stores) stores (set .bank))

@@ -17,7 +17,7 @@ use Rattle.bank.specs.declared.smoother_bank.SmootherBank.{SmootherBank}
 use Rattle.driver.specs.Machine.{Machine, machineOf, thresholdOf}
 use Rattle.driver.specs.Events.{Latched}
 use Rattle.driver.specs.Block.{renderedIn, runAt, outputsOf}
-use Rattle.driver.specs.Inner.{waitingAt, latchedAt, beforeRun, RunAsked, Joins, RunGiven, leftOf, standsAt, TurnAsked, turnAt, TurnGiven}
+use Rattle.driver.specs.Inner.{waitingAt, latchedAt, beforeRun, RunAsked, Joins, RunGiven, leftOf, standsAt, TurnAsked, TurnGiven}
 use Rattle.driver.specs.declared.events.LatchedTo.{LatchedTo}
 use Rattle.driver.specs.declared.turn.Unfinished.{Unfinished}
 

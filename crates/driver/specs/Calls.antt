@@ -10,7 +10,7 @@ use denote.Ref.{now}
 use Rattle.arithmetic.specs.Reply.{Reply, finished, refused, numbered, count, float, unless, andThen, must}
 use Rattle.envelope.specs.Step.{GainStepped, gainStepOf, envelopedAt}
 use Rattle.settings.specs.Derived.{rowOf}
-use Rattle.settings.specs.Memory.{fitsCap, leftOf}
+use Rattle.settings.specs.Memory.{capJudged, capReply, leftOf}
 use Rattle.settings.specs.declared.LimiterSettings.{LimiterSettings}
 use Rattle.settings.specs.declared.memory.Cap.{Cap}
 use Rattle.settings.specs.declared.ProcessSpec.{ProcessSpec}
@@ -46,8 +46,7 @@ bankBytes = 80
 
 -- 7: the bank over the cap, with needed and cap
 abbrev pub budgetReply : Cap → Reply
-budgetReply Cap.Unlimited = finished []
-budgetReply (Cap.Bytes cap) = cond (fitsCap bankBytes (Cap.Bytes cap)) (finished []) (refused 7 (count bankBytes ∷ count cap ∷ []))
+budgetReply cap = capReply 7 (capJudged bankBytes cap)
 
 -- "The bank's bytes are taken first; the limiter's cap is the rest"
 abbrev pub withRest : ProcessSpec → ProcessSpec

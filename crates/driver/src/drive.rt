@@ -27,9 +27,11 @@ impl KernelProcessor {
     ) -> KernelProcessor
         requires { ⌜ BlockAsked (machineAt self (atCall delay marks minima weights row detector)) format position frames (now audio) (now run) ⌝ }
         ensures { λ r. ⌜ machineAt r (atExit delay marks minima weights row detector)
-            ≡ driven format (machineAt self (atEntry delay marks minima weights row detector)) position frames (now (events .entry)) (now (audio .entry)) .machine ⌝ }
+            ≡ driven format (machineAt self (atEntry delay marks minima weights row detector)) position frames
+            (now (events .entry)) (now (audio .entry)) .machine ⌝ }
         ensures { λ _. ⌜ now (audio .exit)
-            ≡ driven format (machineAt self (atEntry delay marks minima weights row detector)) position frames (now (events .entry)) (now (audio .entry)) .bytes ⌝ }
+            ≡ driven format (machineAt self (atEntry delay marks minima weights row detector)) position frames
+            (now (events .entry)) (now (audio .entry)) .bytes ⌝ }
     {
         let mut p = self;
         let mut block = Unfinished {

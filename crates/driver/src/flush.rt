@@ -53,8 +53,10 @@ fn drain_frames(
     detector: &mut [f64],
 ) -> Limiter
     requires { ⌜ DrainAsked limiter format n width (atCall delay marks minima weights row detector) (now audio) (now run) ⌝ }
-    ensures { λ r. ⌜ r ≡ withDrained (silent format limiter (atEntry delay marks minima weights row detector) n .limiter) (limiter .drained + n) ⌝ }
-    ensures { λ _. ⌜ atExit delay marks minima weights row detector ≡ silent format limiter (atEntry delay marks minima weights row detector) n .stores ⌝ }
+    ensures { λ r. ⌜ r
+        ≡ withDrained (silent format limiter (atEntry delay marks minima weights row detector) n .limiter) (limiter .drained + n) ⌝ }
+    ensures { λ _. ⌜ atExit delay marks minima weights row detector
+        ≡ silent format limiter (atEntry delay marks minima weights row detector) n .stores ⌝ }
     ensures { λ _. ⌜ now (audio .exit)
         ≡ writtenBytes format width (limiter .channels) n (now (audio .entry))
         (outputsOf (silent format limiter (atEntry delay marks minima weights row detector) n .frames)) ⌝ }

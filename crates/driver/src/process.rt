@@ -1,7 +1,6 @@
 // A block: the checks, then its turns (driver.rs: `process` of KernelProcessor).
 ghost use mathlib.Core.Path.{_≡_};
 ghost use mathlib.Core.Bool.{true};
-ghost use Rattle.audio.specs.Format.{sizeOf};
 ghost use Rattle.limiter.specs.Order.{prepared};
 ghost use Rattle.limiter.specs.Stores.{Stores, atEntry, atExit};
 ghost use Rattle.driver.specs.Machine.{machineAt};

@@ -9,7 +9,7 @@ ghost use Rattle.limiter.specs.Prepare.{prepareReply};
 ghost use Rattle.bank.specs.Bank;
 ghost use Rattle.bank.specs.Bank.{unset, setUpOf};
 ghost use Rattle.driver.specs.Machine.{machineOf, machineAt, thresholdParam};
-ghost use Rattle.driver.specs.Calls.{left, budgetReply, withRest, setupOf};
+ghost use Rattle.driver.specs.Calls.{left, withRest, setupOf};
 ghost use Rattle.driver.specs.Answers.{setupReply, setUpAt};
 use crate::answers::SetUp;
 use crate::answers::SetupAnswer;
@@ -23,8 +23,8 @@ use limiter::prepare::PrepareAnswer;
 use limiter::state::Limiter;
 use settings::LimiterSettings;
 use settings::ProcessSpec;
-use settings::memory::Cap;
-use settings::memory::fits_cap;
+use settings::memory::CapJudged;
+use settings::memory::judge_cap;
 use settings::memory::left_of;
 
 // The limiter's threshold: Linear, 5 ms, −30 to 0, by default the settings' own.
@@ -47,25 +47,6 @@ fn bank_of(s: LimiterSettings, rate: u32) -> BankSetUp
 {
     let p = threshold_param(s);
     SmootherBank::try_new([p; 8], 1, rate)
-}
-
-// 7 where the bank is over the cap, with needed and cap.
-fn budget(cap: Cap) -> SetupAnswer
-    ensures { λ r. ⌜ setupReply r ≡ budgetReply cap ⌝ }
-{
-    match cap {
-        Cap::Unlimited => SetupAnswer::Limiter(PrepareAnswer::Finished),
-        Cap::Bytes(most) => {
-            if fits_cap(80, cap) {
-                SetupAnswer::Limiter(PrepareAnswer::Finished)
-            } else {
-                SetupAnswer::OverBudget {
-                    needed: 80,
-                    cap: most,
-                }
-            }
-        }
-    }
 }
 
 // The bank of a finished setup; a refused one leaves none.
@@ -131,8 +112,9 @@ impl KernelProcessor {
         if let BankAnswer::Refused(why) = first {
             return refused(SetupAnswer::Bank(why));
         }
-        if !fits_cap(80, cap) {
-            return refused(budget(cap));
+        let budget = judge_cap(80, cap);
+        if let CapJudged::Over { needed, cap } = budget {
+            return refused(SetupAnswer::OverBudget { needed, cap });
         }
         let p = Limiter::prepare(
             s,

@@ -1,6 +1,5 @@
 // One turn of a block: latch, step the bank, render one run (driver.rs: a turn of `drive`).
 ghost use mathlib.Core.Path.{_≡_};
-ghost use Prim.Native.Nat.{_≤_};
 ghost use lib.ListN.{length};
 ghost use Rattle.limiter.specs.Stores.{atEntry, atExit, atCall};
 ghost use Rattle.settings.specs.Target.{targetOf};

@@ -126,7 +126,8 @@ impl FloorKeeper {
     // scanned, and each entry is dropped once.
     pub fn step_in_order(self, marks: &mut [u64], minima: &mut [f64], gain: f64) -> FloorStep
         requires { ⌜ Ready (keepingAt self (now marks) (now minima)) ⌝ }
-        ensures { λ r. ⌜ innerAt r (now (marks .exit)) (now (minima .exit)) ≡ steppedOf (keepingAt self (now (marks .entry)) (now (minima .entry))) gain ⌝ }
+        ensures { λ r. ⌜ innerAt r (now (marks .exit)) (now (minima .exit))
+            ≡ steppedOf (keepingAt self (now (marks .entry)) (now (minima .entry))) gain ⌝ }
     {
         let look = self.look;
         let frame = self.frame;

@@ -27,7 +27,8 @@ pub fn since(frame: u64, span: usize) -> u64
 // marks play no part: the entries are those of any marks.
 pub fn drop_back(minima: &[f64], cap: usize, head: usize, len: usize, gain: f64) -> usize
     requires { ⌜ (head < cap) × (len ≤ cap) × (length (now minima) ≡ cap) ⌝ }
-    ensures { λ r. ⌜ ((marks : List ℕ) → ringOf cap marks (now (minima .entry)) head r ≡ dropBack gain (ringOf cap marks (now (minima .entry)) head len)) ⌝ }
+    ensures { λ r. ⌜ ((marks : List ℕ) → ringOf cap marks (now (minima .entry)) head r
+        ≡ dropBack gain (ringOf cap marks (now (minima .entry)) head len)) ⌝ }
 {
     let mut left = len;
     while left > 0 {

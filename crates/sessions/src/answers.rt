@@ -4,8 +4,6 @@ use bank::smoother_bank::BankValue;
 use bank::smoother_bank::ParamSet;
 use driver::answers::FlushAnswer;
 use driver::answers::GainAnswer;
-use driver::answers::ProcessAnswer;
-use driver::answers::ResetAnswer;
 use driver::answers::SetupAnswer;
 use limiter::prepare::PrepareAnswer;
 use records::words::next;
@@ -24,20 +22,6 @@ pub fn is_set_up(answer: SetupAnswer) -> bool {
     }
 }
 
-pub fn is_processed(answer: ProcessAnswer) -> bool {
-    match answer {
-        ProcessAnswer::Finished => true,
-        _ => false,
-    }
-}
-
-pub fn is_reset(answer: ResetAnswer) -> bool {
-    match answer {
-        ResetAnswer::Finished => true,
-        _ => false,
-    }
-}
-
 // What a drain tells: whether it was finished, the frames written, and whether the tail is done.
 pub struct Told {
     finished: bool,
@@ -52,7 +36,7 @@ pub fn drained(answer: FlushAnswer) -> Told {
             written,
             done,
         },
-        _ => Told {
+        FlushAnswer::Refused(_) => Told {
             finished: false,
             written: 0,
             done: false,
@@ -133,6 +117,6 @@ pub fn step_same(answer: GainAnswer, due: Step) -> bool {
                 & (to_bits(mean) == due.mean)
                 & (to_bits(gain) == due.gain)
         }
-        _ => false,
+        GainAnswer::Refused(_) => false,
     }
 }

@@ -9,8 +9,10 @@ use crate::head::count;
 use crate::head::float;
 use crate::head::places;
 use crate::samples;
+use audio::format::Format;
 use driver::state::KernelProcessor;
 use records::words::next;
+use settings::ProcessSpec;
 use settings::memory::Cap;
 
 // What a call leaves, the limiter and the state of the samples' source, and whether it told what was recorded.
@@ -20,11 +22,11 @@ pub struct Played {
     pub same: bool,
 }
 
-// Room for a call's audio. No output is 2.0, so a place that is left out is told.
-fn audio_room() -> [f64; 4096]
-    ensures { λ r. ⌜ length r ≡ 4096 ⌝ }
+// Room for a call's audio. Eight bytes of 64 are a number over 32, which no output is, so a place that is left out is told.
+fn audio_room() -> [u8; 32768]
+    ensures { λ r. ⌜ length r ≡ 32768 ⌝ }
 {
-    [2.0; 4096]
+    [64; 32768]
 }
 
 // Room for the words of 64 events.
@@ -58,6 +60,44 @@ fn events(fd: i32, told: usize) -> [u64; 192]
     events
 }
 
+// A block of so many frames, on bytes that it fills.
+fn process(
+    fd: i32,
+    h: Head,
+    p: KernelProcessor,
+    before: u64,
+    position: u64,
+    frames: usize,
+    events: &[u64],
+    audio: &mut [u8],
+    delay: &mut [f64],
+    marks: &mut [u64],
+    minima: &mut [f64],
+    weights: &[f64],
+    row: &mut [f64],
+    detector: &mut [f64],
+) -> Played {
+    let x = samples::fill(audio, before, h.kind);
+    let done = p.process(
+        Format::F64,
+        position,
+        frames,
+        events,
+        audio,
+        delay,
+        marks,
+        minima,
+        weights,
+        row,
+        detector,
+    );
+    let answer = done.answer;
+    let digest = samples::digest(audio, frames, frames);
+    let same = answer.is_finished() & (digest == next(fd).word);
+    let processor = done.processor;
+    Played { processor, x, same }
+}
+
 fn block(
     fd: i32,
     h: Head,
@@ -74,14 +114,44 @@ fn block(
     let frames = next(fd).word as usize;
     let told = 3 * count(fd, 64) as usize;
     let events = events(fd, told);
-    let size = places(h.channels, frames, 512);
+    let bytes = 8 * places(h.channels, frames, 512);
     let mut audio = audio_room();
-    let x = samples::fill(&mut audio[0..size], before, h.kind);
-    let done = p.process(
+    process(
+        fd,
+        h,
+        p,
+        before,
         position,
         frames,
         &events[0..told],
-        &mut audio[0..size],
+        &mut audio[0..bytes],
+        delay,
+        marks,
+        minima,
+        weights,
+        row,
+        detector,
+    )
+}
+
+// A drain of so many frames into these bytes.
+fn flush(
+    fd: i32,
+    p: KernelProcessor,
+    x: u64,
+    frames: usize,
+    audio: &mut [u8],
+    delay: &mut [f64],
+    marks: &mut [u64],
+    minima: &mut [f64],
+    weights: &[f64],
+    row: &mut [f64],
+    detector: &mut [f64],
+) -> Played {
+    let done = p.flush(
+        Format::F64,
+        frames,
+        audio,
         delay,
         marks,
         minima,
@@ -90,8 +160,9 @@ fn block(
         detector,
     );
     let answer = done.answer;
-    let digest = samples::digest(&audio[0..size], frames, frames);
-    let same = answers::is_processed(answer) & (digest == next(fd).word);
+    let told = answers::drained(answer);
+    let digest = samples::digest(audio, frames, told.written);
+    let same = answers::drained_same(fd, told, digest);
     let processor = done.processor;
     Played { processor, x, same }
 }
@@ -109,24 +180,21 @@ fn drain(
     detector: &mut [f64],
 ) -> Played {
     let frames = next(fd).word as usize;
-    let size = places(h.channels, frames, 512);
+    let bytes = 8 * places(h.channels, frames, 512);
     let mut audio = audio_room();
-    let done = p.flush(
+    flush(
+        fd,
+        p,
+        x,
         frames,
-        &mut audio[0..size],
+        &mut audio[0..bytes],
         delay,
         marks,
         minima,
         weights,
         row,
         detector,
-    );
-    let answer = done.answer;
-    let told = answers::drained(answer);
-    let digest = samples::digest(&audio[0..size], frames, told.written);
-    let same = answers::drained_same(fd, told, digest);
-    let processor = done.processor;
-    Played { processor, x, same }
+    )
 }
 
 fn reset(
@@ -141,7 +209,7 @@ fn reset(
 ) -> Played {
     let done = p.reset(delay, marks, minima, weights, row, detector);
     let answer = done.answer;
-    let same = answers::is_reset(answer);
+    let same = answer.is_finished();
     let processor = done.processor;
     Played { processor, x, same }
 }
@@ -198,19 +266,13 @@ fn setup(
     detector: &mut [f64],
 ) -> Played {
     let s = h.settings;
-    let done = KernelProcessor::prepare(
-        s,
-        h.rate,
-        h.channels,
-        h.max_block,
-        Cap::Unlimited,
-        delay,
-        marks,
-        minima,
-        weights,
-        row,
-        detector,
-    );
+    let spec = ProcessSpec {
+        rate: h.rate,
+        channels: h.channels,
+        max_block: h.max_block,
+        cap: Cap::Unlimited,
+    };
+    let done = KernelProcessor::prepare(s, spec, delay, marks, minima, weights, row, detector);
     let answer = done.answer;
     let processor = done.processor;
     let l = processor.limiter;

@@ -1,6 +1,6 @@
 // The samples of a recorded session, which both sides make from a seed, and the digest of a call's outputs.
-use arithmetic::pattern::from_bits;
-use arithmetic::pattern::to_bits;
+use audio::words::put_word;
+use audio::words::word;
 
 // xorshift: the next state is also the word that is drawn.
 pub fn drawn(x: u64) -> u64 {
@@ -35,14 +35,13 @@ fn shaped(kind: u64, r: u64) -> u64 {
     r & 0x801f_ffff_ffff_ffff
 }
 
-// The samples of a block, channel after channel; the state afterwards.
-pub fn fill(samples: &mut [f64], x: u64, kind: u64) -> u64 {
+// The samples of a block, channel after channel, as bytes; the state afterwards.
+pub fn fill(bytes: &mut [u8], x: u64, kind: u64) -> u64 {
+    let n = bytes.len() / 8;
     let mut state = x;
-    let mut i: usize = 0;
-    while i < samples.len() {
+    for i in 0..n {
         state = drawn(state);
-        samples[i] = from_bits(shaped(kind, state));
-        i += 1;
+        put_word(bytes, 8 * i, shaped(kind, state));
     }
     state
 }
@@ -57,25 +56,20 @@ fn spread(d: u64) -> u64 {
     std::num::wrapping_add_u64(low, high)
 }
 
-// The digest with the sample at place i of planar audio, where it is one of its channel's first n.
-fn added(d: u64, x: f64, i: usize, width: usize, n: usize) -> u64 {
+// The digest with the bits of the sample at place i of planar audio, where it is one of its channel's first n.
+fn added(d: u64, bits: u64, i: usize, width: usize, n: usize) -> u64 {
     if width == 0 {
         return d;
     }
-    if i % width < n {
-        spread(d ^ to_bits(x))
-    } else {
-        d
-    }
+    if i % width < n { spread(d ^ bits) } else { d }
 }
 
-// The digest of the first n frames of planar audio that has `width` frames a channel.
-pub fn digest(audio: &[f64], width: usize, n: usize) -> u64 {
+// The digest of the first n frames of planar audio, in bytes, that has `width` frames a channel.
+pub fn digest(bytes: &[u8], width: usize, n: usize) -> u64 {
+    let size = bytes.len() / 8;
     let mut d: u64 = 0xcbf2_9ce4_8422_2325;
-    let mut i: usize = 0;
-    while i < audio.len() {
-        d = added(d, audio[i], i, width, n);
-        i += 1;
+    for i in 0..size {
+        d = added(d, word(bytes, 8 * i), i, width, n);
     }
     d
 }

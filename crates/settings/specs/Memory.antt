@@ -1,6 +1,6 @@
 -- Module 5 of document 01, `memory.rs`: the byte count, and a cap.
 use Prim.Native.Nat.{ℕ, _+_, _-_, _*_}
-use mathlib.Core.Bool.{Bool, true, cond, _&&_}
+use mathlib.Core.Bool.{Bool, cond, _&&_}
 use mathlib.Core.List.{[], _∷_}
 use lib.Dec.{leb}
 use Rattle.arithmetic.specs.Number.{largest}
@@ -21,12 +21,7 @@ counted channels look = leb 1 channels && leb channels 8 && leb 11 look && leb l
 abbrev pub needed : ℕ → ℕ → ℕ
 needed channels look = cond (counted channels look) (bytesOf channels look) largest
 
--- no cap means no limit
-abbrev pub fitsCap : ℕ → Cap → Bool
-fitsCap bytes Cap.Unlimited = true
-fitsCap bytes (Cap.Bytes cap) = leb bytes cap
-
--- 7 of the bank's bytes, 15 of the stores': over the cap, with needed and cap
+-- 7 of the bank's bytes, 15 of the stores': over the cap, with needed and cap. "No cap means no limit"
 abbrev pub capJudged : ℕ → Cap → CapJudged
 capJudged need Cap.Unlimited = CapJudged.Passed
 capJudged need (Cap.Bytes cap) = cond (leb need cap) CapJudged.Passed (CapJudged.Over need cap)

@@ -2,7 +2,7 @@
 ghost use mathlib.Core.Path.{_≡_};
 ghost use Prim.Native.Nat.{_≤_};
 ghost use Rattle.settings.specs.Derived.{rowOf};
-ghost use Rattle.settings.specs.Memory.{counted, bytesOf, needed, fitsCap, capJudged, leftOf};
+ghost use Rattle.settings.specs.Memory.{counted, bytesOf, needed, capJudged, leftOf};
 
 // How many bytes a caller allows.
 pub enum Cap {
@@ -44,16 +44,6 @@ pub fn row_len(look: usize) -> usize
     ensures { λ r. ⌜ r ≡ rowOf look ⌝ }
 {
     if look < 12 { 1 } else { look - 11 }
-}
-
-// Whether so many bytes are within the cap.
-pub fn fits_cap(bytes: u64, cap: Cap) -> bool
-    ensures { λ r. ⌜ r ≡ fitsCap bytes cap ⌝ }
-{
-    match cap {
-        Cap::Unlimited => true,
-        Cap::Bytes(most) => bytes <= most,
-    }
 }
 
 // What a cap says of bytes needed: over it, both are told.

@@ -1,5 +1,5 @@
--- `digest`: a sample a turn.
-use Prim.Native.Nat.{_-_, _≤_}
+-- `digest`: eight bytes a turn.
+use Prim.Native.Nat.{_-_, _*_, _≤_}
 use native.Mathlib.Omega.{arith}
 use borrow.Author.Needs.{needs}
 use lib.ListN.{length}
@@ -7,19 +7,19 @@ use Rattle.sessions.proofs.samples.digest.Statement.{statement}
 use Rattle.sessions.proofs.samples.digest.Tie as tie
 
 abbrev Inv-loop : tie.InvT-loop
-Inv-loop audio width n d₀ i₀ d i = i ≤ length audio
+Inv-loop bytes width n size d₀ i₀ d i = (i ≤ size) × (8 * size ≤ length bytes)
 
 abbrev μ-loop : tie.MeasureT-loop
-μ-loop audio width n d₀ i₀ d i = length audio - i
+μ-loop bytes width n size d₀ i₀ d i = size - i
 
 loop-holds : tie.Need-loop-holds Inv-loop μ-loop
-loop-holds c = omega arith
+loop-holds c = (omega arith, omega arith)
 
-mul-added : tie.Need-mul-added Inv-loop μ-loop
-mul-added c = omega arith
+mul-word : tie.Need-mul-word Inv-loop μ-loop
+mul-word c = omega arith
 
-shared-slice-read-added : tie.Need-shared-slice-read-added Inv-loop μ-loop
-shared-slice-read-added c = omega arith
+word-requires : tie.Need-word-requires Inv-loop μ-loop
+word-requires c κs = omega arith
 
 added-requires : tie.Need-added-requires Inv-loop μ-loop
 added-requires c κs = search needs
@@ -31,7 +31,7 @@ loop-less : tie.Need-loop-less Inv-loop μ-loop
 loop-less c = omega arith
 
 loop-again : tie.Need-loop-again Inv-loop μ-loop
-loop-again c = omega arith
+loop-again c = (omega arith, omega arith)
 
 returns : tie.Need-returns Inv-loop μ-loop
 returns c = search needs
@@ -43,8 +43,8 @@ digest-spec =
     Inv-loop
     μ-loop
     loop-holds
-    mul-added
-    shared-slice-read-added
+    mul-word
+    word-requires
     added-requires
     add-i
     loop-less

@@ -1,35 +1,32 @@
--- `fill`: a place a turn.
+-- `fill`: eight bytes a turn.
 use mathlib.Core.Path.{_≡_, refl, _∙_}
-use Prim.Native.Nat.{_-_, _≤_}
+use Prim.Native.Nat.{_-_, _*_, _≤_}
 use native.Mathlib.Omega.{arith}
 use borrow.Author.Needs.{needs}
-use lib.ListN.{length, length-set}
+use lib.ListN.{length}
 use Rattle.sessions.proofs.samples.fill.Statement.{statement}
 use Rattle.sessions.proofs.samples.fill.Tie as tie
 
 abbrev Inv-loop : tie.InvT-loop
-Inv-loop samples₀ x kind state₀ i₀ samples state i = (length samples ≡ length samples₀) × (i ≤ length samples₀)
+Inv-loop bytes₀ x kind n state₀ i₀ bytes state i = (length bytes ≡ length bytes₀) × (i ≤ n) × (8 * n ≤ length bytes₀)
 
 abbrev μ-loop : tie.MeasureT-loop
-μ-loop samples₀ x kind state₀ i₀ samples state i = length samples₀ - i
+μ-loop bytes₀ x kind n state₀ i₀ bytes state i = n - i
 
 loop-holds : tie.Need-loop-holds Inv-loop μ-loop
-loop-holds c = (refl, omega arith)
+loop-holds c = (refl, omega arith, omega arith)
 
 drawn-requires : tie.Need-drawn-requires Inv-loop μ-loop
 drawn-requires c κs = search needs
 
+mul-put-word : tie.Need-mul-put-word Inv-loop μ-loop
+mul-put-word c = omega arith
+
 shaped-requires : tie.Need-shaped-requires Inv-loop μ-loop
 shaped-requires c κs = search needs
 
-from-bits-requires : tie.Need-from-bits-requires Inv-loop μ-loop
-from-bits-requires c κs = search needs
-
-mul-samples : tie.Need-mul-samples Inv-loop μ-loop
-mul-samples c = omega arith
-
-slice-write-samples : tie.Need-slice-write-samples Inv-loop μ-loop
-slice-write-samples c = omega arith
+put-word-requires : tie.Need-put-word-requires Inv-loop μ-loop
+put-word-requires c κs = omega arith
 
 add-i : tie.Need-add-i Inv-loop μ-loop
 add-i c = omega arith
@@ -39,8 +36,8 @@ loop-less c = omega arith
 
 loop-again : tie.Need-loop-again Inv-loop μ-loop
 loop-again c =
-    let l = c .before .before .before .before .loop in
-    (length-set (l .samples) (l .i) (c .from-bits .result) ∙ l .inv .0, omega arith)
+    let l = c .before .before .before .before .before .before .before .loop in
+    (c .before .before .put-word .kept .0 ∙ l .inv .0, omega arith, l .inv .2)
 
 same-length : tie.Need-same-length Inv-loop μ-loop
 same-length c = c .before .loop .inv .0
@@ -56,10 +53,9 @@ fill-spec =
     μ-loop
     loop-holds
     drawn-requires
+    mul-put-word
     shaped-requires
-    from-bits-requires
-    mul-samples
-    slice-write-samples
+    put-word-requires
     add-i
     loop-less
     loop-again

@@ -1,7 +1,6 @@
 -- `drive`: each turn of the loop is a turn of the block.
 use mathlib.Core.Path.{_≡_, refl, _∙_}
 use Prim.Native.Nat.{_-_}
-use native.Mathlib.Omega.{arith}
 use lib.ListN.{length}
 use denote.Ref.{now}
 use Rattle.limiter.specs.Stores.{storesAt}

@@ -1,5 +1,4 @@
 -- `judge`: 18, then 16, then 19.
-use mathlib.Core.Path.{refl, sym, _∙_}
 use mathlib.Core.Bool.{true, false}
 use borrow.Author.Needs.{needs}
 use denote.Ref.{now}

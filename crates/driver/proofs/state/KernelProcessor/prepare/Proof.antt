@@ -1,10 +1,10 @@
 -- `prepare`: the bank's refusal, 7, or what the limiter answers.
+use mathlib.Core.Path.{sym, _∙_}
 use borrow.Author.Needs.{needs}
 use denote.Ref.{now}
 use Rattle.limiter.specs.Stores.{Stores, storesAt}
 use Rattle.limiter.specs.Prepare.{preparedAt}
-use Rattle.bank.proofs.Tests.{held, failed}
-use Rattle.driver.specs.Answers.{setupReply, setUpAt}
+use Rattle.driver.specs.Answers.{setUpAt}
 use Rattle.driver.proofs.Started.{bank-refused, over-budget, limiter-told}
 use Rattle.driver.proofs.state.KernelProcessor.prepare.Statement.{statement}
 use Rattle.driver.proofs.state.KernelProcessor.prepare.Tie as tie
@@ -31,20 +31,24 @@ returns c =
 enum-told : tie.Need-enum-told
 enum-told c = search needs
 
-fits-cap-requires : tie.Need-fits-cap-requires
-fits-cap-requires c κs = search needs
+judge-cap-requires : tie.Need-judge-cap-requires
+judge-cap-requires c κs = search needs
 
-budget-requires : tie.Need-budget-requires
-budget-requires c κs = search needs
+enum-known-budget : tie.Need-enum-known-budget
+enum-known-budget c = search needs
 
 refused-requires-2 : tie.Need-refused-requires-2
 refused-requires-2 c κs = search needs
 
 returns-2 : tie.Need-returns-2
 returns-2 c =
-    let a = c .before .before .before .before .before .before .before .before .before .before .before .before .before .before .args in
-    over-budget (a .s) (a .spec) (stores (c .before .before .before .before .before .before .before .before .before .before .before .before .before .before)) (c .before .before .before .before .before .before .before .bank-of .result) (c .before .before .before .before .before .before .before .bank-of .ensures) (c .before .before .before .before .enum-told .given .1) (failed (c .before .before .before .fits-cap .ensures) (c .before .before .if1 .taken)) (setupReply (c .before .budget .result)) (c .before .budget .ensures)
-    (setUpAt (c .refused2 .result) (stores (c .before .before .before .before .before .before .before .before .before .before .before .before .before .before))) (c .refused2 .ensures (stores (c .before .before .before .before .before .before .before .before .before .before .before .before .before .before)))
+    let a = c .before .before .before .before .before .before .before .before .before .before .before .before .before .before .before .args in
+    let over = c .before .before .budget .given in
+    over-budget (a .s) (a .spec) (stores (c .before .before .before .before .before .before .before .before .before .before .before .before .before .before .before)) (c .before .before .before .before .before .before .before .before .bank-of .result) (c .before .before .before .before .before .before .before .before .bank-of .ensures) (c .before .before .before .before .before .enum-told .given .1) (over .0 .0) (over .0 .1 .0) (sym (c .before .before .before .before .judge-cap .ensures) ∙ over .1)
+    (setUpAt (c .refused2 .result) (stores (c .before .before .before .before .before .before .before .before .before .before .before .before .before .before .before))) (c .refused2 .ensures (stores (c .before .before .before .before .before .before .before .before .before .before .before .before .before .before .before)))
+
+enum-told-2 : tie.Need-enum-told-2
+enum-told-2 c = search needs
 
 with-rest-requires : tie.Need-with-rest-requires
 with-rest-requires c κs = search needs
@@ -72,9 +76,9 @@ same-length-5 c = search needs
 
 returns-3 : tie.Need-returns-3
 returns-3 c =
-    let a = c .before .before .before .before .before .before .before .before .before .before .before .before .before .before .before .before .before .before .before .before .before .before .before .before .before .before .before .before .before .before .before .args in
+    let a = c .before .before .before .before .before .before .before .before .before .before .before .before .before .before .before .before .before .before .before .before .before .before .before .before .before .before .before .before .before .before .before .before .args in
     let p = c .before .before .before .before .before .before .before .before .before .before .before .before .prepare in
-    limiter-told (a .s) (a .spec) (stores (c .before .before .before .before .before .before .before .before .before .before .before .before .before .before .before .before .before .before .before .before .before .before .before .before .before .before .before .before .before .before .before)) (c .before .before .before .before .before .before .before .before .before .before .before .before .before .before .before .before .before .before .before .before .before .before .before .before .bank-of .result) (c .before .before .before .before .before .before .before .before .before .before .before .before .before .before .before .before .before .before .before .before .before .before .before .before .bank-of .ensures) (c .before .before .before .before .before .before .before .before .before .before .before .before .before .before .before .before .before .before .before .before .before .enum-told .given .1) (held (c .before .before .before .before .before .before .before .before .before .before .before .before .before .before .before .before .before .before .before .before .fits-cap .ensures) (c .before .before .before .before .before .before .before .before .before .before .before .before .before .before .before .before .before .before .before .if1 .left)) (c .before .before .before .before .before .before .before .before .before .before .before .before .before .before .before .before .before .before .with-rest .result) (c .before .before .before .before .before .before .before .before .before .before .before .before .before .before .before .before .before .before .with-rest .ensures)
+    limiter-told (a .s) (a .spec) (stores (c .before .before .before .before .before .before .before .before .before .before .before .before .before .before .before .before .before .before .before .before .before .before .before .before .before .before .before .before .before .before .before .before)) (c .before .before .before .before .before .before .before .before .before .before .before .before .before .before .before .before .before .before .before .before .before .before .before .before .before .bank-of .result) (c .before .before .before .before .before .before .before .before .before .before .before .before .before .before .before .before .before .before .before .before .before .before .before .before .before .bank-of .ensures) (c .before .before .before .before .before .before .before .before .before .before .before .before .before .before .before .before .before .before .before .before .before .before .enum-told .given .1) (sym (c .before .before .before .before .before .before .before .before .before .before .before .before .before .before .before .before .before .before .before .before .before .judge-cap .ensures) ∙ c .before .before .before .before .before .before .before .before .before .before .before .before .before .before .before .before .before .before .before .enum-told2 .given .1) (c .before .before .before .before .before .before .before .before .before .before .before .before .before .before .before .before .before .before .with-rest .result) (c .before .before .before .before .before .before .before .before .before .before .before .before .before .before .before .before .before .before .with-rest .ensures)
     (preparedAt (p .result) (storesAt (p .last .1 .1 .0) (p .last .1 .1 .1 .0) (p .last .1 .1 .1 .1 .0) (now (a .weights)) (p .last .1 .1 .1 .1 .1 .1 .0) (p .last .1 .1 .1 .1 .1 .1 .1 .0))) (p .ensures) (c .kept .result) (c .kept .ensures)
 
 pub prepare-spec : {M : Type 1} → statement M
@@ -86,10 +90,11 @@ prepare-spec =
     refused-requires
     returns
     enum-told
-    fits-cap-requires
-    budget-requires
+    judge-cap-requires
+    enum-known-budget
     refused-requires-2
     returns-2
+    enum-told-2
     with-rest-requires
     prepare-requires
     kept-requires
