@@ -1,5 +1,5 @@
 //! Where each thing stands in the words that cross. The proved side says it in
-//! bank/specs/Words.antt and host/specs/State.antt; here it is said once.
+//! bank/specs/Words.antt and state_bytes/specs/State.antt; here it is said once.
 
 /// A smoother's words.
 pub mod smoother {

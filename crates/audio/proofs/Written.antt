@@ -6,7 +6,7 @@ use Prim.Native.Nat.{ℕ, _+_, _-_, _*_, _≤_, _<_}
 use native.Mathlib.Nat.{mul-le-mul}
 use native.Mathlib.Omega.{arith}
 use lib.Dec.{ltb}
-use lib.ListN.{length, getD, length-append, length-map, List·getD-append, List·getD-map}
+use lib.ListN.{length, getD, replicate, length-append, length-map, length-replicate, List·getD-append, List·getD-map}
 use lib.Seq.{getD-append-add}
 use lib.Ieee.{Float, nan}
 use borrow.Author.Tests.{ltb-true, ltb-false}
@@ -14,7 +14,7 @@ use Rattle.arithmetic.specs.Number.{largest}
 use Rattle.audio.specs.Bytes.{joined}
 use Rattle.audio.specs.Planar.{framesAt, written}
 use Rattle.audio.specs.Format.{sampleBytes, sampleOf, bytesFor, sizeOf, placesOf, samplesOf, writtenBytes}
-use Rattle.audio.specs.Inner.{PlacesCarried, Scattered}
+use Rattle.audio.specs.Inner.{PlacesCarried, Placed}
 use Rattle.audio.specs.declared.format.Format.{Format}
 use Rattle.audio.proofs.Carry.{places-end}
 use Rattle.audio.proofs.Planes.{frames-map, frames-at-length, frames-place, frames-same, written-length, written-none, written-there, written-past, written-same, scattered}
@@ -155,23 +155,67 @@ module _ (format : Format) where
       → framesAt nan 32 k 0 n after ≡ framesAt nan w k first n (samplesOf format bytes)
   gathered k n w first bytes before after moved = frames-same nan 32 w k 0 first n after (samplesOf format bytes) (moved .there)
 
-  module _ (k n : ℕ) (run : List Float) (w first : ℕ) (bytes after : List ℕ) (fit : k * w ≡ sizeOf format bytes) (small : k * w < largest) (s : first + n ≤ w) (same : length after ≡ length bytes)
-      (moved : PlacesCarried none k n 32 0 (map (bytesFor format) run) w first (placesOf format bytes) (placesOf format after)) where
-    size : sizeOf format after ≡ k * w
-    size = size-same format after bytes same ∙ sym fit
+  -- what is carried out of a run places its frames
+  pub carried-placed : (k n : ℕ) (run : List Float) (w first : ℕ) (bytes after : List ℕ) → length after ≡ length bytes
+      → PlacesCarried none k n 32 0 (map (bytesFor format) run) w first (placesOf format bytes) (placesOf format after) → Placed format k n w first (framesAt nan 32 k 0 n run) bytes after
+  carried-placed k n run w first bytes after same moved = record {
+    as-long = same;
+    there = λ c i h g. moved .there c i h g ∙ List·getD-map (bytesFor format) run (c * 32 + 0 + i) nan ∙ ap (bytesFor format) (sym (frames-place nan 32 k 0 n c i run h g));
+    elsewhere = moved .elsewhere;
+  }
 
-    pub scattered-bytes : Scattered format k n run w first bytes after
+  -- frames read back out of a run that holds outputs are as good as the outputs
+  pub placed-outputs : (k n : ℕ) (run : List Float) (outputs : List (List Float)) (w first : ℕ) (bytes after : List ℕ) → n ≤ 32 → length outputs ≡ n → k * 32 ≤ length run
+      → Placed format k n w first (framesAt nan 32 k 0 n (written nan 32 k n run outputs)) bytes after → Placed format k n w first outputs bytes after
+  placed-outputs k n run outputs w first bytes after short m room p = record {
+    as-long = p .as-long;
+    there = λ c i h g. p .there c i h g ∙ ap (bytesFor format) (frames-place nan 32 k 0 n c i (written nan 32 k n run outputs) h g ∙ place c i h g);
+    elsewhere = p .elsewhere;
+  }
+    where
+      place : (c i : ℕ) → c < k → i < n → getD (written nan 32 k n run outputs) (c * 32 + 0 + i) nan ≡ getD (getD outputs i []) c nan
+      place c i h g =
+          let e : c * 32 + 0 + i ≡ c * 32 + i = omega arith in
+          rw e (written-there nan 32 n short k c i run outputs m room h g)
+
+  -- outputs that are placed follow those that were written before
+  module _ (k n w first : ℕ) (outputs : List (List Float)) (bytes after : List ℕ) (p : Placed format k n w first outputs bytes after) (short : n ≤ 32) (m : length outputs ≡ n)
+      (fit : sizeOf format bytes ≡ k * w) (small : k * w < largest) (s : first + n ≤ w) where
+    size : sizeOf format after ≡ k * w
+    size = size-same format after bytes (p .as-long) ∙ fit
+
+    -- a run that holds them
+    abbrev quiet : List Float
+    quiet = replicate (k * 32) nan
+
+    room : k * 32 ≤ length quiet
+    room = omega (arith, length-replicate (k * 32) nan)
+
+    abbrev run : List Float
+    run = written nan 32 k n quiet outputs
+
+    moved : PlacesCarried none k n 32 0 (map (bytesFor format) run) w first (placesOf format bytes) (placesOf format after)
+    moved = record {
+      there = λ c i h g.
+          p .there c i h g
+          ∙ ap (bytesFor format) (sym (written-there nan 32 n short k c i quiet outputs m room h g) ∙ ap (λ (q : ℕ). getD run q nan) (omega arith))
+          ∙ sym (List·getD-map (bytesFor format) run (c * 32 + 0 + i) nan);
+      elsewhere = p .elsewhere;
+    }
+
+    joins-run : (before : List ℕ) (earlier : List (List Float)) → length earlier ≡ first → sizeOf format before ≡ k * w → bytes ≡ writtenBytes format w k first before earlier
+        → after ≡ writtenBytes format w k (first + n) before (earlier ++ framesAt nan 32 k 0 n run)
     unfolding writtenBytes
-    scattered-bytes = record { joins = λ before outputs m f e. joins before outputs m f e }
-      where
-        joins : (before : List ℕ) (outputs : List (List Float)) → length outputs ≡ first → sizeOf format before ≡ k * w → bytes ≡ writtenBytes format w k first before outputs
-            → after ≡ writtenBytes format w k (first + n) before (outputs ++ framesAt nan 32 k 0 n run)
-        joins before outputs m f e =
-            let moved' = subst (λ (l : List (List ℕ)). PlacesCarried none k n 32 0 (map (bytesFor format) run) w first l (placesOf format after)) (ap (placesOf format) e ∙ places-written w k first before outputs) moved in
-            let all : inBytes outputs ++ framesAt none 32 k 0 n (map (bytesFor format) run) ≡ inBytes (outputs ++ framesAt nan 32 k 0 n run) =
-            ap (λ (l : List (List (List ℕ))). inBytes outputs ++ l) (frames-map (bytesFor format) nan 32 k 0 n run) ∙ sym (map-append (map (bytesFor format)) outputs (framesAt nan 32 k 0 n run))
-            in
-            sym (joined-places format after (k * w) size small)
-            ∙ ap joined
-            (scattered none w k first n 32 (placesOf format before) (inBytes outputs) (map (bytesFor format) run) (placesOf format after) (length-map outputs (map (bytesFor format)) ∙ m) (places-fit format before (k * w) f small) s (places-fit format after (k * w) size small) moved'
-            ∙ ap (written none w k (first + n) (placesOf format before)) all)
+    joins-run before earlier o f e =
+        let moved' = subst (λ (l : List (List ℕ)). PlacesCarried none k n 32 0 (map (bytesFor format) run) w first l (placesOf format after)) (ap (placesOf format) e ∙ places-written w k first before earlier) moved in
+        let all : inBytes earlier ++ framesAt none 32 k 0 n (map (bytesFor format) run) ≡ inBytes (earlier ++ framesAt nan 32 k 0 n run) =
+        ap (λ (l : List (List (List ℕ))). inBytes earlier ++ l) (frames-map (bytesFor format) nan 32 k 0 n run) ∙ sym (map-append (map (bytesFor format)) earlier (framesAt nan 32 k 0 n run))
+        in
+        sym (joined-places format after (k * w) size small)
+        ∙ ap joined
+        (scattered none w k first n 32 (placesOf format before) (inBytes earlier) (map (bytesFor format) run) (placesOf format after) (length-map earlier (map (bytesFor format)) ∙ o) (places-fit format before (k * w) f small) s (places-fit format after (k * w) size small) moved'
+        ∙ ap (written none w k (first + n) (placesOf format before)) all)
+
+    pub placed-joins : (before : List ℕ) (earlier : List (List Float)) → length earlier ≡ first → sizeOf format before ≡ k * w → bytes ≡ writtenBytes format w k first before earlier
+        → after ≡ writtenBytes format w k (first + n) before (earlier ++ outputs)
+    placed-joins before earlier o f e = joins-run before earlier o f e ∙ written-bytes-back w k (first + n) before earlier 32 n quiet outputs short m room

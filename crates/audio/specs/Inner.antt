@@ -1,11 +1,10 @@
--- What the inner functions of a run's audio ask and give. `Scattered` is what a caller of `scatter` is told.
+-- Places carried between planar lists, and outputs placed in a call's audio: what `gather` and `scatter` promise.
 use Prim.Native.Nat.{ℕ, _+_, _*_, _≤_, _<_}
 use mathlib.Core.Path.{_≡_}
-use mathlib.Core.List.{List, _++_}
+use mathlib.Core.List.{List, [], _++_}
 use lib.ListN.{length, getD, take, drop}
 use lib.Ieee.{Float, nan}
-use Rattle.audio.specs.Planar.{framesAt}
-use Rattle.audio.specs.Format.{sizeOf, writtenBytes}
+use Rattle.audio.specs.Format.{bytesFor, placesOf}
 use Rattle.audio.specs.declared.format.Format.{Format}
 
 -- ---- places carried from one planar list to another; `none` stands past a list's end
@@ -24,8 +23,11 @@ pub record PlacesCarried {A : Type 0} (none : A) (channels n width from : ℕ) (
 abbrev pub put : List ℕ → ℕ → List ℕ → List ℕ
 put bytes at new = take at bytes ++ (new ++ drop (at + length new) bytes)
 
--- a run's n frames follow the frames that were written before
-pub record Scattered (format : Format) (channels n : ℕ) (run : List Float) (width first : ℕ) (bytes after : List ℕ) : Type 0 where
-  pub joins : (before : List ℕ) (outputs : List (List Float)) → length outputs ≡ first → sizeOf format before ≡ channels * width
-      → bytes ≡ writtenBytes format width channels first before outputs
-      → after ≡ writtenBytes format width channels (first + n) before (outputs ++ framesAt nan 32 channels 0 n run)
+-- ---- outputs in a call's audio
+-- those of n frames, from frame `first` on: each as its bytes in its sample's place, and every other place as it was
+pub record Placed (format : Format) (channels n width first : ℕ) (outputs : List (List Float)) (bytes after : List ℕ) : Type 0 where
+  pub as-long : length after ≡ length bytes
+  pub there : (c i : ℕ) → c < channels → i < n
+      → getD (placesOf format after) (c * width + first + i) (bytesFor format nan) ≡ bytesFor format (getD (getD outputs i []) c nan)
+  pub elsewhere : (p : ℕ) → ((c : ℕ) → c < channels → c * width + first ≤ p → c * width + first + n ≤ p)
+      → getD (placesOf format after) p (bytesFor format nan) ≡ getD (placesOf format bytes) p (bytesFor format nan)

@@ -7,7 +7,7 @@ ghost use lib.ListN.{length, getD, set};
 ghost use lib.Ieee.{nan};
 ghost use Rattle.audio.specs.Planar.{framesAt};
 ghost use Rattle.audio.specs.Format.{bytesFor, sizeOf, placesOf, samplesOf};
-ghost use Rattle.audio.specs.Inner.{PlacesCopied, Scattered};
+ghost use Rattle.audio.specs.Inner.{PlacesCopied, PlacesCarried, Placed};
 use crate::format::Format;
 use crate::words::put_word;
 use crate::words::word;
@@ -61,7 +61,7 @@ pub fn gather(
     requires { ⌜ first + n ≤ width ⌝ }
     requires { ⌜ n ≤ 32 ⌝ }
     requires { ⌜ length (now run) ≡ 256 ⌝ }
-    ensures { λ _. ⌜ framesAt nan 32 channels 0 n (now (run .exit)) ≡ framesAt nan width channels first n (samplesOf format (now (bytes .entry))) ⌝ }
+    ensures { λ _. ⌜ PlacesCarried nan channels n width first (samplesOf format (now (bytes .entry))) 32 0 (now (run .entry)) (now (run .exit)) ⌝ }
 {
     for c in 0..channels {
         read_channel(format, n, c * width + first, bytes, c * 32, run);
@@ -96,7 +96,7 @@ pub fn scatter(
     requires { ⌜ first + n ≤ width ⌝ }
     requires { ⌜ n ≤ 32 ⌝ }
     requires { ⌜ length (now run) ≡ 256 ⌝ }
-    ensures { λ _. ⌜ Scattered format channels n (now (run .entry)) width first (now (bytes .entry)) (now (bytes .exit)) ⌝ }
+    ensures { λ _. ⌜ Placed format channels n width first (framesAt nan 32 channels 0 n (now (run .entry))) (now (bytes .entry)) (now (bytes .exit)) ⌝ }
 {
     for c in 0..channels {
         write_channel(format, n, c * 32, run, c * width + first, bytes);

@@ -7,7 +7,7 @@ ghost use Rattle.audio.specs.Bytes.{wordOf, bytesOf, wordsIn, bytesOut};
 ghost use Rattle.audio.specs.Inner.{put};
 
 // The word of eight bytes: a flat sum, so that it compiles to one load.
-fn joined(b0: u8, b1: u8, b2: u8, b3: u8, b4: u8, b5: u8, b6: u8, b7: u8) -> u64
+fn word_of(b0: u8, b1: u8, b2: u8, b3: u8, b4: u8, b5: u8, b6: u8, b7: u8) -> u64
     ensures { λ r. ⌜ r ≡ wordOf (b0 ∷ b1 ∷ b2 ∷ b3 ∷ b4 ∷ b5 ∷ b6 ∷ b7 ∷ []) ⌝ }
 {
     (b0 as u64)
@@ -25,7 +25,7 @@ pub fn word(bytes: &[u8], at: usize) -> u64
     requires { ⌜ at + 8 ≤ length (now bytes) ⌝ }
     ensures { λ r. ⌜ r ≡ wordOf (take 8 (drop at (now (bytes .entry)))) ⌝ }
 {
-    joined(
+    word_of(
         bytes[at],
         bytes[at + 1],
         bytes[at + 2],

@@ -9,13 +9,13 @@ use lib.Ieee.{Float}
 use Rattle.arithmetic.specs.Number
 use Rattle.arithmetic.specs.Number.{one, within}
 use Rattle.audio.specs.Format.{sizeOf, writtenBytes}
-use Rattle.audio.specs.Inner.{Scattered}
+use Rattle.audio.specs.Inner.{Placed}
 use Rattle.audio.specs.declared.format.Format.{Format}
-use Rattle.audio.proofs.Written.{written-bytes-none, written-bytes-size}
+use Rattle.audio.proofs.Written.{written-bytes-none, written-bytes-size, placed-outputs, placed-joins}
 use Rattle.detector.specs.Run.{runLength}
 use Rattle.frame.specs.Rules.{Rules, rulesOf}
 use Rattle.frame.specs.Frame.{Framed}
-use Rattle.frame.specs.Run.{framesOf, writtenIn}
+use Rattle.frame.specs.Run.{framesOf, framesIn, writtenIn}
 use Rattle.frame.proofs.Keeps.{frames-append}
 use Rattle.frame.proofs.Place.{silent-frames}
 use Rattle.limiter.specs.Stores.{Stores, lengthsOf, lengthsFit}
@@ -27,8 +27,8 @@ use Rattle.limiter.proofs.Frames.{order-is}
 use Rattle.limiter.proofs.Keeping.{frames-held, drain-prepared, drain-lengths, drain-in-order}
 use Rattle.driver.specs.Block.{Rendered, rendered, outputsOf}
 use Rattle.driver.specs.Drain.{silence, withDrained}
-use Rattle.driver.specs.Inner.{RunsReady, Joins, silent, DrainAsked}
-use Rattle.driver.proofs.Rendering.{ran-as, shown-many, frames-counted, channels-kept, kernel-asks, run-room, audio-small, outputs-join}
+use Rattle.driver.specs.Inner.{RunsReady, silent, DrainAsked}
+use Rattle.driver.proofs.Rendering.{ran-as, shown-many, frames-counted, channels-kept, kernel-asks, run-room, audio-small}
 
 -- ---- frames in two lists, one after the other
 -- a limiter whose gain lies within 0 and 1 keeps its look
@@ -147,17 +147,17 @@ module _ (format : Format) (l₀ : Limiter) (n width : ℕ) (s₀ : Stores) (byt
 
     -- ---- the next turn
     module _ (after : Limiter) (stores : Stores) (run' : List Float) (bytes' : List ℕ) (D : ranAt after stores run' ≡ Run.drainOf (rulesOf (l .settings) format) l len s run) (R : length run' ≡ length run)
-        (C : Scattered format k len run' width first bytes bytes') where
+        (C : Placed format k len width first (framesIn k len run') bytes bytes') where
       room : l .channels * runLength ≤ length run
       room = run-room l run (d .ready .set-up) (d .run-fit)
 
       e : ranAt after stores run' ≡ ranAt (withDrained (this .limiter) (l .drained + len)) (this .stores) (writtenIn (l .channels) len (replicate (length run) Number.zero) (outputsOf (this .frames)))
       e = D ∙ drain-as format l len s run (tail-inside .1) room
 
-      joins : Joins format width k first len bytes (outputsOf (this .frames)) bytes'
-      joins =
-          outputs-join format k len (replicate (length run) Number.zero) run' width first bytes bytes' (outputsOf (this .frames)) this-many (tail-inside .1) (rw (length-replicate (length run) Number.zero, ← channels-are) room)
-          (ap (λ (z : Ran). z .audio) e ∙ ap (λ (c : ℕ). writtenIn c len (replicate (length run) Number.zero) (outputsOf (this .frames))) channels-are) C
+      placed : Placed format k len width first (outputsOf (this .frames)) bytes bytes'
+      placed =
+          placed-outputs format k len (replicate (length run) Number.zero) (outputsOf (this .frames)) width first bytes bytes' (tail-inside .1) this-many (rw (length-replicate (length run) Number.zero, ← channels-are) room)
+          (subst (λ (z : List Float). Placed format k len width first (framesIn k len z) bytes bytes') (ap (λ (z : Ran). z .audio) e ∙ ap (λ (c : ℕ). writtenIn c len (replicate (length run) Number.zero) (outputsOf (this .frames))) channels-are) C)
 
       still : RunsReady after (n - (first + len)) stores
       still =
@@ -186,7 +186,8 @@ module _ (format : Format) (l₀ : Limiter) (n width : ℕ) (s₀ : Stores) (byt
             limiter-is = ap (λ (z : Ran). z .limiter) e ∙ ap (λ (i : ℕ). withDrained (this .limiter) i) count ∙ ap (λ (r : Rendered). withDrained (r .limiter) (l₀ .drained + (first + len))) (sym joined);
             stores-are = ap (λ (z : Ran). z .stores) e ∙ ap (λ (r : Rendered). r .stores) (sym joined);
             audio-is =
-                joins bytes₀ (outputsOf (at first .frames)) before-many (a .lends .audio-fit) (d .audio-is)
+                placed-joins format k len width first (outputsOf (this .frames)) bytes bytes' placed (tail-inside .1) this-many audio-size (audio-small l₀ width (a .ready .set-up) (a .lends .short)) (omega (arith, tail-inside .2, a .inside)) bytes₀
+                (outputsOf (at first .frames)) before-many (a .lends .audio-fit) (d .audio-is)
                 ∙ ap (writtenBytes format width k (first + len) bytes₀) (sym (map-append (λ (f : Framed). f .outputs) (at first .frames) (this .frames)) ∙ ap (λ (r : Rendered). outputsOf (r .frames)) (sym joined));
             look-is =
                 ap (λ (z : Ran). z .limiter .env .keeper .look) e

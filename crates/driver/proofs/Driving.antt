@@ -8,9 +8,10 @@ use lib.Ieee.{Float, nan}
 use Rattle.arithmetic.specs.Number.{largest}
 use Rattle.audio.specs.Planar.{framesAt}
 use Rattle.audio.specs.Format.{sizeOf, samplesOf, writtenBytes}
+use Rattle.audio.specs.Inner.{Placed}
 use Rattle.audio.specs.declared.format.Format.{Format}
 use Rattle.audio.proofs.Planes.{frames-take, frames-drop, frames-at-length}
-use Rattle.audio.proofs.Written.{written-bytes-none, written-bytes-size, samples-ahead}
+use Rattle.audio.proofs.Written.{written-bytes-none, written-bytes-size, samples-ahead, placed-joins}
 use Rattle.detector.specs.Run.{runLength}
 use Rattle.frame.specs.Rules.{rulesOf}
 use Rattle.frame.specs.Frame.{Framed}
@@ -18,7 +19,7 @@ use Rattle.bank.specs.declared.smoother_bank.SmootherBank.{SmootherBank}
 use Rattle.driver.specs.Machine.{Machine, machineOf}
 use Rattle.driver.specs.Events.{Event, eventsOf, latchedAll}
 use Rattle.driver.specs.Block.{Renderer, rendered, renderedIn, runAt, runsFrom, runsOf, Turn, turnOf, Ran, runsThrough, outputsOf}
-use Rattle.driver.specs.Inner.{waitingAt, RunsReady, Joins, leftOf, standsAt, turnAt, TurnAsked, TurnGiven, BlockAsked, driven}
+use Rattle.driver.specs.Inner.{waitingAt, RunsReady, framesLeft, standsAt, turnAt, TurnAsked, TurnGiven, BlockAsked, driven}
 use Rattle.driver.specs.declared.turn.Unfinished.{Unfinished}
 use Rattle.driver.proofs.Rendering.{shown-many, channels-kept, settings-kept, audio-small}
 
@@ -115,7 +116,7 @@ module _ (format : Format) (position frames : ℕ) (words bytes₀ : List ℕ) (
     first = block .rendered
 
     abbrev n : ℕ
-    n = runAt (standsAt block) (leftOf block)
+    n = runAt (standsAt block) (framesLeft block)
 
     outputs-many : length (outputsOf (d .shown)) ≡ first
     outputs-many = length-map (d .shown) (λ (f : Framed). f .outputs) ∙ d .many
@@ -176,10 +177,13 @@ module _ (format : Format) (position frames : ℕ) (words bytes₀ : List ℕ) (
           (framesAt nan frames k (first + n) (frames - (first + n)) samples) m turn (omega (arith, more)) (d .enough) n-is (omega arith) (omega arith) frames-now frames-left turn-is
           ∙ rw (r .machine-is, r .waiting-is) refl
 
-      joins : Joins format frames k first n bytes (outputsOf (turn .frames)) bytes'
-      joins =
-          subst (λ (c : ℕ). Joins format frames c first n bytes (outputsOf (turn .frames)) bytes') (d .channels-are)
-          (subst (λ (w : ℕ). Joins format w (m .limiter .channels) first n bytes (outputsOf (turn .frames)) bytes') (d .frames-is) (r .audio-is))
+      placed : Placed format k n frames first (outputsOf (turn .frames)) bytes bytes'
+      placed =
+          subst (λ (c : ℕ). Placed format c n frames first (outputsOf (turn .frames)) bytes bytes') (d .channels-are)
+          (subst (λ (w : ℕ). Placed format (m .limiter .channels) n w first (outputsOf (turn .frames)) bytes bytes') (d .frames-is) (r .audio-is))
+
+      turn-many : length (turn .frames) ≡ n
+      turn-many = shown-many (rulesOf (m .limiter .settings) format) (m .limiter) _ (m .stores) gs ∙ frames-at-length nan (block .frames) (m .limiter .channels) first n (samplesOf format bytes)
 
       pub driven-more : Driven next after bytes' run'
       driven-more =
@@ -188,9 +192,7 @@ module _ (format : Format) (position frames : ℕ) (words bytes₀ : List ℕ) (
             position-is = r .position-is ∙ d .position-is;
             frames-is = r .frames-is ∙ d .frames-is;
             shown = d .shown ++ turn .frames;
-            many =
-                length-append (d .shown) (turn .frames)
-                ∙ rw (d .many, shown-many (rulesOf (m .limiter .settings) format) (m .limiter) _ (m .stores) gs, frames-at-length nan (block .frames) (m .limiter .channels) first n (samplesOf format bytes)) (sym e);
+            many = length-append (d .shown) (turn .frames) ∙ rw (d .many, turn-many) (sym e);
             most = d .most - 1;
             enough = omega (arith, e, d .enough, run-inside .0);
             inside = omega (arith, e, run-inside .2);
@@ -201,7 +203,8 @@ module _ (format : Format) (position frames : ℕ) (words bytes₀ : List ℕ) (
                 rw e
                 (sym (joined-joined (d .shown) (turn .frames) (rest (d .most - 1) (first + n) (next .latched) after)) ∙ ap (joined (d .shown)) (sym step) ∙ d .same);
             audio-is =
-                joins bytes₀ (outputsOf (d .shown)) outputs-many (asked .lends .audio-fit) (d .audio-is)
+                placed-joins format k n frames first (outputsOf (turn .frames)) bytes bytes' placed (run-inside .1) (length-map (turn .frames) (λ (f : Framed). f .outputs) ∙ turn-many) (audio-size ∙ rw (d .channels-are, d .frames-is) refl)
+                small (run-inside .2) bytes₀ (outputsOf (d .shown)) outputs-many (asked .lends .audio-fit) (d .audio-is)
                 ∙ ap (writtenBytes format frames k (first + n) bytes₀) (sym (map-append (λ (f : Framed). f .outputs) (d .shown) (turn .frames)))
                 ∙ ap (λ (i : ℕ). writtenBytes format frames k i bytes₀ (outputsOf (d .shown ++ turn .frames))) (sym e);
             ready = subst (λ (f : ℕ). RunsReady (after .limiter) (f - next .rendered) (after .stores)) (r .frames-is ∙ d .frames-is) (r .ready);

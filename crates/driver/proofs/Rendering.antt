@@ -9,11 +9,11 @@ use lib.Ieee.{Float, nan}
 use Rattle.arithmetic.specs.Number
 use Rattle.arithmetic.specs.Number.{one, within, largest}
 use Rattle.audio.specs.Planar.{framesAt}
-use Rattle.audio.specs.Format.{samplesOf, writtenBytes}
-use Rattle.audio.specs.Inner.{Scattered}
+use Rattle.audio.specs.Format.{samplesOf}
+use Rattle.audio.specs.Inner.{PlacesCarried, Placed}
 use Rattle.audio.specs.declared.format.Format.{Format}
 use Rattle.audio.proofs.Planes.{frames-at-length}
-use Rattle.audio.proofs.Written.{size-small, written-bytes-back}
+use Rattle.audio.proofs.Written.{size-small, gathered, placed-outputs}
 use Rattle.detector.specs.Run.{runLength}
 use Rattle.keeper.specs.InOrder.{mostFrames}
 use Rattle.frame.specs.Rules.{Rules, rulesOf}
@@ -27,7 +27,7 @@ use Rattle.limiter.specs.declared.state.Limiter.{Limiter}
 use Rattle.limiter.proofs.Frames.{bounds-of}
 use Rattle.limiter.proofs.Keeping.{render-prepared, render-lengths, render-in-order}
 use Rattle.driver.specs.Block.{rendered, outputsOf}
-use Rattle.driver.specs.Inner.{RunsReady, RunAsked, Joins, RunGiven}
+use Rattle.driver.specs.Inner.{RunsReady, RunAsked, RunGiven}
 
 -- ---- the kernel's run, as frames in turn
 -- a run of its frames
@@ -83,22 +83,15 @@ pub settings-kept : (rules : Rules) (l : Limiter) (target : Float) (s : Stores) 
 unfolding rendered
 settings-kept rules l target s fs after e = ap (λ (z : Limiter). z .settings) e
 
--- a run that holds outputs is scattered: they join those before them
-pub outputs-join : (format : Format) (k n : ℕ) (run run' : List Float) (width first : ℕ) (bytes bytes' : List ℕ) (more : List (List Float)) → length more ≡ n → n ≤ runLength → k * runLength ≤ length run
-    → run' ≡ writtenIn k n run more → Scattered format k n run' width first bytes bytes' → Joins format width k first n bytes more bytes'
-outputs-join format k n run run' width first bytes bytes' more m short room e c before outputs o b w =
-    c .joins before outputs o b w
-    ∙ ap (λ (x : List Float). writtenBytes format width k (first + n) before (outputs ++ framesAt nan runLength k 0 n x)) e
-    ∙ written-bytes-back format width k (first + n) before outputs runLength n run more short m room
-
 -- ---- gathered, rendered, scattered
 module _ (l : Limiter) (format : Format) (target : Float) (width first n : ℕ) (s : Stores) (bytes : List ℕ) (run₀ run run' : List Float) (bytes' : List ℕ) (after : Limiter) (stores : Stores) where
   abbrev rules : Rules
   rules = rulesOf (l .settings) format
 
-  pub run-given : RunAsked l format target width first n s bytes run₀ → length run ≡ length run₀ → framesIn (l .channels) n run ≡ framesAt nan width (l .channels) first n (samplesOf format bytes)
-      → ranAt after stores run' ≡ renderOf rules l target n s run → Scattered format (l .channels) n run' width first bytes bytes' → RunGiven l format target width first n s bytes after stores bytes'
-  run-given a m fs r c =
+  pub run-given : RunAsked l format target width first n s bytes run₀ → length run ≡ length run₀ → PlacesCarried nan (l .channels) n width first (samplesOf format bytes) runLength 0 run₀ run
+      → ranAt after stores run' ≡ renderOf rules l target n s run → Placed format (l .channels) n width first (framesIn (l .channels) n run') bytes bytes' → RunGiven l format target width first n s bytes after stores bytes'
+  run-given a m g r c =
+      let fs : framesIn (l .channels) n run ≡ framesAt nan width (l .channels) first n (samplesOf format bytes) = gathered format (l .channels) n width first bytes run₀ run g in
       let k = kernel-asks l n s run (a .ready) (a .some) (a .short) (m ∙ a .lends .run-fit) in
       let e = r ∙ ran-as rules l target n s run in
       let many = shown-many rules l target s (framesIn (l .channels) n run) ∙ frames-at-length nan runLength (l .channels) 0 n run in
@@ -107,7 +100,8 @@ module _ (l : Limiter) (format : Format) (target : Float) (width first n : ℕ) 
         limiter-is = ap (λ (z : Ran). z .limiter) e ∙ ap (λ (z : List (List Float)). rendered rules l s target z .limiter) fs;
         stores-are = ap (λ (z : Ran). z .stores) e ∙ ap (λ (z : List (List Float)). rendered rules l s target z .stores) fs;
         audio-is =
-            subst (λ (z : List (List Float)). Joins format width (l .channels) first n bytes (outputsOf (rendered rules l s target z .frames)) bytes') fs
-            (outputs-join format (l .channels) n run run' width first bytes bytes' (outputsOf shown) (length-map shown (λ (x : Framed). x .outputs) ∙ many) (a .short) (run-room l run (a .ready .set-up) (m ∙ a .lends .run-fit)) (ap (λ (z : Ran). z .audio) e) c);
+            subst (λ (z : List (List Float)). Placed format (l .channels) n width first (outputsOf (rendered rules l s target z .frames)) bytes bytes') fs
+            (placed-outputs format (l .channels) n run (outputsOf shown) width first bytes bytes' (a .short) (length-map shown (λ (x : Framed). x .outputs) ∙ many) (run-room l run (a .ready .set-up) (m ∙ a .lends .run-fit))
+            (subst (λ (z : List Float). Placed format (l .channels) n width first (framesIn (l .channels) n z) bytes bytes') (ap (λ (z : Ran). z .audio) e) c));
         still = λ left room. subst (λ (z : Ran). RunsReady (z .limiter) left (z .stores)) (sym e) (still-ready rules l target n s run k (a .unit) left room);
       }

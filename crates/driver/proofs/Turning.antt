@@ -7,6 +7,7 @@ use lib.ListN.{length}
 use lib.Ieee.{Float, nan}
 use Rattle.audio.specs.Planar.{framesAt}
 use Rattle.audio.specs.Format.{samplesOf}
+use Rattle.audio.specs.Inner.{Placed}
 use Rattle.audio.specs.declared.format.Format.{Format}
 use Rattle.detector.specs.Run.{runLength}
 use Rattle.limiter.specs.Stores.{Stores}
@@ -17,11 +18,11 @@ use Rattle.bank.specs.declared.smoother_bank.SmootherBank.{SmootherBank}
 use Rattle.driver.specs.Machine.{Machine, machineOf, thresholdOf}
 use Rattle.driver.specs.Events.{Latched}
 use Rattle.driver.specs.Block.{renderedIn, runAt, outputsOf}
-use Rattle.driver.specs.Inner.{waitingAt, latchedAt, beforeRun, RunAsked, Joins, RunGiven, leftOf, standsAt, TurnAsked, TurnGiven}
+use Rattle.driver.specs.Inner.{waitingAt, latchedAt, beforeRun, RunAsked, RunGiven, framesLeft, standsAt, TurnAsked, TurnGiven}
 use Rattle.driver.specs.declared.events.LatchedTo.{LatchedTo}
 use Rattle.driver.specs.declared.turn.Unfinished.{Unfinished}
 
-module _ (m : Machine) (block : Unfinished) (format : Format) (words bytes : List ℕ) (run : List Float) (a : TurnAsked m block format words bytes run) (n : ℕ) (N : n ≡ runAt (standsAt block) (leftOf block)) where
+module _ (m : Machine) (block : Unfinished) (format : Format) (words bytes : List ℕ) (run : List Float) (a : TurnAsked m block format words bytes run) (n : ℕ) (N : n ≡ runAt (standsAt block) (framesLeft block)) where
   -- a run has a frame at least, and no more than are left
   pub turn-inside : (1 ≤ n) × (n ≤ runLength) × (block .rendered + n ≤ block .frames)
   turn-inside = (omega (arith, N, a .more), omega (arith, N, a .more), omega (arith, N, a .more))
@@ -54,8 +55,8 @@ module _ (m : Machine) (block : Unfinished) (format : Format) (words bytes : Lis
     abbrev frames : ℕ → List (List Float)
     frames i = framesAt nan (block .frames) (m .limiter .channels) (block .rendered) i (samplesOf format bytes)
 
-    abbrev Join : ℕ → Float → Type 0
-    Join i x = Joins format (block .frames) (m .limiter .channels) (block .rendered) i bytes (outputsOf (renderedIn format m (m .limiter) (m .stores) x (frames i) .frames)) bytes'
+    abbrev Out : ℕ → Float → Type 0
+    Out i x = Placed format (m .limiter .channels) i (block .frames) (block .rendered) (outputsOf (renderedIn format m (m .limiter) (m .stores) x (frames i) .frames)) bytes bytes'
 
     pub turn-given : TurnGiven m block format words bytes (machineOf after (l .bank) stores) (record { position = block .position; frames = block .frames; rendered = block .rendered + n; latched = l .cursor }) bytes'
     turn-given = record {
@@ -65,6 +66,6 @@ module _ (m : Machine) (block : Unfinished) (format : Format) (words bytes : Lis
       position-is = refl;
       frames-is = refl;
       rendered-is = ap (λ (i : ℕ). block .rendered + i) N;
-      audio-is = subst (λ (i : ℕ). Join i due) N (subst (λ (x : Float). Join n x) target-is (r .audio-is));
+      audio-is = subst (λ (i : ℕ). Out i due) N (subst (λ (x : Float). Out n x) target-is (r .audio-is));
       ready = r .still (block .frames - (block .rendered + n)) (omega (arith, a .ready .room, turn-inside .2));
     }

@@ -1,14 +1,15 @@
--- What the inner functions of a block and a drain ask and give. The public calls' promises cite none of it.
+-- What the inner functions of a block and a drain ask and give. The entry points' promises cite none of it.
 use Prim.Native.Nat.{ℕ, _+_, _-_, _*_, _/_, _≤_, _<_}
 use mathlib.Core.Path.{_≡_}
 use mathlib.Core.Bool.{true}
-use mathlib.Core.List.{List, _++_}
+use mathlib.Core.List.{List}
 use lib.ListN.{length}
 use lib.Ieee.{Float, nan}
 use Rattle.arithmetic.specs.Number
 use Rattle.arithmetic.specs.Number.{one, within}
 use Rattle.audio.specs.Planar.{framesAt}
-use Rattle.audio.specs.Format.{sizeOf, samplesOf, writtenBytes}
+use Rattle.audio.specs.Format.{sizeOf, samplesOf}
+use Rattle.audio.specs.Inner.{Placed}
 use Rattle.audio.specs.declared.format.Format.{Format}
 use Rattle.detector.specs.Run.{runLength}
 use Rattle.keeper.specs.InOrder.{mostFrames}
@@ -62,30 +63,24 @@ pub record RunAsked (l : Limiter) (format : Format) (target : Float) (width firs
   pub short : n ≤ runLength
   pub inside : first + n ≤ width
 
--- whatever outputs the frames before `first` have in the audio, those of the next n frames join them
-abbrev pub Joins : Format → ℕ → ℕ → ℕ → ℕ → List ℕ → List (List Float) → List ℕ → Type 0
-Joins format width channels first n bytes more after =
-    (before : List ℕ) (outputs : List (List Float)) → length outputs ≡ first → sizeOf format before ≡ channels * width
-    → bytes ≡ writtenBytes format width channels first before outputs → after ≡ writtenBytes format width channels (first + n) before (outputs ++ more)
-
--- those frames are rendered, their outputs join the ones before them, and limiter and stores are as ready as they were
+-- those frames are rendered, their outputs are placed in the audio, and limiter and stores are as ready as they were. `run` is left free.
 pub record RunGiven (l : Limiter) (format : Format) (target : Float) (width first n : ℕ) (s : Stores) (bytes : List ℕ) (after : Limiter) (stores : Stores) (bytes' : List ℕ) : Type 0 where
   pub limiter-is : after ≡ rendered (rulesOf (l .settings) format) l s target (framesAt nan width (l .channels) first n (samplesOf format bytes)) .limiter
   pub stores-are : stores ≡ rendered (rulesOf (l .settings) format) l s target (framesAt nan width (l .channels) first n (samplesOf format bytes)) .stores
-  pub audio-is : Joins format width (l .channels) first n bytes (outputsOf (rendered (rulesOf (l .settings) format) l s target (framesAt nan width (l .channels) first n (samplesOf format bytes)) .frames)) bytes'
+  pub audio-is : Placed format (l .channels) n width first (outputsOf (rendered (rulesOf (l .settings) format) l s target (framesAt nan width (l .channels) first n (samplesOf format bytes)) .frames)) bytes bytes'
   pub still : (left : ℕ) → l .env .keeper .frame + (n + left) ≤ mostFrames → RunsReady after left stores
 
 -- ---- a turn of a block
 -- the frames that are left, and the absolute position of the first of them
-abbrev pub leftOf : Unfinished → ℕ
-leftOf b = b .frames - b .rendered
+abbrev pub framesLeft : Unfinished → ℕ
+framesLeft b = b .frames - b .rendered
 
 abbrev pub standsAt : Unfinished → ℕ
 standsAt b = b .position + b .rendered
 
 -- machine and geometry judged, room for the frames left, and one of them at least
 pub record TurnAsked (m : Machine) (block : Unfinished) (format : Format) (words : List ℕ) (bytes : List ℕ) (run : List Float) : Type 0 where
-  pub ready : RunsReady (m .limiter) (leftOf block) (m .stores)
+  pub ready : RunsReady (m .limiter) (framesLeft block) (m .stores)
   pub lends : Lends (m .limiter) format (block .frames) bytes run
   pub far : block .position + block .frames ≤ farthest
   pub more : block .rendered < block .frames
@@ -95,7 +90,7 @@ pub record TurnAsked (m : Machine) (block : Unfinished) (format : Format) (words
 abbrev pub turnAt : Format → Machine → Unfinished → List ℕ → List ℕ → Turn
 turnAt format m block words bytes =
     turnOf (renderedIn format m) (standsAt block) (block .rendered) (waitingAt words (block .latched))
-    (framesAt nan (block .frames) (m .limiter .channels) (block .rendered) (runAt (standsAt block) (leftOf block)) (samplesOf format bytes)) m
+    (framesAt nan (block .frames) (m .limiter .channels) (block .rendered) (runAt (standsAt block) (framesLeft block)) (samplesOf format bytes)) m
 
 pub record TurnGiven (m : Machine) (block : Unfinished) (format : Format) (words : List ℕ) (bytes : List ℕ) (after : Machine) (next : Unfinished) (bytes' : List ℕ) : Type 0 where
   pub machine-is : after ≡ turnAt format m block words bytes .machine
@@ -103,9 +98,9 @@ pub record TurnGiven (m : Machine) (block : Unfinished) (format : Format) (words
   pub events-left : next .latched ≤ length words / 3
   pub position-is : next .position ≡ block .position
   pub frames-is : next .frames ≡ block .frames
-  pub rendered-is : next .rendered ≡ block .rendered + runAt (standsAt block) (leftOf block)
-  pub audio-is : Joins format (block .frames) (m .limiter .channels) (block .rendered) (runAt (standsAt block) (leftOf block)) bytes (outputsOf (turnAt format m block words bytes .frames)) bytes'
-  pub ready : RunsReady (after .limiter) (leftOf next) (after .stores)
+  pub rendered-is : next .rendered ≡ block .rendered + runAt (standsAt block) (framesLeft block)
+  pub audio-is : Placed format (m .limiter .channels) (runAt (standsAt block) (framesLeft block)) (block .frames) (block .rendered) (outputsOf (turnAt format m block words bytes .frames)) bytes bytes'
+  pub ready : RunsReady (after .limiter) (framesLeft next) (after .stores)
 
 -- ---- the turns of a block
 -- machine and geometry judged, room for the frames

@@ -9,7 +9,7 @@ use crate::turn::Unfinished;
 use audio::format::Format;
 
 impl KernelProcessor {
-    // A block that nothing refuses. `run` is where each run is rendered.
+    // A block that nothing refuses. `run` is where each run is rendered, and left free.
     pub fn drive(
         self,
         format: Format,

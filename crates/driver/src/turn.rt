@@ -93,7 +93,7 @@ fn render_frames(
 }
 
 impl KernelProcessor {
-    // The next run of a block that nothing refuses.
+    // The next run of a block that nothing refuses. `run` is scratch, and left free.
     pub fn turn(
         self,
         block: Unfinished,

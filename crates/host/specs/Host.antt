@@ -86,7 +86,7 @@ capOf capped cap = cond (eqb capped 0) Cap.Unlimited (Cap.Bytes cap)
 abbrev pub withWeights : List Float → Stores → Stores
 withWeights weights s = storesAt (s .delay) (s .marks) (s .minima) weights (s .row) (s .detector)
 
--- where the state's buffer has another length, setup goes as if no weights were lent: 16 in its place, and nothing is written. Else the state is written, refused or not: a refused setup leaves the limiter that was never set up.
+-- where the state's buffer has another length, setup goes as if no weights were lent: 16 in its place, and neither state nor store is written. Else the state is written, refused or not: a refused setup leaves the limiter that was never set up.
 unfoldable pub setupBy : LimiterSettings → ProcessSpec → List ℕ → List ℕ → Stores → Returned
 setupBy s spec answer state stores =
     let fits = eqb (length state) stateBytes in

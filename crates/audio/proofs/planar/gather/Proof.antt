@@ -12,7 +12,7 @@ use Rattle.audio.specs.Format.{placesOf, samplesOf}
 use Rattle.audio.specs.Inner.{PlacesCopied, PlacesCarried}
 use Rattle.audio.proofs.Carry.{places-end, carried-none, carried-more}
 use Rattle.audio.proofs.Places.{places-fit}
-use Rattle.audio.proofs.Written.{size-small, gathered}
+use Rattle.audio.proofs.Written.{size-small}
 use Rattle.audio.proofs.planar.gather.Statement.{statement}
 use Rattle.audio.proofs.planar.gather.Tie as tie
 
@@ -79,8 +79,7 @@ returns c =
     let l = c .before in
     let a = c .before .before .before .before .args in
     let e : l .loop .c ≡ a .channels = omega arith in
-    gathered (a .format) (a .channels) (a .n) (a .width) (a .first) (now (a .bytes)) (now (a .run)) (l .loop .run)
-    (subst (λ (k : ℕ). PlacesCarried nan k (a .n) (a .width) (a .first) (samplesOf (a .format) (now (a .bytes))) 32 0 (now (a .run)) (l .loop .run)) e (l .loop .inv .2))
+    subst (λ (k : ℕ). PlacesCarried nan k (a .n) (a .width) (a .first) (samplesOf (a .format) (now (a .bytes))) 32 0 (now (a .run)) (l .loop .run)) e (l .loop .inv .2)
 
 pub gather-spec : {M : Type 1} → statement M
 gather-spec =

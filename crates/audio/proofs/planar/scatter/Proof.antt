@@ -13,7 +13,7 @@ use Rattle.audio.specs.Format.{bytesFor, placesOf}
 use Rattle.audio.specs.Inner.{PlacesCopied, PlacesCarried}
 use Rattle.audio.proofs.Carry.{places-end, carried-none, carried-more}
 use Rattle.audio.proofs.Places.{places-fit, size-same}
-use Rattle.audio.proofs.Written.{size-small, scattered-bytes}
+use Rattle.audio.proofs.Written.{size-small, carried-placed}
 use Rattle.audio.proofs.planar.scatter.Statement.{statement}
 use Rattle.audio.proofs.planar.scatter.Tie as tie
 
@@ -83,7 +83,7 @@ returns c =
     let s = c .before .before .before .before in
     let a = s .args in
     let e : l .loop .c ≡ a .channels = omega arith in
-    scattered-bytes (a .format) (a .channels) (a .n) (now (a .run)) (a .width) (a .first) (now (a .bytes)) (l .loop .bytes) (s .pre .1 .1 .0) (size-small (a .channels) (a .width) (s .pre .0) (s .pre .1 .0)) (s .pre .1 .1 .1 .0) (l .loop .inv .1)
+    carried-placed (a .format) (a .channels) (a .n) (now (a .run)) (a .width) (a .first) (now (a .bytes)) (l .loop .bytes) (l .loop .inv .1)
     (subst (λ (k : ℕ). PlacesCarried (bytesFor (a .format) nan) k (a .n) 32 0 (map (bytesFor (a .format)) (now (a .run))) (a .width) (a .first) (placesOf (a .format) (now (a .bytes))) (placesOf (a .format) (l .loop .bytes))) e (l .loop .inv .2))
 
 pub scatter-spec : {M : Type 1} → statement M

@@ -1,4 +1,4 @@
--- `gain_refusal`: 18, 16, 19 and 22 in turn.
+-- `judge_gain`: 18, 16, 19 and 22 in turn.
 use mathlib.Core.Bool.{true, false}
 use mathlib.Core.List.{List, []}
 use Prim.Native.Nat.{_+_}

@@ -1,8 +1,8 @@
 use native.Mathlib.Omega.{arith}
 use borrow.Author.Needs.{needs}
 use Rattle.audio.specs.Bytes.{wordOf}
-use Rattle.audio.proofs.words.joined.Statement.{statement}
-use Rattle.audio.proofs.words.joined.Tie as tie
+use Rattle.audio.proofs.words.word_of.Statement.{statement}
+use Rattle.audio.proofs.words.word_of.Tie as tie
 
 -- src/words.rt:14:11
 mul-result : tie.Need-mul-result
@@ -65,8 +65,8 @@ returns : tie.Need-returns
 unfolding wordOf
 returns c = omega arith
 
-pub joined-spec : {M : Type 1} → statement M
-joined-spec =
+pub word-of-spec : {M : Type 1} → statement M
+word-of-spec =
     tie.close
     (tie.spec
     mul-result
