@@ -1,5 +1,6 @@
 -- `render_frames`: gathered, rendered, scattered.
 use mathlib.Core.Path.{sym, _∙_}
+use native.Mathlib.Omega.{arith}
 use borrow.Author.Needs.{needs}
 use denote.Ref.{now}
 use Rattle.limiter.specs.Stores.{storesAt}
@@ -24,7 +25,7 @@ scatter-requires : tie.Need-scatter-requires
 scatter-requires c κs =
     let a = c .before .before .before .before .before .before .before .before .before .before .before .before .before .before .before .before .before .before .before .before .before .before .before .before .before .before .before .before .before .before .before .before .before .before .args in
     let p = c .before .before .before .before .before .before .before .before .before .before .before .before .before .before .before .before .before .before .before .before .before .before .before .before .before .before .before .before .before .before .before .before .before .before .pre in
-    (bounds-of (a .limiter) (p .ready .set-up) .most, (p .lends .short, (sym (p .lends .audio-fit), (p .inside, (p .short, c .before .before .before .before .before .before .before .before .before .before .before .before .before .before .render .kept .1 .1 .1 .1 .0 ∙ c .before .before .before .before .before .before .before .before .before .before .before .before .before .before .before .before .before .before .before .before .before .before .before .gather .kept .1 .1 .1 .1 .1 .1 .0 ∙ p .lends .run-fit)))))
+    (bounds-of (a .limiter) (p .ready .set-up) .most, (p .lends .short, (sym (p .lends .audio-fit), (omega (arith, p .inside), (omega (arith, p .short), c .before .before .before .before .before .before .before .before .before .before .before .before .before .before .render .kept .1 .1 .1 .1 .0 ∙ c .before .before .before .before .before .before .before .before .before .before .before .before .before .before .before .before .before .before .before .before .before .before .before .gather .kept .1 .1 .1 .1 .1 .1 .0 ∙ p .lends .run-fit)))))
 
 same-length : tie.Need-same-length
 same-length c = search needs
