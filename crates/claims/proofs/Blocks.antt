@@ -20,7 +20,7 @@ use Rattle.bank.specs.declared.smoother.Smoother.{Smoother}
 use Rattle.bank.specs.declared.smoother_bank.SmootherBank.{SmootherBank}
 use Rattle.driver.specs.Machine.{Machine, machineOf}
 use Rattle.driver.specs.Events.{Event, misplaced, eventsReply}
-use Rattle.driver.specs.Block.{Renderer, Rendered, rendered, Ran, Outcome, outputsOf, refusedAs, reaches, blockReply, blockDone, blockBy}
+use Rattle.driver.specs.Block.{Renderer, Rendered, rendered, RunsLeft, Outcome, outputsOf, refusedAs, reaches, blockReply, blockDone, blockBy}
 use Rattle.claims.specs.Session.{block, limiting, called}
 use Rattle.claims.specs.Book.{Book, lookIn, coeffIn}
 use Rattle.claims.specs.BookCalls.{latchWhere, Joining, joiningFrom, lastTarget, blockJudged, blockEntered, enter}
@@ -72,7 +72,7 @@ module _ (b : Book) (m : Machine) (t : Tied b m) (format : Format) (position fra
   many = joining-many b position frames events audio 0 frames (b .threshold)
 
   -- what runs leave, as an outcome
-  abbrev outcomeOf : Ran → Outcome
+  abbrev outcomeOf : RunsLeft → Outcome
   outcomeOf r = record { reply = finished []; machine = r .machine; bytes = writtenBytes format frames (m .limiter .channels) frames bytes (outputsOf (r .frames)); frames = r .frames }
 
   module _ (short : frames ≤ 65536) (fit : sizeOf format bytes ≡ b .spec .channels * frames) (passed : eventsReply frames 0 0 events .number ≡ 0) (room : length (b .frames) + frames ≤ mostFrames) where
@@ -117,7 +117,7 @@ module _ (b : Book) (m : Machine) (t : Tied b m) (format : Format) (position fra
     unfolding blockEntered
     block-left =
         let e = blockEntered b position frames events audio in
-        subst (λ (r : Ran). Done b m (block format position frames events bytes) (outcomeOf r) e)
+        subst (λ (r : RunsLeft). Done b m (block format position frames events bytes) (outcomeOf r) e)
         (sym (runs-each rules b position frames events audio m (drop 1 (m .bank .smoothers)) (tied-whole b m t .one .count) (t .slots) (t .channels) (t .settings) passed))
         (finished-done b m t (block format position frames events bytes) (outcomeOf (record { machine = machineOf (shown .limiter) bank (shown .stores); frames = shown .frames })) e refl refl (block-holds .frames) block-given block-tied)
 

@@ -20,7 +20,7 @@ use Rattle.bank.specs.declared.smoother.Smoother.{Smoother}
 use Rattle.bank.specs.declared.smoother_bank.SmootherBank.{SmootherBank}
 use Rattle.driver.specs.Machine.{Machine, machineOf, targetNow}
 use Rattle.driver.specs.Events.{Event, eventsReply, latched}
-use Rattle.driver.specs.Block.{Rendered, rendered, runAt, runsFrom, runsOf, bankAt, Ran, runsThrough}
+use Rattle.driver.specs.Block.{Rendered, rendered, runAt, runsFrom, runsOf, bankAt, RunsLeft, runsThrough}
 use Rattle.driver.proofs.Rendering.{settings-kept}
 use Rattle.claims.specs.Book.{Book}
 use Rattle.claims.specs.BookCalls.{latchWhere, thresholdAt, samplesFrom, Joining, joiningFrom}
@@ -92,10 +92,10 @@ module _ (b : Book) (position frames : ℕ) (events : List Event) (audio : List 
 -- ---- run by run
 module _ (rules : Rules) (b : Book) (position frames : ℕ) (events : List Event) (audio : List Float) (sorted : Sorted 0 events) (bank : SmootherBank) (others : List Smoother) (one : bank .count ≡ 1) where
   -- what frames that join leave: each rendered at its target, and then the events that no frame latched
-  abbrev shownBy : Rendered → Smoother → Ran
+  abbrev shownBy : Rendered → Smoother → RunsLeft
   shownBy r s = record { machine = machineOf (r .limiter) (bankWith bank others (latchWhere (λ (f : ℕ). leb frames f) position events s)) (r .stores); frames = r .frames }
 
-  abbrev eachRan : Limiter → Stores → Joining → Ran
+  abbrev eachRan : Limiter → Stores → Joining → RunsLeft
   eachRan l st j = shownBy (renderEach rules l st (j .frames)) (j .threshold)
 
   -- of all runs from an opening o on
@@ -115,10 +115,10 @@ module _ (rules : Rules) (b : Book) (position frames : ℕ) (events : List Event
       (ending bank others one position events w s frames (subst (λ (k : ℕ). Waiting position k events w) e a))
 
   -- a run of n frames at this bank, and then the others
-  abbrev andRun : Rendered → Ran → Ran
+  abbrev andRun : Rendered → RunsLeft → RunsLeft
   andRun r later = record { machine = later .machine; frames = r .frames ++ later .frames }
 
-  abbrev ranThen : ℕ → ℕ → List ℕ → Limiter → Stores → List Event → List (List Float) → List (List Float) → SmootherBank → Ran
+  abbrev ranThen : ℕ → ℕ → List ℕ → Limiter → Stores → List Event → List (List Float) → List (List Float) → SmootherBank → RunsLeft
   ranThen q o ns l st w xs ys z =
       let r = rendered rules l st (targetNow (machineOf l z st)) xs in
       andRun r (runsThrough (rendered rules) q o ns w ys (machineOf (r .limiter) z (r .stores)))
@@ -139,7 +139,7 @@ module _ (rules : Rules) (b : Book) (position frames : ℕ) (events : List Event
       let j = joiningFrom b position frames events audio (o + suc n) (suc left - suc n) t in
       let target = targetAt b position frames events audio t in
       let r = rendered rules l st target xs in
-      let thenAt : Rendered → Ran = λ (v : Rendered). andRun v (runsThrough (rendered rules) (q + suc n) (o + suc n) ns (waitingAfter o w) ys (machineOf (v .limiter) z (v .stores))) in
+      let thenAt : Rendered → RunsLeft = λ (v : Rendered). andRun v (runsThrough (rendered rules) (q + suc n) (o + suc n) ns (waitingAfter o w) ys (machineOf (v .limiter) z (v .stores))) in
       let la = latched o w (bankWith bank others s) in
       ap (λ (fs : List (List Float)). ranThen (q + suc n) (o + suc n) ns l st (la .waiting) fs (drop (suc n) (framesAt nan frames (b .spec .channels) o (suc left) audio)) (bankAt q (la .bank)))
       (frames-take nan frames (b .spec .channels) o (suc n) (suc left) audio (omega arith))

@@ -18,23 +18,23 @@ use Rattle.frame.specs.Frame.{Framed}
 use Rattle.bank.specs.declared.smoother_bank.SmootherBank.{SmootherBank}
 use Rattle.driver.specs.Machine.{Machine, machineOf}
 use Rattle.driver.specs.Events.{Event, eventsOf, latchedAll}
-use Rattle.driver.specs.Block.{Renderer, rendered, renderedIn, runAt, runsFrom, runsOf, Turn, turnOf, Ran, runsThrough, outputsOf}
+use Rattle.driver.specs.Block.{Renderer, rendered, renderedIn, runAt, runsFrom, runsOf, Turn, turnBy, RunsLeft, runsThrough, outputsOf}
 use Rattle.driver.specs.Inner.{waitingAt, RunsReady, framesLeft, standsAt, turnAt, TurnAsked, TurnGiven, BlockAsked, driven}
 use Rattle.driver.specs.declared.turn.Unfinished.{Unfinished}
 use Rattle.driver.proofs.Rendering.{shown-many, channels-kept, settings-kept, audio-small}
 
 -- frames shown before what later runs leave
-abbrev pub joined : List Framed → Ran → Ran
+abbrev pub joined : List Framed → RunsLeft → RunsLeft
 joined shown later = record { machine = later .machine; frames = shown ++ later .frames }
 
-joined-joined : (a b : List Framed) (r : Ran) → joined a (joined b r) ≡ joined (a ++ b) r
+joined-joined : (a b : List Framed) (r : RunsLeft) → joined a (joined b r) ≡ joined (a ++ b) r
 joined-joined a b r = ap (λ (l : List Framed). record { machine = r .machine; frames = l }) (sym (append-assoc a b (r .frames)))
 
 -- ---- one run
 module _ (render : Renderer) where
   -- a turn and what follows it
   runs-step : (position first most left n p l : ℕ) (events : List Event) (fs gs hs : List (List Float)) (m : Machine) (t : Turn)
-      → 1 ≤ left → left ≤ most → n ≡ runAt position left → p ≡ position + n → l ≡ left - n → gs ≡ take n fs → hs ≡ drop n fs → t ≡ turnOf render position first events gs m
+      → 1 ≤ left → left ≤ most → n ≡ runAt position left → p ≡ position + n → l ≡ left - n → gs ≡ take n fs → hs ≡ drop n fs → t ≡ turnBy render position first events gs m
       → runsThrough render position first (runsFrom most position left) events fs m ≡ joined (t .frames) (runsThrough render p (first + n) (runsFrom (most - 1) p l) (t .waiting) hs (t .machine))
   unfolding runsFrom runsThrough
   runs-step position first zero left n p l events fs gs hs m t some enough N P L G H T = absurd (omega arith)
@@ -61,11 +61,11 @@ module _ (format : Format) (position frames : ℕ) (words bytes₀ : List ℕ) (
   samples = samplesOf format bytes₀
 
   -- all the runs
-  abbrev pub whole : Ran
+  abbrev pub whole : RunsLeft
   whole = runsThrough render position 0 (runsOf position frames) (eventsOf words) (framesAt nan frames k 0 frames samples) m₀
 
   -- the runs from a frame on
-  abbrev pub rest : ℕ → ℕ → ℕ → Machine → Ran
+  abbrev pub rest : ℕ → ℕ → ℕ → Machine → RunsLeft
   rest most first cursor m = runsThrough render (position + first) first (runsFrom most (position + first) (frames - first)) (waitingAt words cursor) (framesAt nan frames k first (frames - first) samples) m
 
   pub record Driven (block : Unfinished) (m : Machine) (bytes : List ℕ) (run : List Float) : Type 0 where
@@ -168,7 +168,7 @@ module _ (format : Format) (position frames : ℕ) (words bytes₀ : List ℕ) (
           let e : frames - (first + n) ≡ frames - first - n = omega arith in
           rw e (sym (frames-drop nan frames k first n (frames - first) samples (omega (arith, run-inside .2))))
 
-      turn-is : turn ≡ turnOf render (position + first) first (waitingAt words (block .latched)) gs m
+      turn-is : turn ≡ turnBy render (position + first) first (waitingAt words (block .latched)) gs m
       turn-is = rw (d .settings-are, d .position-is) refl
 
       step : rest (d .most) first (block .latched) m ≡ joined (turn .frames) (rest (d .most - 1) (first + n) (next .latched) after)
@@ -231,9 +231,9 @@ module _ (format : Format) (position frames : ℕ) (words bytes₀ : List ℕ) (
         ∙ d .same
 
     pub driven-machine : machineOf (m .limiter) bank (m .stores) ≡ driven format m₀ position frames words bytes₀ .machine
-    driven-machine = ap (λ (r : Ran). r .machine) last
+    driven-machine = ap (λ (r : RunsLeft). r .machine) last
 
     pub driven-audio : bytes ≡ driven format m₀ position frames words bytes₀ .bytes
     driven-audio =
         d .audio-is ∙ ap (λ (i : ℕ). writtenBytes format frames k i bytes₀ (outputsOf (d .shown))) over
-        ∙ ap (λ (l : List Framed). writtenBytes format frames k frames bytes₀ (outputsOf l)) (sym (append-nil (d .shown)) ∙ ap (λ (r : Ran). r .frames) last)
+        ∙ ap (λ (l : List Framed). writtenBytes format frames k frames bytes₀ (outputsOf l)) (sym (append-nil (d .shown)) ∙ ap (λ (r : RunsLeft). r .frames) last)

@@ -1,19 +1,21 @@
 -- The turns of the loops over events: what the rest answers stays what the whole answers.
 use mathlib.Core.Path.{_≡_, refl}
-use mathlib.Core.Bool.{true, false}
+use mathlib.Core.Bool.{true, false, not, _&&_}
 use mathlib.Core.List.{List, [], _∷_}
-use Prim.Native.Nat.{ℕ, suc, _+_, _-_, _*_, _%_, _≤_, _<_}
+use Prim.Native.Nat.{ℕ, suc, _+_, _-_, _*_, _/_, _%_, _≤_, _<_}
 use native.Mathlib.Numerals.{add-one}
 use native.Mathlib.Omega.{arith}
-use lib.ListN.{getD}
-use borrow.Author.Tests.{le-leb, lt-leb, eq-eqb, ne-eqb}
+use lib.Dec.{eqb, leb}
+use lib.ListN.{length, getD}
+use borrow.Author.Tests.{leb-true, le-leb, lt-leb, eq-eqb, ne-eqb, not-true}
 use Rattle.arithmetic.specs.Reply.{finished, refused, count}
+use Rattle.arithmetic.proofs.Order.{and-true}
 use Rattle.detector.specs.Run.{runLength}
 use Rattle.bank.specs.Smoother.{stepped}
 use Rattle.bank.specs.Bank.{allChanged}
 use Rattle.bank.specs.declared.smoother_bank.SmootherBank.{SmootherBank}
 use Rattle.driver.specs.Events.{Event, eventAt, eventsFrom, misplaced, eventsReply, latchedOne, Latched, latched, latchedAll}
-use Rattle.driver.specs.Inner.{beforeRun}
+use Rattle.driver.specs.Inner.{waitingAt, beforeRun}
 
 module _ (words : List ℕ) (n i : ℕ) where
   -- an event, and those after it
@@ -73,3 +75,11 @@ module _ (position first : ℕ) (events : List Event) (b : SmootherBank) (l : La
 
   pub step-left : (position % runLength ≡ 0 → ⊥) → l ≡ beforeRun position first events b
   step-left e = rw (ne-eqb (position % runLength) 0 e, ← L) refl
+
+-- ---- a run before which nothing is due
+pub nothing-due : (words : List ℕ) (cursor position first : ℕ) (b : SmootherBank) → leb (length words / 3) cursor && not (eqb (position % runLength) 0) ≡ true
+    → record { bank = b; waiting = waitingAt words cursor } ≡ beforeRun position first (waitingAt words cursor) b
+unfolding latched
+nothing-due words cursor position first b h =
+    let t = and-true (leb (length words / 3) cursor) (not (eqb (position % runLength) 0)) h in
+    rw (events-end words (length words / 3) cursor (leb-true (length words / 3) cursor (t .0)), not-true (eqb (position % runLength) 0) (t .1)) refl

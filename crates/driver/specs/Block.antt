@@ -70,23 +70,23 @@ pub record Turn : Type 0 where
   pub frames : List Framed
 
 -- the run of these frames, whose first is frame `first` of its block and stands at an absolute position
-abbrev pub turnOf : Renderer → ℕ → ℕ → List Event → List (List Float) → Machine → Turn
-turnOf render position first events fs m =
+abbrev pub turnBy : Renderer → ℕ → ℕ → List Event → List (List Float) → Machine → Turn
+turnBy render position first events fs m =
     let l = latched first events (m .bank) in
     let b = bankAt position (l .bank) in
     let r = render (m .limiter) (m .stores) (targetNow (machineOf (m .limiter) b (m .stores))) fs in
     record { machine = machineOf (r .limiter) b (r .stores); waiting = l .waiting; frames = r .frames }
 
 -- what runs leave: the machine, and what each frame showed
-pub record Ran : Type 0 where
+pub record RunsLeft : Type 0 where
   pub machine : Machine
   pub frames : List Framed
 
 -- a turn for each of these lengths; "After the last run latch the rest"
-unfoldable pub runsThrough : Renderer → ℕ → ℕ → List ℕ → List Event → List (List Float) → Machine → Ran
+unfoldable pub runsThrough : Renderer → ℕ → ℕ → List ℕ → List Event → List (List Float) → Machine → RunsLeft
 runsThrough render position first [] events fs m = record { machine = machineOf (m .limiter) (latchedAll events (m .bank)) (m .stores); frames = [] }
 runsThrough render position first (n ∷ ns) events fs m =
-    let t = turnOf render position first events (take n fs) m in
+    let t = turnBy render position first events (take n fs) m in
     let later = runsThrough render (position + n) (first + n) ns (t .waiting) (drop n fs) (t .machine) in
     record { machine = later .machine; frames = t .frames ++ later .frames }
 

@@ -20,7 +20,7 @@ use Rattle.limiter.specs.declared.state.Limiter.{Limiter}
 use Rattle.bank.specs.declared.smoother_bank.SmootherBank.{SmootherBank}
 use Rattle.driver.specs.Machine.{Machine}
 use Rattle.driver.specs.Events.{Event, eventsFrom, eventsOf, Latched, latched}
-use Rattle.driver.specs.Block.{Rendered, rendered, renderedIn, runAt, bankAt, Turn, turnOf, farthest, Outcome, outputsOf, blockDone}
+use Rattle.driver.specs.Block.{Rendered, rendered, renderedIn, runAt, bankAt, Turn, turnBy, farthest, Outcome, outputsOf, blockDone}
 use Rattle.driver.specs.Drain.{silence}
 use Rattle.driver.specs.declared.events.LatchedTo.{LatchedTo}
 use Rattle.driver.specs.declared.turn.Unfinished.{Unfinished}
@@ -89,7 +89,7 @@ pub record TurnAsked (m : Machine) (block : Unfinished) (format : Format) (words
 -- the definition's turn, of the run that starts where the block stands
 abbrev pub turnAt : Format → Machine → Unfinished → List ℕ → List ℕ → Turn
 turnAt format m block words bytes =
-    turnOf (renderedIn format m) (standsAt block) (block .rendered) (waitingAt words (block .latched))
+    turnBy (renderedIn format m) (standsAt block) (block .rendered) (waitingAt words (block .latched))
     (framesAt nan (block .frames) (m .limiter .channels) (block .rendered) (runAt (standsAt block) (framesLeft block)) (samplesOf format bytes)) m
 
 pub record TurnGiven (m : Machine) (block : Unfinished) (format : Format) (words : List ℕ) (bytes : List ℕ) (after : Machine) (next : Unfinished) (bytes' : List ℕ) : Type 0 where

@@ -59,6 +59,9 @@ impl KernelProcessor {
             p = next;
             block = left;
         }
+        if events.len() / 3 <= block.latched {
+            return p;
+        }
         let limiter = p.limiter;
         let bank = p.bank;
         KernelProcessor {

@@ -104,6 +104,10 @@ pub fn before_run(
     ensures { λ r. ⌜ r .cursor ≤ length (now (events .entry)) / 3 ⌝ }
     ensures { λ r. ⌜ latchedAt r (now (events .entry)) ≡ beforeRun position first (waitingAt (now (events .entry)) cursor) bank ⌝ }
 {
+    // most runs latch nothing: a bank is large, and is handed on as it came
+    if (events.len() / 3 <= cursor) & (position % 32 != 0) {
+        return LatchedTo { bank, cursor };
+    }
     let l = latch(bank, events, cursor, first);
     let b = l.bank;
     if position % 32 == 0 {

@@ -21,7 +21,7 @@ use Rattle.driver.specs.declared.state.KernelProcessor.{KernelProcessor}
 use Rattle.state_bytes.specs.State.{stateBytes, processorIn, stateOut}
 use Rattle.state_bytes.proofs.Finished.{parameter-set-up, set-up-long}
 use Rattle.host.specs.Answer.{replyWords, wordsOf, answered, answeredBy}
-use Rattle.host.specs.Host.{Returned, returnedAt, processorOf, returned, calledBy, returnedWith, renderedBy, parameterBy, readAt, valueBy, withWeights, setupBy}
+use Rattle.host.specs.Host.{Returned, returnedAt, processorOf, returned, calledBy, returnedWith, audioBy, parameterBy, readAt, valueBy, withWeights, setupBy}
 use Rattle.host.specs.declared.answer.ReplyWords.{ReplyWords}
 
 module _ (answer state : List ℕ) (q : KernelProcessor) (e : q ≡ processorIn state) where
@@ -44,8 +44,8 @@ module _ (answer state : List ℕ) (q : KernelProcessor) (e : q ≡ processorIn 
     -- with audio
     pub rendered : (call : Machine → List ℕ → Outcome) (stores : Stores) (bytes bytes' : List ℕ)
         → record { reply = reply; machine = machineAt p later; bytes = bytes' } ≡ seen (call (machineAt q stores) bytes)
-        → returnedWith (returnedAt r after next later) bytes' ≡ renderedBy call answer state stores bytes
-    unfolding renderedBy
+        → returnedWith (returnedAt r after next later) bytes' ≡ audioBy call answer state stores bytes
+    unfolding audioBy
     rendered call stores bytes bytes' o =
         ap (λ (l : Returned). returnedWith l bytes') left-is
         ∙ ap (λ (s : Seen). returnedWith (returned answer state (s .reply) (s .machine)) (s .bytes)) (o ∙ ap (λ (k : KernelProcessor). seen (call (machineAt k stores) bytes)) e)

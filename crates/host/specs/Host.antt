@@ -54,8 +54,8 @@ pub record ReturnedAudio : Type 0 where
 abbrev pub returnedWith : Returned → List ℕ → ReturnedAudio
 returnedWith call audio = record { call = call; audio = audio }
 
-unfoldable pub renderedBy : (Machine → List ℕ → Outcome) → List ℕ → List ℕ → Stores → List ℕ → ReturnedAudio
-renderedBy call answer state stores bytes =
+unfoldable pub audioBy : (Machine → List ℕ → Outcome) → List ℕ → List ℕ → Stores → List ℕ → ReturnedAudio
+audioBy call answer state stores bytes =
     let o = call (machineIn state stores) bytes in
     returnedWith (returned answer state (o .reply) (o .machine)) (o .bytes)
 

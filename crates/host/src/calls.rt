@@ -18,7 +18,7 @@ ghost use Rattle.driver.specs.Drain.{drainOf};
 ghost use Rattle.driver.specs.Calls.{resetOf, gainStep, fourAtEntry, fourAtExit};
 ghost use Rattle.state_bytes.specs.State.{stateBytes, stateOut};
 ghost use Rattle.host.specs.Answer.{replyWords, wordsOf, answered};
-ghost use Rattle.host.specs.Host.{returnedAt, calledBy, returnedWith, renderedBy, parameterBy, readAt, valueBy, capOf, setupBy, wholeNeeded};
+ghost use Rattle.host.specs.Host.{returnedAt, calledBy, returnedWith, audioBy, parameterBy, readAt, valueBy, capOf, setupBy, wholeNeeded};
 use crate::answer::ReplyWords;
 use crate::answer::of_answer;
 use crate::answer::of_flush;
@@ -176,7 +176,7 @@ pub extern "C" fn daggeryuzu_process(
     detector: &mut [f64],
 ) -> u32
     ensures { λ r. ⌜ returnedWith (returnedAt r (now (answer .exit)) (now (state .exit)) (atExit delay marks minima weights row detector)) (now (audio .exit))
-        ≡ renderedBy (λ (m : Machine) (bytes : List ℕ). blockOf Format.F64 m position frames (eventsOf (now (events .entry))) bytes)
+        ≡ audioBy (λ (m : Machine) (bytes : List ℕ). blockOf Format.F64 m position frames (eventsOf (now (events .entry))) bytes)
         (now (answer .entry)) (now (state .entry)) (atEntry delay marks minima weights row detector) (now (audio .entry)) ⌝ }
 {
     let p = read_state(state);
@@ -213,7 +213,7 @@ pub extern "C" fn daggeryuzu_flush(
     detector: &mut [f64],
 ) -> u32
     ensures { λ r. ⌜ returnedWith (returnedAt r (now (answer .exit)) (now (state .exit)) (atExit delay marks minima weights row detector)) (now (audio .exit))
-        ≡ renderedBy (λ (m : Machine) (bytes : List ℕ). drainOf Format.F64 m frames bytes)
+        ≡ audioBy (λ (m : Machine) (bytes : List ℕ). drainOf Format.F64 m frames bytes)
         (now (answer .entry)) (now (state .entry)) (atEntry delay marks minima weights row detector) (now (audio .entry)) ⌝ }
 {
     let p = read_state(state);

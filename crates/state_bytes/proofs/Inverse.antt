@@ -20,7 +20,7 @@ use Rattle.driver.specs.declared.state.KernelProcessor.{KernelProcessor}
 use Rattle.audio.specs.Bytes.{wordOf, cut, wordsIn, bytesOut}
 use Rattle.audio.proofs.Numbers.{cut-length, out-length, words-of-bytes, bytes-of-words}
 use Rattle.bank.specs.Words.{smootherIn}
-use Rattle.state_bytes.specs.State.{layout, stateBytes, stateWords, zerosAt, holdsState, isState, limiterIn, slotsOf, bankIn, stateIn, wordsOut, processorIn, stateOut}
+use Rattle.state_bytes.specs.State.{layout, stateBytes, stateWords, zerosAt, holdsState, isState, limiterIn, slotsWith, bankIn, stateIn, wordsOut, processorIn, stateOut}
 use Rattle.bank.proofs.Shapes.{shape-back, shape-small, shape-word}
 use Rattle.state_bytes.proofs.Stored.{read-held}
 
@@ -37,7 +37,7 @@ pub record Storable (p : KernelProcessor) : Type 0 where
   pub rate : p .limiter .rate < 2 ^ 32
   pub id : slotAt 0 (p .bank .smoothers) .id < 2 ^ 32
   pub bankRate : p .bank .rate < 2 ^ 32
-  pub slots : p .bank .smoothers ≡ slotsOf (slotAt 0 (p .bank .smoothers))
+  pub slots : p .bank .smoothers ≡ slotsWith (slotAt 0 (p .bank .smoothers))
 
 back : (x : Float) → T (fits binary64 x) → bits (toBits binary64 x) ≡ x
 back x f = ofBits-toBits binary64 x f

@@ -28,16 +28,16 @@ use Rattle.bank.specs.declared.smoother.Smoother.{Smoother}
 use Rattle.bank.specs.declared.smoother_bank.SmootherBank.{SmootherBank}
 use Rattle.driver.specs.Machine.{Machine, machineOf, prepared, resetRefusal, thresholdParam}
 use Rattle.driver.specs.Events.{Event, latchedOne, latched, latchedAll}
-use Rattle.driver.specs.Block.{Renderer, period, bankAt, runsOf, turnOf, runsThrough, blockReply, Outcome, refusedAs, renderedIn, blockDone, blockBy, blockOf}
+use Rattle.driver.specs.Block.{Renderer, period, bankAt, runsOf, turnBy, runsThrough, blockReply, Outcome, refusedAs, renderedIn, blockDone, blockBy, blockOf}
 use Rattle.driver.specs.Drain.{drainReply, drainDone, drainBy, drainOf}
 use Rattle.driver.specs.Calls.{Left, left, withRest, budgetReply, setupOf, parameterReply, parameterOf, resetDone, resetOf, gainReply, gainOf, gainDone, gainStep}
 use Rattle.driver.specs.declared.state.KernelProcessor.{KernelProcessor}
 use Rattle.driver.proofs.Judged.{prepared-is}
-use Rattle.state_bytes.specs.State.{isState, stateWords, slotsOf, stateIn, never, processorIn}
+use Rattle.state_bytes.specs.State.{isState, stateWords, slotsWith, stateIn, never, processorIn}
 use Rattle.state_bytes.proofs.Finished.{parameter-set-up, reset-set-up, block-judged}
 
 abbrev pub Vacant : SmootherBank → Type 0
-Vacant b = b .smoothers ≡ slotsOf (slotAt 0 (b .smoothers))
+Vacant b = b .smoothers ≡ slotsWith (slotAt 0 (b .smoothers))
 
 -- by cases of a test
 chosen : {A : Type 0} (bankOf : A → SmootherBank) (b : Bool) (new old : A) → (b ≡ true → Vacant (bankOf new)) → Vacant (bankOf old) → Vacant (bankOf (cond b new old))
@@ -129,7 +129,7 @@ runs-one : (render : Renderer) (position first : ℕ) (ns : List ℕ) (events : 
 unfolding runsThrough
 runs-one render position first [] events fs m o = latched-all events (m .bank) o
 runs-one render position first (n ∷ ns) events fs m o =
-    let t = turnOf render position first events (take n fs) m in
+    let t = turnBy render position first events (take n fs) m in
     runs-one render (position + n) (first + n) ns (t .waiting) (drop n fs) (t .machine) (stepped-one position (latched first events (m .bank) .bank) (latched-some first events (m .bank) o))
 
 pub block-vacant : (m : Machine) → Vacant (m .bank) → (format : Format) (position frames : ℕ) (events : List Event) (bytes : List ℕ) → Vacant (blockOf format m position frames events bytes .machine .bank)

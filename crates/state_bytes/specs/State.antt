@@ -67,11 +67,11 @@ limiterIn ws = record {
 }
 
 -- a bank of that smoother; the other slots hold no parameter
-abbrev pub slotsOf : Smoother → List Smoother
-slotsOf s = s ∷ vacant ∷ vacant ∷ vacant ∷ vacant ∷ vacant ∷ vacant ∷ vacant ∷ []
+abbrev pub slotsWith : Smoother → List Smoother
+slotsWith s = s ∷ vacant ∷ vacant ∷ vacant ∷ vacant ∷ vacant ∷ vacant ∷ vacant ∷ []
 
 abbrev pub bankIn : List ℕ → SmootherBank
-bankIn ws = record { smoothers = slotsOf (smootherIn ws 19); count = getD ws 31 0; rate = halfIn ws 32; ready = not (eqb (getD ws 33 0) 0) }
+bankIn ws = record { smoothers = slotsWith (smootherIn ws 19); count = getD ws 31 0; rate = halfIn ws 32; ready = not (eqb (getD ws 33 0) 0) }
 
 unfoldable pub stateIn : List ℕ → KernelProcessor
 stateIn ws = record { limiter = limiterIn ws; bank = bankIn ws }

@@ -1,10 +1,11 @@
 -- `drive`: each turn of the loop is a turn of the block.
 use mathlib.Core.Path.{_≡_, refl, _∙_}
-use Prim.Native.Nat.{_-_}
+use Prim.Native.Nat.{_-_, _/_}
 use lib.ListN.{length}
 use denote.Ref.{now}
 use Rattle.limiter.specs.Stores.{storesAt}
 use Rattle.driver.specs.Machine.{machineAt}
+use Rattle.driver.proofs.Latching.{rest-end}
 use Rattle.driver.proofs.Driving.{Driven, driven-start, driven-asks, driven-more, driven-less, driven-machine, driven-audio}
 use Rattle.driver.proofs.state.KernelProcessor.drive.Statement.{statement}
 use Rattle.driver.proofs.state.KernelProcessor.drive.Tie as tie
@@ -53,41 +54,70 @@ loop-again c =
       _∙_ {b = length (l .detector)} (t .kept .1 .1 .1 .1 .1 .1 .1 .1 .1 .1 .1 .0) (l .inv .7),
     )
 
-latch-rest-requires : tie.Need-latch-rest-requires Inv-loop μ-loop
-latch-rest-requires c κs = c .before .before .before .before .loop .inv .0 .events-left
-
 same-length : tie.Need-same-length Inv-loop μ-loop
-same-length c = c .before .before .before .before .before .loop .inv .1
+same-length c = c .before .before .before .before .loop .inv .1
 
 same-length-2 : tie.Need-same-length-2 Inv-loop μ-loop
-same-length-2 c = c .before .before .before .before .before .loop .inv .2
+same-length-2 c = c .before .before .before .before .loop .inv .2
 
 same-length-3 : tie.Need-same-length-3 Inv-loop μ-loop
-same-length-3 c = c .before .before .before .before .before .loop .inv .3
+same-length-3 c = c .before .before .before .before .loop .inv .3
 
 same-length-4 : tie.Need-same-length-4 Inv-loop μ-loop
-same-length-4 c = c .before .before .before .before .before .loop .inv .4
+same-length-4 c = c .before .before .before .before .loop .inv .4
 
 same-length-5 : tie.Need-same-length-5 Inv-loop μ-loop
-same-length-5 c = c .before .before .before .before .before .loop .inv .5
+same-length-5 c = c .before .before .before .before .loop .inv .5
 
 same-length-6 : tie.Need-same-length-6 Inv-loop μ-loop
-same-length-6 c = c .before .before .before .before .before .loop .inv .6
+same-length-6 c = c .before .before .before .before .loop .inv .6
 
 same-length-7 : tie.Need-same-length-7 Inv-loop μ-loop
-same-length-7 c = c .before .before .before .before .before .loop .inv .7
+same-length-7 c = c .before .before .before .before .loop .inv .7
 
 returns : tie.Need-returns Inv-loop μ-loop
 returns c =
-    let a = c .before .before .before .before .before .before .before .before .before .before .before .before .before .before .before .args in
-    let l = c .before .before .before .before .before .loop in
-    let m = machineAt (l .p) (storesAt (l .delay) (l .marks) (l .minima) (now (a .weights)) (l .row) (l .detector)) in
-    let rest = c .latch-rest in (
-      driven-machine (a .format) (a .position) (a .frames) (now (a .events)) (now (a .audio)) (machineAt (a .self) (storesAt (now (a .delay)) (now (a .marks)) (now (a .minima)) (now (a .weights)) (now (a .row)) (now (a .detector)))) (l .block) m (l .audio) (l .run) (l .inv .0) (c .before .before .before .if1 .left) (rest .result) (rest .ensures),
-      driven-audio (a .format) (a .position) (a .frames) (now (a .events)) (now (a .audio)) (machineAt (a .self) (storesAt (now (a .delay)) (now (a .marks)) (now (a .minima)) (now (a .weights)) (now (a .row)) (now (a .detector)))) (l .block) m (l .audio) (l .run) (l .inv .0) (c .before .before .before .if1 .left) (rest .result) (rest .ensures),
+    let a = c .before .before .before .before .before .before .before .before .before .before .before .before .before .before .args in
+    let l = c .before .before .before .before .loop in
+    let m = machineAt (l .p) (storesAt (l .delay) (l .marks) (l .minima) (now (a .weights)) (l .row) (l .detector)) in (
+      driven-machine (a .format) (a .position) (a .frames) (now (a .events)) (now (a .audio)) (machineAt (a .self) (storesAt (now (a .delay)) (now (a .marks)) (now (a .minima)) (now (a .weights)) (now (a .row)) (now (a .detector)))) (l .block) m (l .audio) (l .run) (l .inv .0) (c .before .before .if1 .left) (l .p .bank) (rest-end (now (a .events)) (length (now (a .events)) / 3) (l .block .latched) (l .p .bank) (c .if2 .taken)),
+      driven-audio (a .format) (a .position) (a .frames) (now (a .events)) (now (a .audio)) (machineAt (a .self) (storesAt (now (a .delay)) (now (a .marks)) (now (a .minima)) (now (a .weights)) (now (a .row)) (now (a .detector)))) (l .block) m (l .audio) (l .run) (l .inv .0) (c .before .before .if1 .left) (l .p .bank) (rest-end (now (a .events)) (length (now (a .events)) / 3) (l .block .latched) (l .p .bank) (c .if2 .taken)),
+    )
+
+latch-rest-requires : tie.Need-latch-rest-requires Inv-loop μ-loop
+latch-rest-requires c κs = c .before .before .before .before .before .before .loop .inv .0 .events-left
+
+same-length-8 : tie.Need-same-length-8 Inv-loop μ-loop
+same-length-8 c = c .before .before .before .before .before .before .before .loop .inv .1
+
+same-length-9 : tie.Need-same-length-9 Inv-loop μ-loop
+same-length-9 c = c .before .before .before .before .before .before .before .loop .inv .2
+
+same-length-10 : tie.Need-same-length-10 Inv-loop μ-loop
+same-length-10 c = c .before .before .before .before .before .before .before .loop .inv .3
+
+same-length-11 : tie.Need-same-length-11 Inv-loop μ-loop
+same-length-11 c = c .before .before .before .before .before .before .before .loop .inv .4
+
+same-length-12 : tie.Need-same-length-12 Inv-loop μ-loop
+same-length-12 c = c .before .before .before .before .before .before .before .loop .inv .5
+
+same-length-13 : tie.Need-same-length-13 Inv-loop μ-loop
+same-length-13 c = c .before .before .before .before .before .before .before .loop .inv .6
+
+same-length-14 : tie.Need-same-length-14 Inv-loop μ-loop
+same-length-14 c = c .before .before .before .before .before .before .before .loop .inv .7
+
+returns-2 : tie.Need-returns-2 Inv-loop μ-loop
+returns-2 c =
+    let a = c .before .before .before .before .before .before .before .before .before .before .before .before .before .before .before .before .before .args in
+    let l = c .before .before .before .before .before .before .before .loop in
+    let m = machineAt (l .p) (storesAt (l .delay) (l .marks) (l .minima) (now (a .weights)) (l .row) (l .detector)) in (
+      driven-machine (a .format) (a .position) (a .frames) (now (a .events)) (now (a .audio)) (machineAt (a .self) (storesAt (now (a .delay)) (now (a .marks)) (now (a .minima)) (now (a .weights)) (now (a .row)) (now (a .detector)))) (l .block) m (l .audio) (l .run) (l .inv .0) (c .before .before .before .before .before .if1 .left) (c .latch-rest .result) (c .latch-rest .ensures),
+      driven-audio (a .format) (a .position) (a .frames) (now (a .events)) (now (a .audio)) (machineAt (a .self) (storesAt (now (a .delay)) (now (a .marks)) (now (a .minima)) (now (a .weights)) (now (a .row)) (now (a .detector)))) (l .block) m (l .audio) (l .run) (l .inv .0) (c .before .before .before .before .before .if1 .left) (c .latch-rest .result) (c .latch-rest .ensures),
     )
 
 pub drive-spec : {M : Type 1} → statement M
 drive-spec =
     tie.close
-    (tie.spec Inv-loop μ-loop loop-holds turn-requires loop-less loop-again latch-rest-requires same-length same-length-2 same-length-3 same-length-4 same-length-5 same-length-6 same-length-7 returns)
+    (tie.spec Inv-loop μ-loop loop-holds turn-requires loop-less loop-again same-length same-length-2 same-length-3 same-length-4 same-length-5 same-length-6 same-length-7 returns latch-rest-requires same-length-8 same-length-9 same-length-10 same-length-11 same-length-12 same-length-13 same-length-14 returns-2)
