@@ -60,11 +60,13 @@ impl KernelProcessor {
         let l = self.limiter;
         let b = self.bank;
         let slots = b.smoothers;
+        let p = threshold(slots);
         let s = l.settings;
         let kernel = l.is_prepared();
-        let whole = b.is_prepared();
-        let declared = declares(s, threshold(slots));
-        kernel & (whole & ((b.count == 1) & ((b.rate == l.rate) & declared)))
+        // of one parameter, so that the other slots are not walked
+        let own = b.ready & p.is_prepared(0, b.rate);
+        let declared = declares(s, p);
+        kernel & (own & ((b.count == 1) & ((b.rate == l.rate) & declared)))
     }
 
     // 18, then 16, then 19.

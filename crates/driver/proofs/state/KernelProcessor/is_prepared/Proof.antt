@@ -1,9 +1,13 @@
--- `is_prepared`: clause by clause.
-use mathlib.Core.Path.{refl}
-use Rattle.driver.specs.Machine.{prepared}
+-- `is_prepared`: clause by clause, the bank's by its one parameter.
+use mathlib.Core.Path.{sym}
 use borrow.Author.Needs.{needs}
+use Rattle.driver.specs.Machine.{prepared}
+use Rattle.driver.proofs.Judged.{one-judged}
 use Rattle.driver.proofs.state.KernelProcessor.is_prepared.Statement.{statement}
 use Rattle.driver.proofs.state.KernelProcessor.is_prepared.Tie as tie
+
+threshold-requires : tie.Need-threshold-requires
+threshold-requires c κs = search needs
 
 is-prepared-requires : tie.Need-is-prepared-requires
 is-prepared-requires c κs = search needs
@@ -11,22 +15,11 @@ is-prepared-requires c κs = search needs
 is-prepared-requires-2 : tie.Need-is-prepared-requires-2
 is-prepared-requires-2 c κs = search needs
 
-threshold-requires : tie.Need-threshold-requires
-threshold-requires c κs = search needs
-
 declares-requires : tie.Need-declares-requires
 declares-requires c κs = search needs
 
 returns : tie.Need-returns
-unfolding prepared
-returns c = rw (c .before .before .before .declares .ensures, c .before .before .before .before .threshold .ensures, c .before .before .before .before .before .is-prepared2 .ensures, c .before .before .before .before .before .before .is-prepared .ensures) refl
+returns c = rw (c .before .before .before .declares .ensures, c .before .before .before .before .before .is-prepared2 .ensures, c .before .before .before .before .before .before .is-prepared .ensures, c .before .before .before .before .before .before .before .before .threshold .ensures) (one-judged (c .before .before .before .before .before .before .before .before .before .before .before .before .args .self .limiter) (c .before .before .before .before .before .before .before .before .before .before .before .before .args .self .bank))
 
 pub is-prepared-spec : {M : Type 1} → statement M
-is-prepared-spec =
-    tie.close
-    (tie.spec
-    is-prepared-requires
-    is-prepared-requires-2
-    threshold-requires
-    declares-requires
-    returns)
+is-prepared-spec = tie.close (tie.spec threshold-requires is-prepared-requires is-prepared-requires-2 declares-requires returns)
