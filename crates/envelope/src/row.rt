@@ -49,18 +49,17 @@ fn weighted(acc: f64, weights: &[f64], j: usize, row: &[f64], from: usize, n: us
     sum
 }
 
-// Whether every floor lies within 0 and 1.
+// Whether every floor lies within 0 and 1. It reads the whole row, without a way out: several floors in one instruction.
 fn all_unit(row: &[f64]) -> bool
     ensures { λ r. ⌜ r ≡ allUnit (now (row .entry)) ⌝ }
 {
+    let mut ok = true;
     let mut i: usize = 0;
     while i < row.len() {
-        if !unit(row[i]) {
-            return false;
-        }
+        ok = ok & unit(row[i]);
         i += 1;
     }
-    true
+    ok
 }
 
 // How many floors are other than 1.

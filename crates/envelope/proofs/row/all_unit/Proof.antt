@@ -1,21 +1,21 @@
--- `all_unit`: the answer on the rest is the answer on the whole.
-use mathlib.Core.Path.{_≡_, refl, sym, _∙_}
+-- `all_unit`: the answer so far and the answer on the rest are the answer on the whole.
+use mathlib.Core.Path.{_≡_, refl}
+use mathlib.Core.Bool.{_&&_}
 use Prim.Native.Nat.{_-_, _≤_}
 use native.Mathlib.Omega.{arith}
 use denote.Ref.{now}
 use borrow.Author.Needs.{needs}
-use borrow.Author.Tests.{not-true, not-false}
 use lib.ListN.{length, drop}
 use Rattle.envelope.specs.Row.{allUnit}
-use Rattle.envelope.proofs.Scan.{unit-broken, unit-next, unit-end}
+use Rattle.envelope.proofs.Scan.{unit-next, unit-end}
 use Rattle.envelope.proofs.row.all_unit.Statement.{statement}
 use Rattle.envelope.proofs.row.all_unit.Tie as tie
 
 abbrev Inv-loop : tie.InvT-loop
-Inv-loop row i₀ i = (i ≤ length row) × (allUnit (drop i row) ≡ allUnit row)
+Inv-loop row ok₀ i₀ ok i = (i ≤ length row) × (ok && allUnit (drop i row) ≡ allUnit row)
 
 abbrev μ-loop : tie.MeasureT-loop
-μ-loop row i₀ i = length row - i
+μ-loop row ok₀ i₀ ok i = length row - i
 
 loop-holds : tie.Need-loop-holds Inv-loop μ-loop
 loop-holds c = (omega arith, refl)
@@ -29,12 +29,6 @@ shared-slice-read-unit c = omega arith
 unit-requires : tie.Need-unit-requires Inv-loop μ-loop
 unit-requires c κs = search needs
 
-returns : tie.Need-returns Inv-loop μ-loop
-returns c =
-    let l = c .before .before .before .before in
-    let u = c .before .unit in
-    unit-broken (now (l .before .before .args .row)) (l .loop .i) (omega arith) (l .loop .inv .1) (sym (u .ensures) ∙ not-true (u .result) (c .if1 .taken))
-
 add-i : tie.Need-add-i Inv-loop μ-loop
 add-i c = omega arith
 
@@ -43,12 +37,12 @@ loop-less c = omega arith
 
 loop-again : tie.Need-loop-again Inv-loop μ-loop
 loop-again c =
-    let l = c .before .before .before .before in
-    let u = c .before .unit in
-    (omega arith, unit-next (now (l .before .before .args .row)) (l .loop .i) (omega arith) (l .loop .inv .1) (sym (u .ensures) ∙ not-false (u .result) (c .if1 .left)))
+    let l = c .before .before .before in
+    let u = c .unit in
+    (omega arith, unit-next (now (l .before .before .args .row)) (l .loop .i) (omega arith) (l .loop .ok) (u .result) (l .loop .inv .1) (u .ensures))
 
-returns-2 : tie.Need-returns-2 Inv-loop μ-loop
-returns-2 c = unit-end (now (c .before .before .before .args .row)) (c .before .loop .i) (c .loop-test .left) (c .before .loop .inv .1)
+returns : tie.Need-returns Inv-loop μ-loop
+returns c = unit-end (now (c .before .before .before .args .row)) (c .before .loop .i) (c .loop-test .left) (c .before .loop .ok) (c .before .loop .inv .1)
 
 pub all-unit-spec : {M : Type 1} → statement M
 all-unit-spec =
@@ -60,8 +54,7 @@ all-unit-spec =
     mul-unit
     shared-slice-read-unit
     unit-requires
-    returns
     add-i
     loop-less
     loop-again
-    returns-2)
+    returns)
