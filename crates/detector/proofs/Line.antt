@@ -10,7 +10,7 @@ use lib.Seq.{drop-cons, drop-at, take-at, drop-set-lt, getD-drop, getD-set-same,
 use lib.Ieee.{Float}
 use borrow.Author.Tests.{eq-eqb, ne-eqb, le-leb, lt-leb}
 use Rattle.arithmetic.specs.Sanitize.{finiteOrZero}
-use Rattle.detector.specs.Oversample.{remembered, shifted, sumsOf, largestOf, detected}
+use Rattle.detector.specs.Oversample.{remembered, shifted, sumsOf, largestOf, Pushed, pushedAt, detected, peakAbsOf}
 use Rattle.detector.specs.Run.{runLength, pushesAt, pushesOf, peaksAbsOf, answersIn}
 use Rattle.detector.proofs.Copy.{copied-more}
 use Rattle.detector.proofs.Store.{shifted-length, push-shifts, run-pushes}
@@ -111,6 +111,15 @@ module _ (phases : List (List Float)) where
       (ap (λ (l : List Float). take remembered (lined xs l)) (sym (moved store rest x))
       ∙ store-pushes xs (shifted store x) (drop remembered (finiteOrZero x ∷ store) ++ rest) (shifted-length store x n))
 
+  -- a run of one is a push
+  one-push : (store run old left : List Float) (peak d : Float) → length run ≡ 1 → length old ≡ length run → pushedAt peak left ≡ peakAbsOf phases store (getD run 0 d) → pushesAt (set old 0 peak) left ≡ pushesOf phases store run
+  unfolding pushesOf
+  one-push store [] old left peak d n m e = absurd (omega (arith, n))
+  one-push store (x ∷ []) [] left peak d n m e = absurd (omega (arith, m))
+  one-push store (x ∷ []) (y ∷ []) left peak d n m e = ap (λ (o : Pushed). pushesAt (o .peak ∷ []) (o .store)) e
+  one-push store (x ∷ []) (y ∷ z ∷ zs) left peak d n m e = absurd (omega (arith, m))
+  one-push store (x ∷ y ∷ xs) old left peak d n m e = absurd (omega (arith, n))
+
   -- a store laid behind a run of n samples
   laid : (z store : List Float) (n : ℕ) → n ≤ length z → length store ≡ remembered → drop n (paste z n store remembered) ≡ store ++ drop (n + remembered) z
   laid z store n p q =
@@ -127,6 +136,10 @@ module _ (phases : List (List Float)) where
         let rest = drop (length run + remembered) z in
         let e : line ≡ lined run (store ++ rest) = e1 ∙ ap (lined run) (ap (drop (length run)) e0 ∙ laid z store (length run) (omega arith) n) in
         rw (run-pushes phases store run old p n m, e4, e3, e2, m, e, answers-pushes run store rest n, store-pushes run store rest n)
+
+    pub ran-one : (left : List Float) (peak d : Float) → length run ≤ runLength → length store ≡ remembered → length old ≡ length run → length run ≡ 1 → pushedAt peak left ≡ peakAbsOf phases store (getD run 0 d)
+        → pushesAt (set old 0 peak) left ≡ peaksAbsOf phases store run old
+    ran-one left peak d p n m one e = one-push store run old left peak d one m e ∙ sym (run-pushes phases store run old p n m)
 
     -- where a test fails, answers and store stay
     pub run-alone : runLength < length run → pushesAt old store ≡ peaksAbsOf phases store run old

@@ -174,6 +174,12 @@ pub fn peaks_abs(store: &mut [f64], samples: &[f64], answers: &mut [f64])
     if answers.len() != n {
         return;
     }
+    // A run of one is a push: a sample that was only just laid into a line is slow to read back.
+    if n == 1 {
+        let p = peak_abs(store, samples[0]);
+        answers[0] = p.peak;
+        return;
+    }
     // The newest sample of the run first, and behind the oldest what the store remembers.
     let mut line = [0.0; 44];
     lay_store(store, &mut line, n);
