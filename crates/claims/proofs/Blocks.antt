@@ -18,9 +18,9 @@ use Rattle.frame.specs.Rules.{Rules, rulesOf}
 use Rattle.frame.specs.Frame.{Framed}
 use Rattle.bank.specs.declared.smoother.Smoother.{Smoother}
 use Rattle.bank.specs.declared.smoother_bank.SmootherBank.{SmootherBank}
-use Rattle.driver.specs.Machine.{Machine, machineOf}
-use Rattle.driver.specs.Events.{Event, misplaced, eventsReply}
-use Rattle.driver.specs.Block.{Renderer, Rendered, rendered, RunsLeft, Outcome, outputsOf, refusedAs, reaches, blockReply, blockDone, blockBy}
+use Rattle.turns.specs.Machine.{Machine, machineOf}
+use Rattle.turns.specs.Events.{Event, misplaced, eventsReply}
+use Rattle.turns.specs.Block.{Renderer, Rendered, rendered, RunsLeft, Outcome, outputsOf, refusedAs, reaches, blockReply, blockDone, blockBy}
 use Rattle.claims.specs.Session.{block, limiting, called}
 use Rattle.claims.specs.Book.{Book, lookIn, coeffIn}
 use Rattle.claims.specs.BookCalls.{latchWhere, Joining, joiningFrom, lastTarget, blockJudged, blockEntered, enter}

@@ -24,9 +24,9 @@ use Rattle.bank.specs.Smoother.{immediateSet}
 use Rattle.bank.specs.Bank.{oneChanged, valueOf}
 use Rattle.bank.specs.declared.smoother.Smoother.{Smoother}
 use Rattle.bank.specs.declared.smoother_bank.SmootherBank.{SmootherBank}
-use Rattle.driver.specs.Machine.{Machine, machineOf, readyRefusal}
-use Rattle.driver.specs.Block.{rendered, renderedIn, Outcome, outputsOf, refusedAs}
-use Rattle.driver.proofs.Rendering.{audio-small}
+use Rattle.turns.specs.Machine.{Machine, machineOf, readyRefusal}
+use Rattle.turns.specs.Block.{rendered, renderedIn, Outcome, outputsOf, refusedAs}
+use Rattle.turns.proofs.Rendering.{audio-small}
 use Rattle.driver.specs.Calls.{left, settled, parameterReply, parameterOf}
 use Rattle.claims.specs.Session.{Call, parameter, bytesIn, silently, called, limiting}
 use Rattle.claims.specs.Book.{Joined, Book, lookIn, coeffIn}

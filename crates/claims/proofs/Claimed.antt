@@ -2,7 +2,7 @@
 use mathlib.Core.Path.{sym, ap, _∙_, refl}
 use mathlib.Core.List.{List, [], _∷_}
 use Rattle.arithmetic.specs.Reply.{Reply}
-use Rattle.driver.specs.Machine.{Machine}
+use Rattle.turns.specs.Machine.{Machine}
 use Rattle.claims.specs.Session.{Call, block, drain, parameter, reset, limiting, called}
 use Rattle.claims.specs.Book.{Book}
 use Rattle.claims.specs.BookCalls.{enter}

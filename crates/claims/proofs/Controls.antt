@@ -11,7 +11,7 @@ use Rattle.arithmetic.specs.Reply.{Reply, Value, count, float}
 use Rattle.arithmetic.proofs.Order.{clash}
 use Rattle.audio.specs.Bytes.{bytesOut}
 use Rattle.audio.specs.declared.format.Format.the-variants.{F64}
-use Rattle.driver.specs.Machine.{lowest}
+use Rattle.turns.specs.Machine.{lowest}
 use Rattle.claims.specs.Session.{block, drain, parameter, reset}
 use Rattle.claims.specs.Claim.{Claim}
 use Rattle.claims.specs.Controls.{steppedBy, gainStepBy, frameBy, framesBy, renderedBy, storedFirst}

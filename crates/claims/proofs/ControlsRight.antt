@@ -11,8 +11,8 @@ use Rattle.frame.specs.Run.{Frames, frameFirst, framesOf}
 use Rattle.limiter.specs.Stores.{Stores}
 use Rattle.limiter.specs.Run.{movingOf, envelopeOf, movedOn, storesOf}
 use Rattle.limiter.specs.declared.state.Limiter.{Limiter}
-use Rattle.driver.specs.Block.{Renderer, rendered, blockBy}
-use Rattle.driver.specs.Drain.{drainBy}
+use Rattle.turns.specs.Block.{Renderer, rendered, blockBy}
+use Rattle.turns.specs.Drain.{drainBy}
 use Rattle.driver.specs.Calls.{resetOf}
 use Rattle.claims.specs.Session.{Limiting, limiting}
 use Rattle.claims.specs.Controls.{rightSteps, steppedBy, gainStepBy, frameBy, framesBy, renderedBy, limitingWith, limitingBy}

@@ -41,11 +41,11 @@ use Rattle.bank.specs.declared.smoother_bank.SmootherBank.{SmootherBank}
 use Rattle.frame.specs.Rules.{tapsOf, countsIn, leavesBy}
 use Rattle.frame.specs.Frame.{linkedFrom, delayedFrom, frameOf}
 use Rattle.frame.specs.Run.{framesOf}
-use Rattle.driver.specs.Machine
-use Rattle.driver.specs.Machine.{Machine, machineOf, lowest, fiveMs, declares, readyRefusal, resetRefusal}
-use Rattle.driver.specs.Events.{eventsReply, latched, latchedAll}
-use Rattle.driver.specs.Block.{blockReply, blockBy, runsFrom, runsThrough, rendered}
-use Rattle.driver.specs.Drain.{drainReply, drainBy}
+use Rattle.turns.specs.Machine
+use Rattle.turns.specs.Machine.{Machine, machineOf, lowest, fiveMs, declares, readyRefusal, resetRefusal}
+use Rattle.turns.specs.Events.{eventsReply, latched, latchedAll}
+use Rattle.turns.specs.Block.{blockReply, blockBy, runsFrom, runsThrough, rendered}
+use Rattle.turns.specs.Drain.{drainReply, drainBy}
 use Rattle.driver.specs.Calls
 use Rattle.driver.specs.Calls.{Left, setupOf, parameterReply, parameterOf}
 use Rattle.claims.specs.Session.{Call, Limiting}

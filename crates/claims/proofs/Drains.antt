@@ -21,10 +21,10 @@ use Rattle.limiter.specs.Stores.{Stores}
 use Rattle.limiter.specs.Order.{prepared, inOrder}
 use Rattle.limiter.specs.declared.state.Limiter.{Limiter}
 use Rattle.limiter.proofs.Frames.{order-is}
-use Rattle.driver.specs.Machine.{Machine, machineOf}
-use Rattle.driver.specs.Block.{Renderer, Rendered, rendered, Outcome, outputsOf, refusedAs}
-use Rattle.driver.specs.Drain.{longestDrain, drainReply, drainable, doneAt, withDrained, silence, drainDone, drainBy}
-use Rattle.driver.proofs.Rendering
+use Rattle.turns.specs.Machine.{Machine, machineOf}
+use Rattle.turns.specs.Block.{Renderer, Rendered, rendered, Outcome, outputsOf, refusedAs}
+use Rattle.turns.specs.Drain.{longestDrain, drainReply, drainable, doneAt, withDrained, silence, drainDone, drainBy}
+use Rattle.turns.proofs.Rendering
 use Rattle.claims.specs.Session.{drain, limiting, called}
 use Rattle.claims.specs.Book.{Joined, Book, lookIn, coeffIn}
 use Rattle.claims.specs.BookCalls.{lastTarget, silentFrame, grown, Entry, drainJudged, drainEntered, enter}

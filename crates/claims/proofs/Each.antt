@@ -12,7 +12,7 @@ use Rattle.envelope.specs.Step.{gainStepOf}
 use Rattle.limiter.specs.Stores.{Stores}
 use Rattle.limiter.specs.Run.{movingOf, envelopeOf, movedOn, storesOf}
 use Rattle.limiter.specs.declared.state.Limiter.{Limiter}
-use Rattle.driver.specs.Block.{Rendered, rendered}
+use Rattle.turns.specs.Block.{Rendered, rendered}
 use Rattle.claims.specs.Book.{Joined}
 
 -- what was rendered first, and then what the later frames came to

@@ -21,7 +21,7 @@ use Rattle.audio.proofs.Written.{places-written, written-bytes-length, written-
 use Rattle.settings.specs.declared.LimiterSettings.{LimiterSettings}
 use Rattle.frame.specs.Rules.{leavesBy, rulesOf}
 use Rattle.frame.specs.Frame.{Framed}
-use Rattle.driver.specs.Block.{outputsOf}
+use Rattle.turns.specs.Block.{outputsOf}
 use Rattle.claims.specs.Book.{Joined, earlier, leavingFrom}
 use Rattle.claims.specs.Claim.{FramesHold, Given}
 

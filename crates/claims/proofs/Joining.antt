@@ -14,7 +14,7 @@ use Rattle.settings.proofs.Unit.{target-unit}
 use Rattle.settings.specs.declared.LimiterSettings.{LimiterSettings}
 use Rattle.bank.specs.Smoother.{stepped, targetSet}
 use Rattle.bank.specs.declared.smoother.Smoother.{Smoother}
-use Rattle.driver.specs.Events.{Event, misplaced, eventsReply}
+use Rattle.turns.specs.Events.{Event, misplaced, eventsReply}
 use Rattle.claims.specs.Book.{Book}
 use Rattle.claims.specs.BookCalls.{latch, latchWhere, thresholdAt, stepsAt, latchesAt, samplesFrom, joiningFrom}
 use Rattle.claims.proofs.Turned.{AllFit}

@@ -13,8 +13,8 @@ use Rattle.bank.specs.Smoother.{targetSet, stepped}
 use Rattle.bank.specs.Bank.{withSlots, slotMapped, oneChanged, firstMapped, allChanged}
 use Rattle.bank.specs.declared.smoother.Smoother.{Smoother}
 use Rattle.bank.specs.declared.smoother_bank.SmootherBank.{SmootherBank}
-use Rattle.driver.specs.Events.{Event, eventsReply, latchedOne, Latched, latched, latchedAll}
-use Rattle.driver.specs.Block.{bankAt}
+use Rattle.turns.specs.Events.{Event, eventsReply, latchedOne, Latched, latched, latchedAll}
+use Rattle.turns.specs.Block.{bankAt}
 use Rattle.claims.specs.BookCalls.{latchesAt, latch, latchWhere, stepsAt, thresholdAt}
 
 -- ---- positions

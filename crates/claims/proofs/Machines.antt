@@ -27,7 +27,7 @@ use Rattle.bank.specs.declared.smoother.Smoother.{Smoother}
 use Rattle.bank.specs.declared.smoother_bank.SmootherBank.{SmootherBank}
 use Rattle.bank.proofs.Prepared.{faultless}
 use Rattle.bank.proofs.Ramp.{range-of, stepped-is, true→T}
-use Rattle.driver.specs.Machine.{Machine, thresholdOf, declares, prepared, targetInRange, inOrder, fits, readyRefusal, resetRefusal}
+use Rattle.turns.specs.Machine.{Machine, thresholdOf, declares, prepared, targetInRange, inOrder, fits, readyRefusal, resetRefusal}
 use Rattle.driver.proofs.Judged.{prepared-is}
 use Rattle.claims.proofs.Turned.{Kernel}
 

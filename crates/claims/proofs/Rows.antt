@@ -21,9 +21,9 @@ use Rattle.bank.specs.Param.{faultOf}
 use Rattle.bank.specs.Smoother.{stepped}
 use Rattle.bank.specs.Bank.{allChanged, firstFault, declaredReply, setUpOf}
 use Rattle.bank.proofs.Rows.{minus-one-to-minus-four, afterSeven, aimedBank}
-use Rattle.driver.specs.Machine.{Machine}
-use Rattle.driver.specs.Events.{latched, latchedAll}
-use Rattle.driver.specs.Block.{Renderer, runsFrom, runsOf, runsThrough}
+use Rattle.turns.specs.Machine.{Machine}
+use Rattle.turns.specs.Events.{latched, latchedAll}
+use Rattle.turns.specs.Block.{Renderer, runsFrom, runsOf, runsThrough}
 use Rattle.driver.specs.Calls
 use Rattle.floors_text.proofs.Rows
 use Rattle.claims.specs.Session.{Call, drain}

@@ -18,10 +18,10 @@ use Rattle.frame.specs.Rules.{Rules}
 use Rattle.bank.specs.Bank.{withSlots}
 use Rattle.bank.specs.declared.smoother.Smoother.{Smoother}
 use Rattle.bank.specs.declared.smoother_bank.SmootherBank.{SmootherBank}
-use Rattle.driver.specs.Machine.{Machine, machineOf, targetNow}
-use Rattle.driver.specs.Events.{Event, eventsReply, latched}
-use Rattle.driver.specs.Block.{Rendered, rendered, runAt, runsFrom, runsOf, bankAt, RunsLeft, runsThrough}
-use Rattle.driver.proofs.Rendering.{settings-kept}
+use Rattle.turns.specs.Machine.{Machine, machineOf, targetNow}
+use Rattle.turns.specs.Events.{Event, eventsReply, latched}
+use Rattle.turns.specs.Block.{Rendered, rendered, runAt, runsFrom, runsOf, bankAt, RunsLeft, runsThrough}
+use Rattle.turns.proofs.Rendering.{settings-kept}
 use Rattle.claims.specs.Book.{Book}
 use Rattle.claims.specs.BookCalls.{latchWhere, thresholdAt, samplesFrom, Joining, joiningFrom}
 use Rattle.claims.proofs.Each.{renderEach, allAt, each-append, rendered-each}

@@ -31,7 +31,7 @@ use Rattle.bank.specs.declared.param.ParamInfo.{ParamInfo}
 use Rattle.bank.specs.declared.smoother.Smoother.{Smoother}
 use Rattle.bank.specs.declared.smoother_bank.SmootherBank.{SmootherBank}
 use Rattle.bank.proofs.Prepared.{set-up-prepared}
-use Rattle.driver.specs.Machine.{Machine, machineOf, lowest, fiveMs, thresholdParam, declares}
+use Rattle.turns.specs.Machine.{Machine, machineOf, lowest, fiveMs, thresholdParam, declares}
 use Rattle.driver.specs.Calls.{budgetReply, withRest, setupOf}
 use Rattle.claims.specs.BookCalls.{openedNew}
 use Rattle.claims.proofs.Turned.{Kernel, deep-enough}

@@ -29,7 +29,7 @@ use Rattle.limiter.proofs.Ready.{prepared-is, reset-prepared, reset-in-order}
 use Rattle.bank.specs.Smoother.{resetOne}
 use Rattle.bank.specs.Bank.{allChanged, firstMapped}
 use Rattle.bank.specs.declared.smoother.Smoother.{Smoother}
-use Rattle.driver.specs.Machine.{Machine, thresholdOf, prepared, fits, resetRefusal}
+use Rattle.turns.specs.Machine.{Machine, thresholdOf, prepared, fits, resetRefusal}
 use Rattle.driver.specs.Calls.{settled, resetDone, resetOf}
 use Rattle.claims.specs.Session.{reset, silently, limiting, called}
 use Rattle.claims.specs.Book.{Book, requiredOf}

@@ -25,7 +25,7 @@ use Rattle.limiter.proofs.Judge.{fit}
 use Rattle.limiter.proofs.Frames.{order-is}
 use Rattle.limiter.proofs.Keeping.{Held, frames-held}
 use Rattle.limiter.proofs.Ready.{prepared-is}
-use Rattle.driver.specs.Block.{Rendered, rendered}
+use Rattle.turns.specs.Block.{Rendered, rendered}
 use Rattle.claims.specs.Book.{Joined}
 use Rattle.claims.specs.BookCalls.{joinAll, lastTarget}
 use Rattle.claims.specs.Claim.{FramesHold}

@@ -15,10 +15,10 @@ use Rattle.settings.specs.declared.LimiterSettings.{LimiterSettings}
 use Rattle.settings.specs.declared.ProcessSpec.{ProcessSpec}
 use Rattle.bank.specs.Smoother.{smootherOf, targetSet, immediateSet, stepped, resetOne}
 use Rattle.bank.specs.declared.smoother.Smoother.{Smoother}
-use Rattle.driver.specs.Machine.{thresholdParam}
-use Rattle.driver.specs.Events.{Event, eventsReply}
-use Rattle.driver.specs.Block.{reaches}
-use Rattle.driver.specs.Drain.{longestDrain}
+use Rattle.turns.specs.Machine.{thresholdParam}
+use Rattle.turns.specs.Events.{Event, eventsReply}
+use Rattle.turns.specs.Block.{reaches}
+use Rattle.turns.specs.Drain.{longestDrain}
 use Rattle.claims.specs.Session.{Call, block, drain, parameter, reset}
 use Rattle.claims.specs.Book.{Joined, Book, lookIn}
 

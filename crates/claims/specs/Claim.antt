@@ -24,8 +24,8 @@ use Rattle.frame.specs.Rules.{Rules, rulesOf}
 use Rattle.frame.specs.Frame.{Framed}
 use Rattle.bank.specs.Smoother.{resetOne}
 use Rattle.bank.specs.Bank.{unset, valueOf}
-use Rattle.driver.specs.Machine.{Machine, machineOf, thresholdOf, readyRefusal, resetRefusal}
-use Rattle.driver.specs.Block.{Outcome, outputsOf}
+use Rattle.turns.specs.Machine.{Machine, machineOf, thresholdOf, readyRefusal, resetRefusal}
+use Rattle.turns.specs.Block.{Outcome, outputsOf}
 use Rattle.driver.specs.Calls.{setupOf}
 use Rattle.claims.specs.Session.{Call, block, drain, parameter, reset, bytesIn, Limiting, called}
 use Rattle.claims.specs.Book.{Joined, Book, lookIn, coeffIn, requiredOf, floorsOf, attackRow, notOne, gainAfter, leavingFrom}

@@ -23,10 +23,10 @@ use Rattle.frame.specs.Run.{Frames, frameFirst}
 use Rattle.limiter.specs.Stores.{storesAt}
 use Rattle.limiter.specs.Run.{movingOf, envelopeOf, movedOn, storesOf}
 use Rattle.limiter.specs.declared.state.Limiter.{Limiter}
-use Rattle.driver.specs.Machine.{Machine, machineOf}
-use Rattle.driver.specs.Events.{Event}
-use Rattle.driver.specs.Block.{Renderer, Outcome, rendered, renderedIn, blockReply, blockDone, blockBy, blockOf, refusedAs}
-use Rattle.driver.specs.Drain.{drainBy, drainOf, withDrained}
+use Rattle.turns.specs.Machine.{Machine, machineOf}
+use Rattle.turns.specs.Events.{Event}
+use Rattle.turns.specs.Block.{Renderer, Outcome, rendered, renderedIn, blockReply, blockDone, blockBy, blockOf, refusedAs}
+use Rattle.turns.specs.Drain.{drainBy, drainOf, withDrained}
 use Rattle.driver.specs.Calls.{Left, left, setupOf, parameterOf, resetOf}
 use Rattle.claims.specs.Session.{Limiting}
 use Rattle.claims.specs.BookCalls.{latchesAt}

@@ -20,9 +20,9 @@ use Rattle.limiter.specs.Stores.{Stores, lengthsOf}
 use Rattle.limiter.specs.Prepare.{storesRefusal}
 use Rattle.bank.specs.Smoother.{stepped}
 use Rattle.bank.specs.Bank.{allChanged, setUpOf, setTargetOf, bankAfter, valueOf}
-use Rattle.driver.specs.Machine.{Machine, thresholdParam}
-use Rattle.driver.specs.Block.{Renderer, runsOf, runsThrough}
-use Rattle.driver.specs.Drain.{drainOf}
+use Rattle.turns.specs.Machine.{Machine, thresholdParam}
+use Rattle.turns.specs.Block.{Renderer, runsOf, runsThrough}
+use Rattle.turns.specs.Drain.{drainOf}
 use Rattle.driver.specs.Calls
 use Rattle.floors_text.specs.Print.{ascii}
 use Rattle.floors_text.specs.Text.{textOf}

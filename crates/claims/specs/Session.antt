@@ -6,10 +6,10 @@ use Rattle.audio.specs.declared.format.Format.{Format}
 use Rattle.settings.specs.declared.LimiterSettings.{LimiterSettings}
 use Rattle.settings.specs.declared.ProcessSpec.{ProcessSpec}
 use Rattle.limiter.specs.Stores.{Stores}
-use Rattle.driver.specs.Machine.{Machine}
-use Rattle.driver.specs.Events.{Event}
-use Rattle.driver.specs.Block.{Outcome, blockOf}
-use Rattle.driver.specs.Drain.{drainOf}
+use Rattle.turns.specs.Machine.{Machine}
+use Rattle.turns.specs.Events.{Event}
+use Rattle.turns.specs.Block.{Outcome, blockOf}
+use Rattle.turns.specs.Drain.{drainOf}
 use Rattle.driver.specs.Calls.{Left, setupOf, parameterOf, resetOf}
 
 -- "any list of blocks, drains, parameter calls and resets"

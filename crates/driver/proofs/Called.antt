@@ -16,7 +16,7 @@ use Rattle.bank.specs.Smoother.{immediateSet, resetOne}
 use Rattle.bank.specs.Bank
 use Rattle.bank.specs.Bank.{oneChanged, allChanged, callReply, callOf, setImmediateOf}
 use Rattle.bank.specs.declared.smoother_bank.SmootherBank.{SmootherBank}
-use Rattle.driver.specs.Machine.{Machine, machineOf, prepared, resetRefusal}
+use Rattle.turns.specs.Machine.{Machine, machineOf, prepared, resetRefusal}
 use Rattle.driver.specs.Calls.{left, settled, parameterReply, parameterOf, resetOf}
 use Rattle.driver.proofs.Judged.{prepared-is}
 

@@ -18,7 +18,7 @@ use Rattle.bank.specs.Bank.{slotAt, allPrepared}
 use Rattle.bank.specs.Smoother.{slotPrepared}
 use Rattle.bank.specs.declared.smoother.Smoother.{Smoother}
 use Rattle.bank.specs.declared.smoother_bank.SmootherBank.{SmootherBank}
-use Rattle.driver.specs.Machine.{Machine, thresholdOf, declares, prepared, targetInRange, inOrder, fits, readyRefusal, resetRefusal}
+use Rattle.turns.specs.Machine.{Machine, thresholdOf, declares, prepared, targetInRange, inOrder, fits, readyRefusal, resetRefusal}
 
 -- ---- what 18 says
 pub record Prepared (l : Limiter) (b : SmootherBank) : Type 0 where

@@ -21,11 +21,11 @@ use Rattle.limiter.specs.Stores.{Stores}
 use Rattle.limiter.specs.declared.state.Limiter.{Limiter}
 use Rattle.limiter.proofs.Frames.{bounds-of, order-is}
 use Rattle.limiter.proofs.Ready
-use Rattle.driver.specs.Machine.{Machine, machineOf, prepared, fits, inOrder, targetInRange, readyRefusal}
-use Rattle.driver.specs.Events.{Event, eventsReply}
-use Rattle.driver.specs.Block.{outputsOf, sized, hasRoom, reaches, farthest, callReply, blockReply, renderedIn, blockDone, blockBy, blockOf}
-use Rattle.driver.specs.Drain.{longestDrain, tailReply, drainReply, drainable, withDrained, drainBy, drainOf}
-use Rattle.driver.specs.Inner.{RunsReady, BlockAsked, silent, DrainAsked}
+use Rattle.turns.specs.Machine.{Machine, machineOf, prepared, fits, inOrder, targetInRange, readyRefusal}
+use Rattle.turns.specs.Events.{Event, eventsReply}
+use Rattle.turns.specs.Block.{outputsOf, sized, hasRoom, reaches, farthest, callReply, blockReply, renderedIn, blockDone, blockBy, blockOf}
+use Rattle.turns.specs.Drain.{longestDrain, tailReply, drainReply, drainable, withDrained, drainBy, drainOf}
+use Rattle.turns.specs.Inner.{RunsReady, BlockAsked, silent, DrainAsked}
 use Rattle.driver.specs.Answers.{refusedBy, answerReply, flushReply, seen}
 use Rattle.driver.specs.declared.answers.Refusal.{Refusal}
 use Rattle.driver.specs.declared.answers.Answer.{Answer}

@@ -23,7 +23,7 @@ use Rattle.bank.specs.declared.param.BankAnswer.{BankAnswer}
 use Rattle.bank.specs.declared.smoother_bank.BankSetUp.{BankSetUp}
 use Rattle.bank.specs.declared.smoother_bank.SmootherBank.{SmootherBank}
 use Rattle.bank.proofs.Slots.{above-zero}
-use Rattle.driver.specs.Machine.{Machine, machineOf, thresholdParam}
+use Rattle.turns.specs.Machine.{Machine, machineOf, thresholdParam}
 use Rattle.driver.specs.Calls.{Left, left, settled, bankBytes, budgetReply, withRest, setupOf}
 
 stopped : (r : Reply) (new old : Machine) → eqb (r .number) 0 ≡ false → left r old ≡ settled r new old

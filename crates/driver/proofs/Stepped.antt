@@ -16,8 +16,8 @@ use Rattle.limiter.specs.Stores.{Stores}
 use Rattle.limiter.specs.Order
 use Rattle.limiter.specs.declared.state.Limiter.{Limiter}
 use Rattle.limiter.proofs.Frames.{order-is}
-use Rattle.driver.specs.Machine.{Machine, prepared, inOrder, targetInRange}
-use Rattle.driver.specs.Block.{hasRoom}
+use Rattle.turns.specs.Machine.{Machine, prepared, inOrder, targetInRange}
+use Rattle.turns.specs.Block.{hasRoom}
 use Rattle.driver.specs.Calls.{left, gainFits, gainReply, gainOf, gainDone, gainStep}
 use Rattle.driver.specs.Answers.{answerReply, gainReplyOf}
 use Rattle.driver.specs.declared.answers.Answer.{Answer}

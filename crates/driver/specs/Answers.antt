@@ -6,9 +6,10 @@ use Rattle.arithmetic.specs.Reply.{Reply, finished, refused, numbered, count, f
 use Rattle.limiter.specs.Prepare.{prepareReply}
 use Rattle.limiter.specs.Stores.{Stores}
 use Rattle.bank.specs.Answers.{refusalReply, paramSetReply}
-use Rattle.driver.specs.Machine.{Machine, machineAt}
-use Rattle.driver.specs.Block.{Outcome}
+use Rattle.turns.specs.Machine.{Machine, machineOf}
+use Rattle.turns.specs.Block.{Outcome}
 use Rattle.driver.specs.Calls.{Left, left}
+use Rattle.driver.specs.declared.state.KernelProcessor.{KernelProcessor}
 use Rattle.driver.specs.declared.answers.SetUp.{SetUp}
 use Rattle.driver.specs.declared.answers.Called.{Called}
 use Rattle.driver.specs.declared.answers.Flushed.{Flushed}
@@ -49,6 +50,10 @@ gainReplyOf (GainAnswer.Finished floor dropped kept tally mean gain) =
 gainReplyOf (GainAnswer.Refused why) = refusedBy why
 
 -- ---- what the functions answer
+-- the machine, read off the state and the stores
+abbrev pub machineAt : KernelProcessor → Stores → Machine
+machineAt p s = machineOf (p .limiter) (p .bank) s
+
 abbrev pub setUpAt : SetUp → Stores → Left
 setUpAt r s = left (setupReply (r .answer)) (machineAt (r .processor) s)
 

@@ -24,8 +24,8 @@ use Rattle.limiter.specs.declared.state.Limiter.{Limiter}
 use Rattle.bank.specs.Smoother.{immediateSet, resetOne}
 use Rattle.bank.specs.Bank.{unset, setUpOf, oneChanged, allChanged, valueOf}
 use Rattle.bank.specs.declared.smoother_bank.SmootherBank.{SmootherBank}
-use Rattle.driver.specs.Machine.{Machine, machineOf, thresholdParam, prepared, inOrder, resetRefusal}
-use Rattle.driver.specs.Block.{hasRoom}
+use Rattle.turns.specs.Machine.{Machine, machineOf, thresholdParam, prepared, inOrder, resetRefusal}
+use Rattle.turns.specs.Block.{hasRoom}
 
 -- what a call without audio leaves
 pub record Left : Type 0 where

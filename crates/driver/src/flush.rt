@@ -1,25 +1,21 @@
 // A drain: the checks, then runs of silence (driver.rs: `flush` of KernelProcessor; limiter.rs: `flush`).
 ghost use mathlib.Core.Path.{_≡_};
 ghost use mathlib.Core.Bool.{true};
-ghost use Prim.Native.Nat.{_+_, _≤_, min};
-ghost use Rattle.audio.specs.Format.{writtenBytes};
+ghost use Prim.Native.Nat.{_≤_};
 ghost use Rattle.limiter.specs.Order.{prepared};
-ghost use Rattle.limiter.specs.Stores.{Stores, atEntry, atExit, atCall};
-ghost use Rattle.driver.specs.Machine.{machineAt};
-ghost use Rattle.driver.specs.Block.{period, outputsOf};
-ghost use Rattle.driver.specs.Drain.{tailReply, drainReply, drainable, withDrained, drainOf};
-ghost use Rattle.driver.specs.Inner.{silent, DrainAsked};
-ghost use Rattle.driver.specs.Answers.{answerReply, flushedAt, seen};
+ghost use Rattle.limiter.specs.Stores.{Stores, atEntry, atExit};
+ghost use Rattle.turns.specs.Drain.{tailReply, drainReply, drainable, drainOf};
+ghost use Rattle.driver.specs.Answers.{machineAt, answerReply, flushedAt, seen};
 use crate::answers::Answer;
 use crate::answers::FlushAnswer;
 use crate::answers::Flushed;
 use crate::answers::Refusal;
 use crate::state::KernelProcessor;
-use crate::turn::run_room;
 use audio::format::Format;
 use audio::format::size_of;
-use audio::planar::scatter;
 use limiter::state::Limiter;
+use turns::drain::drain_frames;
+use turns::turn::run_room;
 
 // The frames of the tail that a drain writes.
 fn drainable(limiter: Limiter, frames: usize) -> usize
@@ -28,59 +24,6 @@ fn drainable(limiter: Limiter, frames: usize) -> usize
 {
     let left = limiter.env.keeper.look - limiter.drained;
     if frames < left { frames } else { left }
-}
-
-// The frames of the next run of a tail.
-fn tail_run(left: usize) -> usize
-    ensures { λ r. ⌜ r ≡ min left period ⌝ }
-{
-    if left < 32 { left } else { 32 }
-}
-
-// Drains n frames of the tail, in runs.
-fn drain_frames(
-    limiter: Limiter,
-    format: Format,
-    n: usize,
-    width: usize,
-    audio: &mut [u8],
-    run: &mut [f64],
-    delay: &mut [f64],
-    marks: &mut [u64],
-    minima: &mut [f64],
-    weights: &[f64],
-    row: &mut [f64],
-    detector: &mut [f64],
-) -> Limiter
-    requires { ⌜ DrainAsked limiter format n width (atCall delay marks minima weights row detector) (now audio) (now run) ⌝ }
-    ensures { λ r. ⌜ r
-        ≡ withDrained (silent format limiter (atEntry delay marks minima weights row detector) n .limiter) (limiter .drained + n) ⌝ }
-    ensures { λ _. ⌜ atExit delay marks minima weights row detector
-        ≡ silent format limiter (atEntry delay marks minima weights row detector) n .stores ⌝ }
-    ensures { λ _. ⌜ now (audio .exit)
-        ≡ writtenBytes format width (limiter .channels) n (now (audio .entry))
-        (outputsOf (silent format limiter (atEntry delay marks minima weights row detector) n .frames)) ⌝ }
-{
-    let channels = limiter.channels;
-    let mut l = limiter;
-    let mut first: usize = 0;
-    while first < n {
-        let len = tail_run(n - first);
-        l = l.drain(
-            format,
-            len,
-            run,
-            delay,
-            marks,
-            minima,
-            weights,
-            row,
-            detector,
-        );
-        scatter(format, channels, len, run, width, first, audio);
-        first += len;
-    }
-    l
 }
 
 impl KernelProcessor {

@@ -14,12 +14,8 @@ pub mod reset;
 pub mod setup;
 // The lone gain step.
 pub mod gain;
-// Events: 21, and how they latch.
-pub mod events;
-// One turn of a block.
-pub mod turn;
-// The turns of a block.
-mod drive;
+// Events: 21.
+mod events;
 // A block.
 pub mod process;
 // A drain.

@@ -2,9 +2,8 @@
 ghost use mathlib.Core.Path.{_≡_};
 ghost use Rattle.limiter.specs.Stores.{Stores};
 ghost use Rattle.bank.specs.Answers.{bankValueReply};
-ghost use Rattle.driver.specs.Machine.{machineAt};
 ghost use Rattle.driver.specs.Calls.{parameterOf, readOf};
-ghost use Rattle.driver.specs.Answers.{paramCalledAt};
+ghost use Rattle.driver.specs.Answers.{machineAt, paramCalledAt};
 use crate::answers::ParamCalled;
 use crate::state::KernelProcessor;
 use bank::smoother_bank::BankValue;

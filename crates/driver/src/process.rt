@@ -3,18 +3,18 @@ ghost use mathlib.Core.Path.{_≡_};
 ghost use mathlib.Core.Bool.{true};
 ghost use Rattle.limiter.specs.Order.{prepared};
 ghost use Rattle.limiter.specs.Stores.{Stores, atEntry, atExit};
-ghost use Rattle.driver.specs.Machine.{machineAt};
-ghost use Rattle.driver.specs.Events.{eventsOf};
-ghost use Rattle.driver.specs.Block.{callReply, blockReply, blockOf};
-ghost use Rattle.driver.specs.Answers.{answerReply, processedAt, seen};
+ghost use Rattle.turns.specs.Events.{eventsOf};
+ghost use Rattle.turns.specs.Block.{callReply, blockReply, blockOf};
+ghost use Rattle.driver.specs.Answers.{machineAt, answerReply, processedAt, seen};
 use crate::answers::Answer;
 use crate::answers::Called;
 use crate::answers::Refusal;
 use crate::events::check_events;
 use crate::state::KernelProcessor;
-use crate::turn::run_room;
 use audio::format::Format;
 use audio::format::size_of;
+use turns::drive::drive;
+use turns::turn::run_room;
 
 impl KernelProcessor {
     // 20, 21 and 22 in turn, for a limiter that is set up. No store is read.
@@ -105,8 +105,12 @@ impl KernelProcessor {
                 processor: self,
             };
         }
+        let limiter = self.limiter;
+        let bank = self.bank;
         let mut run = run_room();
-        let processor = self.drive(
+        let left = drive(
+            limiter,
+            bank,
             format,
             position,
             frames,
@@ -120,9 +124,11 @@ impl KernelProcessor {
             row,
             detector,
         );
+        let limiter = left.limiter;
+        let bank = left.bank;
         Called {
             answer: Answer::Finished,
-            processor,
+            processor: KernelProcessor { limiter, bank },
         }
     }
 }

@@ -3,8 +3,8 @@ ghost use mathlib.Core.Path.{_≡_};
 ghost use Rattle.arithmetic.specs.Reply.{numbered};
 ghost use Rattle.limiter.specs.Stores.{atEntry};
 ghost use Rattle.bank.specs.Bank.{slotAt};
-ghost use Rattle.driver.specs.Answers.{answerReply};
-ghost use Rattle.driver.specs.Machine.{machineAt, isLinear, declares, prepared, targetInRange, readyRefusal, resetRefusal};
+ghost use Rattle.turns.specs.Machine.{isLinear, declares, prepared, targetInRange, readyRefusal, resetRefusal};
+ghost use Rattle.driver.specs.Answers.{machineAt, answerReply};
 use crate::answers::Answer;
 use crate::answers::Refusal;
 use crate::state::KernelProcessor;
@@ -36,8 +36,8 @@ fn declares(s: LimiterSettings, p: Smoother) -> bool
     low & (high & (default & (time & is_linear(shape))))
 }
 
-// The threshold's smoother.
-fn threshold(smoothers: [Smoother; 8]) -> Smoother
+// The threshold's smoother: the first slot.
+pub fn threshold(smoothers: [Smoother; 8]) -> Smoother
     ensures { λ r. ⌜ r ≡ slotAt 0 smoothers ⌝ }
 {
     smoothers[0]

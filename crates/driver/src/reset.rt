@@ -1,9 +1,8 @@
 // Reset: the starting values again, the bank's too.
 ghost use mathlib.Core.Path.{_≡_};
 ghost use Rattle.limiter.specs.Stores.{atEntry, atExit};
-ghost use Rattle.driver.specs.Machine.{machineAt};
 ghost use Rattle.driver.specs.Calls.{resetOf};
-ghost use Rattle.driver.specs.Answers.{calledAt};
+ghost use Rattle.driver.specs.Answers.{machineAt, calledAt};
 use crate::answers::Answer;
 use crate::answers::Called;
 use crate::state::KernelProcessor;

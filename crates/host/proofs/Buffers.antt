@@ -17,7 +17,7 @@ use Rattle.limiter.specs.State.{notSetUp}
 use Rattle.limiter.specs.Stores.{Stores, lengthsOf}
 use Rattle.limiter.specs.Prepare.{storesRefusal, limiterLeft, prepareOf}
 use Rattle.bank.specs.Bank.{unset, setUpOf}
-use Rattle.driver.specs.Machine.{machineOf, thresholdParam}
+use Rattle.turns.specs.Machine.{machineOf, thresholdParam}
 use Rattle.driver.specs.Calls.{left, withRest, budgetReply, setupOf}
 use Rattle.state_bytes.specs.State.{stateBytes}
 use Rattle.host.specs.Answer.{answeredBy}

@@ -13,10 +13,10 @@ use Rattle.arithmetic.specs.Reply.{Reply, refused, count}
 use Rattle.settings.specs.declared.LimiterSettings.{LimiterSettings}
 use Rattle.settings.specs.declared.ProcessSpec.{ProcessSpec}
 use Rattle.limiter.specs.Stores.{Stores}
-use Rattle.driver.specs.Machine.{Machine, machineAt, prepared}
-use Rattle.driver.specs.Block.{Outcome}
+use Rattle.turns.specs.Machine.{Machine, prepared}
+use Rattle.turns.specs.Block.{Outcome}
 use Rattle.driver.specs.Calls.{Left, left, parameterOf, readOf, setupOf}
-use Rattle.driver.specs.Answers.{Seen, seen}
+use Rattle.driver.specs.Answers.{machineAt, Seen, seen}
 use Rattle.driver.specs.declared.state.KernelProcessor.{KernelProcessor}
 use Rattle.state_bytes.specs.State.{stateBytes, processorIn, stateOut}
 use Rattle.state_bytes.proofs.Finished.{parameter-set-up, set-up-long}

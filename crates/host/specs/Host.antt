@@ -12,9 +12,10 @@ use Rattle.settings.specs.declared.LimiterSettings.{LimiterSettings}
 use Rattle.settings.specs.declared.ProcessSpec.{ProcessSpec}
 use Rattle.settings.specs.declared.memory.Cap.{Cap}
 use Rattle.limiter.specs.Stores.{Stores, storesAt}
-use Rattle.driver.specs.Machine.{Machine, machineAt}
+use Rattle.turns.specs.Machine.{Machine}
+use Rattle.driver.specs.Answers.{machineAt}
 use Rattle.driver.specs.Calls.{Left, left, bankBytes, parameterOf, setupOf, readOf}
-use Rattle.driver.specs.Block.{Outcome}
+use Rattle.turns.specs.Block.{Outcome}
 use Rattle.driver.specs.declared.state.KernelProcessor.{KernelProcessor}
 use Rattle.state_bytes.specs.State.{stateBytes, processorIn, stateOut}
 use Rattle.host.specs.Answer.{answeredBy}

@@ -15,10 +15,10 @@ use Rattle.audio.specs.Format.{sizeOf}
 use Rattle.audio.specs.declared.format.Format.{Format}
 use Rattle.bank.specs.Bank
 use Rattle.bank.specs.Bank.{unset}
-use Rattle.driver.specs.Machine.{Machine, prepared, readyRefusal, resetRefusal}
-use Rattle.driver.specs.Events.{Event}
-use Rattle.driver.specs.Block.{blockReply, Outcome, refusedAs, renderedIn, blockDone, blockBy, blockOf}
-use Rattle.driver.specs.Drain.{drainReply, drainDone, drainBy, drainOf}
+use Rattle.turns.specs.Machine.{Machine, prepared, readyRefusal, resetRefusal}
+use Rattle.turns.specs.Events.{Event}
+use Rattle.turns.specs.Block.{blockReply, Outcome, refusedAs, renderedIn, blockDone, blockBy, blockOf}
+use Rattle.turns.specs.Drain.{drainReply, drainDone, drainBy, drainOf}
 use Rattle.driver.specs.Calls.{Left, left, parameterReply, parameterOf, resetOf, gainReply, gainOf, gainDone, gainStep}
 use Rattle.driver.specs.declared.state.KernelProcessor.{KernelProcessor}
 use Rattle.driver.proofs.Judged.{prepared-is}

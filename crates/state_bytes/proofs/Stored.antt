@@ -16,7 +16,8 @@ use Rattle.limiter.specs.State.{notSetUp}
 use Rattle.limiter.specs.Stores.{Stores, storesAt}
 use Rattle.bank.specs.Bank.{slotAt, unset}
 use Rattle.bank.specs.Words.{smootherOut}
-use Rattle.driver.specs.Machine.{Machine, machineOf, machineAt}
+use Rattle.turns.specs.Machine.{Machine, machineOf}
+use Rattle.driver.specs.Answers.{machineAt}
 use Rattle.driver.specs.declared.state.KernelProcessor.{KernelProcessor}
 use Rattle.state_bytes.specs.State.{layout, stateWords, stateBytes, zerosAt, holdsState, isState, stateIn, limiterOut, wordsOut, never, processorIn, stateOut}
 

@@ -26,10 +26,10 @@ use Rattle.bank.specs.Bank.{slotAt, unset, firstMapped, allChanged, oneChanged,
 use Rattle.bank.specs.declared.param.ParamInfo.{ParamInfo}
 use Rattle.bank.specs.declared.smoother.Smoother.{Smoother}
 use Rattle.bank.specs.declared.smoother_bank.SmootherBank.{SmootherBank}
-use Rattle.driver.specs.Machine.{Machine, machineOf, prepared, resetRefusal, thresholdParam}
-use Rattle.driver.specs.Events.{Event, latchedOne, latched, latchedAll}
-use Rattle.driver.specs.Block.{Renderer, period, bankAt, runsOf, turnBy, runsThrough, blockReply, Outcome, refusedAs, renderedIn, blockDone, blockBy, blockOf}
-use Rattle.driver.specs.Drain.{drainReply, drainDone, drainBy, drainOf}
+use Rattle.turns.specs.Machine.{Machine, machineOf, prepared, resetRefusal, thresholdParam}
+use Rattle.turns.specs.Events.{Event, latchedOne, latched, latchedAll}
+use Rattle.turns.specs.Block.{Renderer, period, bankAt, runsOf, turnBy, runsThrough, blockReply, Outcome, refusedAs, renderedIn, blockDone, blockBy, blockOf}
+use Rattle.turns.specs.Drain.{drainReply, drainDone, drainBy, drainOf}
 use Rattle.driver.specs.Calls.{Left, left, withRest, budgetReply, setupOf, parameterReply, parameterOf, resetDone, resetOf, gainReply, gainOf, gainDone, gainStep}
 use Rattle.driver.specs.declared.state.KernelProcessor.{KernelProcessor}
 use Rattle.driver.proofs.Judged.{prepared-is}

@@ -4,13 +4,12 @@ ghost use Prim.Native.Nat.{_+_, _*_, _≤_};
 ghost use lib.ListN.{length};
 ghost use Rattle.audio.specs.Bytes.{bytesOut};
 ghost use Rattle.audio.specs.Inner.{put};
-ghost use Rattle.bank.specs.Bank.{slotAt};
 ghost use Rattle.state_bytes.specs.State.{stateBytes, limiterOut, stateOut};
 use arithmetic::pattern::to_bits;
 use audio::words::write_words;
-use bank::smoother::Smoother;
 use bank::words::flag;
 use bank::words::smoother_out;
+use driver::ready::threshold;
 use driver::state::KernelProcessor;
 use limiter::state::Limiter;
 
@@ -39,12 +38,6 @@ fn limiter_out(l: Limiter) -> [u64; 18]
     ]
 }
 
-fn first(smoothers: [Smoother; 8]) -> Smoother
-    ensures { λ r. ⌜ r ≡ slotAt 0 smoothers ⌝ }
-{
-    smoothers[0]
-}
-
 // These words, from word k on.
 fn put_words(state: &mut [u8], k: usize, words: &[u64])
     requires { ⌜ 8 * (k + length (now words)) ≤ length (now state) ⌝ }
@@ -64,7 +57,7 @@ pub fn write_state(state: &mut [u8], p: KernelProcessor)
     let slots = bank.smoothers;
     put_words(state, 0, &[0x1_7a75_7944]);
     put_words(state, 1, &limiter_out(limiter));
-    put_words(state, 19, &smoother_out(first(slots)));
+    put_words(state, 19, &smoother_out(threshold(slots)));
     put_words(
         state,
         31,

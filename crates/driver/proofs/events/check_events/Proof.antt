@@ -4,8 +4,8 @@ use Prim.Native.Nat.{_-_, _/_, _≤_}
 use native.Mathlib.Omega.{arith}
 use lib.ListN.{length}
 use denote.Ref.{now}
-use Rattle.driver.specs.Events.{eventsFrom, eventsOf, eventsReply}
-use Rattle.driver.proofs.Latching.{check-here, check-more, check-end}
+use Rattle.turns.specs.Events.{eventsFrom, eventsOf, eventsReply}
+use Rattle.turns.proofs.Latching.{check-here, check-more, check-end}
 use Rattle.driver.proofs.events.check_events.Statement.{statement}
 use Rattle.driver.proofs.events.check_events.Tie as tie
 

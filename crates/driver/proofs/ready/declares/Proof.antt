@@ -2,7 +2,7 @@
 use mathlib.Core.Path.{refl}
 use lib.Ieee.{ofBits, neg}
 use borrow.Author.Needs.{needs}
-use Rattle.driver.specs.Machine.{declares}
+use Rattle.turns.specs.Machine.{declares}
 use Rattle.driver.proofs.ready.declares.Statement.{statement}
 use Rattle.driver.proofs.ready.declares.Tie as tie
 

@@ -1,7 +1,7 @@
 -- `refused`: the answer, and neither limiter nor bank set up.
 use mathlib.Core.Path.{ap}
 use borrow.Author.Needs.{needs}
-use Rattle.driver.specs.Machine.{Machine}
+use Rattle.turns.specs.Machine.{Machine}
 use Rattle.driver.specs.Calls.{left}
 use Rattle.driver.specs.Answers.{setupReply}
 use Rattle.driver.proofs.setup.refused.Statement.{statement}

@@ -5,9 +5,9 @@ use Prim.Native.Nat.{ℕ}
 use denote.Ref.{now}
 use Rattle.audio.specs.declared.format.Format.{Format}
 use Rattle.limiter.specs.Stores.{Stores, storesAt}
-use Rattle.driver.specs.Machine.{Machine, machineAt}
-use Rattle.driver.specs.Drain.{drainOf}
-use Rattle.driver.specs.Answers.{flushReply, Seen}
+use Rattle.turns.specs.Machine.{Machine}
+use Rattle.turns.specs.Drain.{drainOf}
+use Rattle.driver.specs.Answers.{machineAt, flushReply, Seen}
 use Rattle.state_bytes.proofs.Finished.{drain-set-up}
 use Rattle.host.proofs.Through.{finished-long, rendered}
 use borrow.Author.Needs.{needs}

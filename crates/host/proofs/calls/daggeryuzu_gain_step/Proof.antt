@@ -5,9 +5,9 @@ use lib.Ieee.{Float}
 use denote.Ref.{now}
 use Rattle.arithmetic.specs.Number.{bits}
 use Rattle.limiter.specs.Stores.{Stores, storesAt}
-use Rattle.driver.specs.Machine.{Machine, machineAt}
+use Rattle.turns.specs.Machine.{Machine}
 use Rattle.driver.specs.Calls.{Left, gainStep}
-use Rattle.driver.specs.Answers.{gainReplyOf}
+use Rattle.driver.specs.Answers.{machineAt, gainReplyOf}
 use Rattle.state_bytes.proofs.Finished.{gain-set-up}
 use Rattle.host.proofs.Through.{finished-long, called}
 use borrow.Author.Needs.{needs}

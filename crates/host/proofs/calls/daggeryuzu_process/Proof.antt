@@ -5,10 +5,10 @@ use Prim.Native.Nat.{ℕ}
 use denote.Ref.{now}
 use Rattle.audio.specs.declared.format.Format.{Format}
 use Rattle.limiter.specs.Stores.{Stores, storesAt}
-use Rattle.driver.specs.Machine.{Machine, machineAt}
-use Rattle.driver.specs.Events.{eventsOf}
-use Rattle.driver.specs.Block.{blockOf}
-use Rattle.driver.specs.Answers.{answerReply, Seen}
+use Rattle.turns.specs.Machine.{Machine}
+use Rattle.turns.specs.Events.{eventsOf}
+use Rattle.turns.specs.Block.{blockOf}
+use Rattle.driver.specs.Answers.{machineAt, answerReply, Seen}
 use Rattle.state_bytes.proofs.Finished.{block-set-up}
 use Rattle.host.proofs.Through.{finished-long, rendered}
 use borrow.Author.Needs.{needs}

@@ -2,9 +2,8 @@
 use mathlib.Core.Path.{ap}
 use denote.Ref.{now}
 use Rattle.limiter.specs.Stores.{Stores, storesAt}
-use Rattle.driver.specs.Machine.{machineAt}
 use Rattle.driver.specs.Calls.{Left, resetOf}
-use Rattle.driver.specs.Answers.{answerReply}
+use Rattle.driver.specs.Answers.{machineAt, answerReply}
 use Rattle.state_bytes.proofs.Finished.{reset-set-up}
 use Rattle.host.proofs.Through.{finished-long, called}
 use borrow.Author.Needs.{needs}

@@ -3,7 +3,7 @@ use mathlib.Core.Path.{ap}
 use mathlib.Core.List.{[]}
 use denote.Ref.{now}
 use Rattle.limiter.specs.Stores.{storesAt}
-use Rattle.driver.specs.Machine.{machineAt}
+use Rattle.driver.specs.Answers.{machineAt}
 use Rattle.bank.specs.Answers.{paramSetReply}
 use Rattle.driver.specs.Calls.{Left}
 use Rattle.host.specs.Host.{parameterBy}

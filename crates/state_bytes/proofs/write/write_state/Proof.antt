@@ -22,8 +22,8 @@ slice-aggregate-put-words-2 c = search needs
 put-words-requires-2 : tie.Need-put-words-requires-2
 put-words-requires-2 c κs = search needs
 
-first-requires : tie.Need-first-requires
-first-requires c κs = search needs
+threshold-requires : tie.Need-threshold-requires
+threshold-requires c κs = search needs
 
 smoother-out-requires : tie.Need-smoother-out-requires
 smoother-out-requires c κs = search needs
@@ -87,7 +87,7 @@ returns c =
       f .flag .ensures,
       w3 .put-words3 .ensures,
       o .smoother-out .ensures,
-      o .before .first .ensures,
+      o .before .threshold .ensures,
       w2 .put-words2 .ensures,
       l .limiter-out .ensures,
       w1 .put-words .ensures,
@@ -103,7 +103,7 @@ write-state-spec =
     limiter-out-requires
     slice-aggregate-put-words-2
     put-words-requires-2
-    first-requires
+    threshold-requires
     smoother-out-requires
     slice-aggregate-put-words-3
     put-words-requires-3

@@ -4,7 +4,8 @@ use native.Mathlib.Omega.{arith}
 use borrow.Author.Needs.{needs}
 use denote.Ref.{now}
 use Rattle.limiter.specs.Stores.{storesAt}
-use Rattle.driver.specs.Machine.{Machine, machineAt}
+use Rattle.turns.specs.Machine.{Machine}
+use Rattle.driver.specs.Answers.{machineAt}
 use Rattle.driver.proofs.Refusing.{drain-left, drain-may, drain-asked, drain-finished}
 use Rattle.driver.proofs.state.KernelProcessor.flush.Statement.{statement}
 use Rattle.driver.proofs.state.KernelProcessor.flush.Tie as tie

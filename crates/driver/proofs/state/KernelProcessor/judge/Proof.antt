@@ -2,10 +2,11 @@
 use mathlib.Core.Bool.{true, false}
 use borrow.Author.Needs.{needs}
 use denote.Ref.{now}
-use Rattle.limiter.specs.Stores.{storesAt}
+use Rattle.limiter.specs.Stores.{storesAt, lengthsOf}
 use Rattle.limiter.proofs.Judge.{fit}
 use Rattle.bank.proofs.Tests.{held, failed}
-use Rattle.driver.specs.Machine.{Machine, machineAt}
+use Rattle.turns.specs.Machine.{Machine, fits}
+use Rattle.driver.specs.Answers.{machineAt}
 use Rattle.driver.proofs.Judged.{prepared-is, not-set-up, wrong-length, order-judged}
 use Rattle.driver.proofs.state.KernelProcessor.judge.Statement.{statement}
 use Rattle.driver.proofs.state.KernelProcessor.judge.Tie as tie
@@ -32,7 +33,7 @@ returns-2 c = wrong-length (machine (c .before .before .before .before .before .
 in-order-requires : tie.Need-in-order-requires
 in-order-requires c κs =
     let m = machine (c .before .before .before .before .before .before .before .before .before .before .before .before) in
-    let f = fit (m .limiter .channels) (m .limiter .env .keeper .look) _ (held (c .before .stores-fit .ensures) (c .if2 .left)) in
+    let f = fit (m .limiter .channels) (m .limiter .env .keeper .look) (lengthsOf (m .stores)) (held {t = fits m} (c .before .stores-fit .ensures) (c .if2 .left)) in
     (f .marks-is, f .minima-is)
 
 target-in-range-requires : tie.Need-target-in-range-requires

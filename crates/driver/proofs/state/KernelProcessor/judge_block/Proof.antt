@@ -2,10 +2,10 @@
 use denote.Ref.{now}
 use Rattle.arithmetic.specs.Reply.{numbered}
 use Rattle.limiter.specs.Stores.{storesAt}
-use Rattle.driver.specs.Machine.{Machine, machineAt, readyRefusal}
-use Rattle.driver.specs.Events.{eventsOf}
-use Rattle.driver.specs.Block.{callReply, blockReply}
-use Rattle.driver.specs.Answers.{answerReply}
+use Rattle.turns.specs.Machine.{Machine, readyRefusal}
+use Rattle.turns.specs.Events.{eventsOf}
+use Rattle.turns.specs.Block.{callReply, blockReply}
+use Rattle.driver.specs.Answers.{machineAt, answerReply}
 use Rattle.driver.proofs.Refusing.{first-refused, first-passed, first-finished, ready-kernel}
 use Rattle.driver.proofs.state.KernelProcessor.judge_block.Statement.{statement}
 use Rattle.driver.proofs.state.KernelProcessor.judge_block.Tie as tie

@@ -2,9 +2,8 @@
 use native.Mathlib.Omega.{arith}
 use denote.Ref.{now}
 use mathlib.Core.Bool.{true, false}
-use Rattle.driver.specs.Machine.{machineAt}
-use Rattle.driver.specs.Events.{eventsOf}
-use Rattle.driver.specs.Answers.{answerReply}
+use Rattle.turns.specs.Events.{eventsOf}
+use Rattle.driver.specs.Answers.{machineAt, answerReply}
 use Rattle.driver.proofs.Refusing.{block-most, size-most, too-long, wrong-size, event-refused, far-judged}
 use Rattle.driver.proofs.state.KernelProcessor.judge_call.Statement.{statement}
 use Rattle.driver.proofs.state.KernelProcessor.judge_call.Tie as tie

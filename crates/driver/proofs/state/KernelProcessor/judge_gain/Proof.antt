@@ -11,7 +11,8 @@ use Rattle.keeper.specs.InOrder.{mostFrames}
 use Rattle.limiter.specs.Stores.{storesAt}
 use Rattle.limiter.proofs.Frames.{bounds-of}
 use Rattle.bank.proofs.Tests.{held, failed}
-use Rattle.driver.specs.Machine.{Machine, machineAt}
+use Rattle.turns.specs.Machine.{Machine}
+use Rattle.driver.specs.Answers.{machineAt}
 use Rattle.driver.specs.Calls.{gainFits}
 use Rattle.driver.proofs.Judged.{prepared-is}
 use Rattle.driver.proofs.Stepped.{gain-fit, gain-not-set-up, gain-lengths, gain-disorder, gain-room}

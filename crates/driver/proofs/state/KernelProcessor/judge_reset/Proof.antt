@@ -5,7 +5,8 @@ use borrow.Author.Needs.{needs}
 use denote.Ref.{now}
 use Rattle.limiter.specs.Stores.{storesAt}
 use Rattle.bank.proofs.Tests.{held, failed}
-use Rattle.driver.specs.Machine.{Machine, machineAt}
+use Rattle.turns.specs.Machine.{Machine}
+use Rattle.driver.specs.Answers.{machineAt}
 use Rattle.driver.proofs.Judged.{prepared-is, reset-not-set-up, reset-lengths}
 use Rattle.driver.proofs.state.KernelProcessor.judge_reset.Statement.{statement}
 use Rattle.driver.proofs.state.KernelProcessor.judge_reset.Tie as tie

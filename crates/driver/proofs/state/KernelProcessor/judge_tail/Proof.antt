@@ -1,6 +1,6 @@
 -- `judge_tail`: 20, then 22.
 use native.Mathlib.Omega.{arith}
-use Rattle.driver.specs.Machine.{machineAt}
+use Rattle.driver.specs.Answers.{machineAt}
 use Rattle.driver.proofs.Refusing.{size-most, tail-long, tail-size, tail-passed, tail-far}
 use Rattle.driver.proofs.state.KernelProcessor.judge_tail.Statement.{statement}
 use Rattle.driver.proofs.state.KernelProcessor.judge_tail.Tie as tie

@@ -3,9 +3,9 @@ use native.Mathlib.Omega.{arith}
 use borrow.Author.Needs.{needs}
 use denote.Ref.{now}
 use Rattle.limiter.specs.Stores.{storesAt}
-use Rattle.driver.specs.Machine.{Machine, machineAt}
-use Rattle.driver.specs.Events.{eventsOf}
-use Rattle.driver.specs.Answers.{answerReply}
+use Rattle.turns.specs.Machine.{Machine, machineOf}
+use Rattle.turns.specs.Events.{eventsOf}
+use Rattle.driver.specs.Answers.{machineAt, answerReply}
 use Rattle.driver.proofs.Refusing.{block-asks, block-left, block-finished}
 use Rattle.driver.proofs.state.KernelProcessor.process.Statement.{statement}
 use Rattle.driver.proofs.state.KernelProcessor.process.Tie as tie
@@ -44,10 +44,12 @@ same-length-6 c = search needs
 
 returns : tie.Need-returns
 returns c =
-    let a = c .before .before .before .before .before .before .before .before .before .before .before .before .before .before .before .before .before .before .args in
+    let s = c .before .before .before .before .before .before .before .before .before .before .before .before .before .before .before .before .before .before in
+    let a = s .args in
+    let z = c .before .before .before .before .before .before .before .before .size-of in
     let j = c .before .before .judge-block in
     let f = c .before .is-finished in
-    block-left (a .format) (machine (c .before .before .before .before .before .before .before .before .before .before .before .before .before .before .before .before .before .before)) (a .position) (a .frames) (eventsOf (now (a .events))) (now (a .audio)) (c .before .before .before .before .before .before .before .before .size-of .result) (c .before .before .before .before .before .before .before .before .size-of .ensures) (answerReply (j .result)) (j .ensures) (f .result) (f .ensures) (c .if1 .taken)
+    block-left (a .format) (machine s) (a .position) (a .frames) (eventsOf (now (a .events))) (now (a .audio)) (z .result) (z .ensures) (answerReply (j .result)) (j .ensures) (f .result) (f .ensures) (c .if1 .taken)
 
 run-room-requires : tie.Need-run-room-requires
 run-room-requires c κs = tt
@@ -57,11 +59,13 @@ slice-aggregate-drive c = omega arith
 
 drive-requires : tie.Need-drive-requires
 drive-requires c κs =
-    let a = c .before .before .before .before .before .before .before .before .before .before .before .before .before .before .before .before .before .before .before .before .before .before .before .before .before .before .args in
-    let j = c .before .before .before .before .before .before .before .before .before .before .judge-block in
-    let f = c .before .before .before .before .before .before .before .before .before .is-finished in
-    block-asks (a .format) (machine (c .before .before .before .before .before .before .before .before .before .before .before .before .before .before .before .before .before .before .before .before .before .before .before .before .before .before)) (a .position) (a .frames) (eventsOf (now (a .events))) (now (a .audio)) (c .before .before .before .before .before .before .before .before .before .before .before .before .before .before .before .before .size-of .result) (c .before .before .before .before .before .before .before .before .before .before .before .before .before .before .before .before .size-of .ensures) (answerReply (j .result)) (j .ensures) (f .result) (f .ensures)
-    (c .before .before .before .before .before .before .before .run-room .result) (c .before .before .before .before .before .before .before .run-room .ensures) (c .before .before .before .before .before .before .before .before .if1 .left)
+    let s = c .before .before .before .before .before .before .before .before .before .before .before .before .before .before .before .before .before .before .before .before .before .before .before .before .before .before .before .before in
+    let a = s .args in
+    let z = c .before .before .before .before .before .before .before .before .before .before .before .before .before .before .before .before .before .before .size-of in
+    let j = c .before .before .before .before .before .before .before .before .before .before .before .before .judge-block in
+    let f = c .before .before .before .before .before .before .before .before .before .before .before .is-finished in
+    let room = c .before .before .before .before .before .before .before .run-room in
+    block-asks (a .format) (machine s) (a .position) (a .frames) (eventsOf (now (a .events))) (now (a .audio)) (z .result) (z .ensures) (answerReply (j .result)) (j .ensures) (f .result) (f .ensures) (room .result) (room .ensures) (c .before .before .before .before .before .before .before .before .before .before .if1 .left)
 
 same-length-7 : tie.Need-same-length-7
 same-length-7 c = search needs
@@ -83,12 +87,15 @@ same-length-12 c = search needs
 
 returns-2 : tie.Need-returns-2
 returns-2 c =
-    let a = c .before .before .before .before .before .before .before .before .before .before .before .before .before .before .before .before .before .before .before .before .before .before .before .before .before .before .before .before .before .before .before .before .before .before .before .before .before .before .before .before .args in
-    let j = c .before .before .before .before .before .before .before .before .before .before .before .before .before .before .before .before .before .before .before .before .before .before .before .before .judge-block in
-    let f = c .before .before .before .before .before .before .before .before .before .before .before .before .before .before .before .before .before .before .before .before .before .before .before .is-finished in
-    let d = c .before .before .before .before .before .before .before .before .before .before .before .before .before .drive in
-    block-finished (a .format) (machine (c .before .before .before .before .before .before .before .before .before .before .before .before .before .before .before .before .before .before .before .before .before .before .before .before .before .before .before .before .before .before .before .before .before .before .before .before .before .before .before .before)) (a .position) (a .frames) (eventsOf (now (a .events))) (now (a .audio)) (c .before .before .before .before .before .before .before .before .before .before .before .before .before .before .before .before .before .before .before .before .before .before .before .before .before .before .before .before .before .before .size-of .result) (c .before .before .before .before .before .before .before .before .before .before .before .before .before .before .before .before .before .before .before .before .before .before .before .before .before .before .before .before .before .before .size-of .ensures) (answerReply (j .result)) (j .ensures) (f .result) (f .ensures)
-    (machineAt (d .result) (storesAt (d .last .1 .1 .1 .1 .1 .1 .1 .0) (d .last .1 .1 .1 .1 .1 .1 .1 .1 .0) (d .last .1 .1 .1 .1 .1 .1 .1 .1 .1 .0) (now (a .weights)) (d .last .1 .1 .1 .1 .1 .1 .1 .1 .1 .1 .1 .0) (d .last .1 .1 .1 .1 .1 .1 .1 .1 .1 .1 .1 .1 .0))) (d .last .1 .1 .1 .1 .1 .0) (c .before .before .before .before .before .before .before .before .before .before .before .before .before .before .before .before .before .before .before .before .before .before .if1 .left) (d .ensures .0) (d .ensures .1)
+    let s = c .before .before .before .before .before .before .before .before .before .before .before .before .before .before .before .before .before .before .before .before .before .before .before .before .before .before .before .before .before .before .before .before .before .before .before .before .before .before .before .before .before .before .before .before in
+    let a = s .args in
+    let z = c .before .before .before .before .before .before .before .before .before .before .before .before .before .before .before .before .before .before .before .before .before .before .before .before .before .before .before .before .before .before .before .before .before .before .size-of in
+    let j = c .before .before .before .before .before .before .before .before .before .before .before .before .before .before .before .before .before .before .before .before .before .before .before .before .before .before .before .before .judge-block in
+    let f = c .before .before .before .before .before .before .before .before .before .before .before .before .before .before .before .before .before .before .before .before .before .before .before .before .before .before .before .is-finished in
+    let d = c .before .before .before .before .before .before .before .before .before .before .before .before .before .before .before .drive in
+    let o = d .last .1 .1 .1 .1 .1 .1 in
+    block-finished (a .format) (machine s) (a .position) (a .frames) (eventsOf (now (a .events))) (now (a .audio)) (z .result) (z .ensures) (answerReply (j .result)) (j .ensures) (f .result) (f .ensures)
+    (machineOf (d .result .limiter) (d .result .bank) (storesAt (o .1 .1 .0) (o .1 .1 .1 .0) (o .1 .1 .1 .1 .0) (now (a .weights)) (o .1 .1 .1 .1 .1 .1 .0) (o .1 .1 .1 .1 .1 .1 .1 .0))) (o .0) (c .before .before .before .before .before .before .before .before .before .before .before .before .before .before .before .before .before .before .before .before .before .before .before .before .before .before .if1 .left) (d .ensures .0) (d .ensures .1)
 
 pub process-spec : {M : Type 1} → statement M
 process-spec =

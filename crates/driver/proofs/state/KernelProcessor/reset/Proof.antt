@@ -3,8 +3,8 @@ use borrow.Author.Needs.{needs}
 use denote.Ref.{now}
 use Rattle.limiter.specs.Stores.{storesAt}
 use Rattle.limiter.specs.Reset.{resetAt}
-use Rattle.driver.specs.Machine.{Machine, machineAt}
-use Rattle.driver.specs.Answers.{answerReply}
+use Rattle.turns.specs.Machine.{Machine}
+use Rattle.driver.specs.Answers.{machineAt, answerReply}
 use Rattle.driver.proofs.Judged.{prepared-is}
 use Rattle.driver.proofs.Called.{reset-refused, reset-prepared, reset-done}
 use Rattle.driver.proofs.state.KernelProcessor.reset.Statement.{statement}

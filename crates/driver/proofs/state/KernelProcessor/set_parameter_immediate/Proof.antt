@@ -2,7 +2,7 @@
 use borrow.Author.Needs.{needs}
 use Rattle.bank.specs.Bank.{paramSetAt}
 use Rattle.bank.proofs.Tests.{held, failed}
-use Rattle.driver.specs.Machine.{machineAt}
+use Rattle.driver.specs.Answers.{machineAt}
 use Rattle.driver.proofs.Called.{param-not-set-up, param-called}
 use Rattle.driver.proofs.state.KernelProcessor.set_parameter_immediate.Statement.{
   statement,

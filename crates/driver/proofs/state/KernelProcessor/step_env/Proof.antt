@@ -5,7 +5,8 @@ use borrow.Author.Needs.{needs}
 use denote.Ref.{now}
 use Rattle.envelope.specs.Step.{gainStepAt}
 use Rattle.limiter.specs.Stores.{storesAt}
-use Rattle.driver.specs.Machine.{Machine, machineAt}
+use Rattle.turns.specs.Machine.{Machine}
+use Rattle.driver.specs.Answers.{machineAt}
 use Rattle.driver.proofs.Stepped.{gain-refused, gain-ready, gain-done}
 use Rattle.driver.proofs.state.KernelProcessor.step_env.Statement.{statement}
 use Rattle.driver.proofs.state.KernelProcessor.step_env.Tie as tie

@@ -1,0 +1,6 @@
+-- Laws of turns that belong to no one function.
+pub mod Latching
+pub mod Rendering
+pub mod Turning
+pub mod Driving
+pub mod Draining

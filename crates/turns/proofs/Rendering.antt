@@ -1,0 +1,107 @@
+-- Frames of a call's audio through the limiter: gathered, rendered, scattered.
+use mathlib.Core.Path.{_≡_, refl, sym, ap, subst, _∙_}
+use mathlib.Core.Bool.{true}
+use mathlib.Core.List.{List, _++_}
+use Prim.Native.Nat.{ℕ, _+_, _*_, _≤_, _<_}
+use native.Mathlib.Omega.{arith}
+use lib.ListN.{length, length-map}
+use lib.Ieee.{Float, nan}
+use Rattle.arithmetic.specs.Number
+use Rattle.arithmetic.specs.Number.{one, within, largest}
+use Rattle.audio.specs.Planar.{framesAt}
+use Rattle.audio.specs.Format.{samplesOf}
+use Rattle.audio.specs.Inner.{PlacesCarried, Placed}
+use Rattle.audio.specs.declared.format.Format.{Format}
+use Rattle.audio.proofs.Planes.{frames-at-length}
+use Rattle.audio.proofs.Written.{size-small, gathered, placed-outputs}
+use Rattle.detector.specs.Run.{runLength}
+use Rattle.keeper.specs.InOrder.{mostFrames}
+use Rattle.frame.specs.Rules.{Rules, rulesOf}
+use Rattle.frame.specs.Frame.{Framed}
+use Rattle.frame.specs.Run.{framesIn, writtenIn, runOf}
+use Rattle.frame.proofs.Keeps.{frames-kept, frames-many}
+use Rattle.limiter.specs.Stores.{Stores, lengthsOf, lengthsFit}
+use Rattle.limiter.specs.Order
+use Rattle.limiter.specs.Run.{movingOf, Ran, ranAt, renderOf, KernelReady}
+use Rattle.limiter.specs.declared.state.Limiter.{Limiter}
+use Rattle.limiter.proofs.Frames.{bounds-of}
+use Rattle.limiter.proofs.Keeping.{render-prepared, render-lengths, render-in-order}
+use Rattle.turns.specs.Block.{rendered, outputsOf}
+use Rattle.turns.specs.Inner.{RunsReady, RunAsked, RunGiven}
+
+-- ---- the kernel's run, as frames in turn
+-- a run of its frames
+pub ran-as : (rules : Rules) (l : Limiter) (target : Float) (n : ℕ) (s : Stores) (run : List Float)
+    → (let r = rendered rules l s target (framesIn (l .channels) n run) in renderOf rules l target n s run ≡ ranAt (r .limiter) (r .stores) (writtenIn (l .channels) n run (outputsOf (r .frames))))
+unfolding renderOf runOf rendered
+ran-as rules l target n s run = refl
+
+-- as many are shown as there are frames
+pub shown-many : (rules : Rules) (l : Limiter) (target : Float) (s : Stores) (fs : List (List Float)) → length (rendered rules l s target fs .frames) ≡ length fs
+unfolding rendered
+shown-many rules l target s fs = frames-many rules (s .weights) (l .«release_coeff») (l .env .keeper .look) target fs (movingOf l s)
+
+pub channels-kept : (rules : Rules) (l : Limiter) (target : Float) (s : Stores) (fs : List (List Float)) (after : Limiter) → after ≡ rendered rules l s target fs .limiter → after .channels ≡ l .channels
+unfolding rendered
+channels-kept rules l target s fs after e = ap (λ (z : Limiter). z .channels) e
+
+-- each of them counts
+pub frames-counted : (rules : Rules) (l : Limiter) (target : Float) (s : Stores) (fs : List (List Float)) → rendered rules l s target fs .limiter .env .keeper .frame ≡ l .env .keeper .frame + length fs
+unfolding rendered
+frames-counted rules l target s fs = frames-kept rules (s .weights) (l .«release_coeff») (l .env .keeper .look) target fs (movingOf l s) .taken
+
+-- what the kernel asks
+pub kernel-asks : (l : Limiter) (n : ℕ) (s : Stores) (run : List Float) → RunsReady l n s → 1 ≤ n → n ≤ runLength → length run ≡ 8 * runLength → KernelReady l n s run
+kernel-asks l n s run r some short fit = record { set-up = r .set-up; lengths = r .lengths; order = r .order; room = r .room; some = some; short = short; audio-fit = fit }
+
+-- 8 channels have room in a run
+pub run-room : (l : Limiter) (run : List Float) → Order.prepared l ≡ true → length run ≡ 8 * runLength → l .channels * runLength ≤ length run
+run-room l run h e = let b = bounds-of l h in omega (arith, b .most, e)
+
+-- nor are channels × frames as many as a call never asks for
+pub audio-small : (l : Limiter) (width : ℕ) → Order.prepared l ≡ true → width ≤ 65536 → l .channels * width < largest
+audio-small l width h short = size-small (l .channels) width (bounds-of l h .most) short
+
+-- a run leaves limiter and stores as ready as they were
+pub still-ready : (rules : Rules) (l : Limiter) (target : Float) (n : ℕ) (s : Stores) (run : List Float) → KernelReady l n s run → within Number.zero one target ≡ true
+    → (left : ℕ) → l .env .keeper .frame + (n + left) ≤ mostFrames → (let r = rendered rules l s target (framesIn (l .channels) n run) in RunsReady (r .limiter) left (r .stores))
+unfolding rendered
+still-ready rules l target n s run k unit left room =
+    let e = ran-as rules l target n s run in
+    let o = renderOf rules l target n s run in
+    let many = frames-at-length nan runLength (l .channels) 0 n run in
+    let counted = frames-counted rules l target s (framesIn (l .channels) n run) in
+    record {
+      set-up = subst (λ (r : Ran). Order.prepared (r .limiter) ≡ true) e (render-prepared rules l target n s run k);
+      lengths = subst (λ (r : Ran). lengthsFit (l .channels) (r .limiter .env .keeper .look) (lengthsOf (r .stores)) ≡ true) e (render-lengths rules l target n s run k);
+      order = subst (λ (r : Ran). Order.inOrder (r .limiter) (r .stores .marks) (r .stores .minima) (r .stores .row) ≡ true) e (render-in-order rules l target n s run k unit);
+      room = omega (arith, counted, many, room);
+    }
+
+-- what a call keeps of the limiter
+pub settings-kept : (rules : Rules) (l : Limiter) (target : Float) (s : Stores) (fs : List (List Float)) (after : Limiter) → after ≡ rendered rules l s target fs .limiter → after .settings ≡ l .settings
+unfolding rendered
+settings-kept rules l target s fs after e = ap (λ (z : Limiter). z .settings) e
+
+-- ---- gathered, rendered, scattered
+module _ (l : Limiter) (format : Format) (target : Float) (width first n : ℕ) (s : Stores) (bytes : List ℕ) (run₀ run run' : List Float) (bytes' : List ℕ) (after : Limiter) (stores : Stores) where
+  abbrev rules : Rules
+  rules = rulesOf (l .settings) format
+
+  pub run-given : RunAsked l format target width first n s bytes run₀ → length run ≡ length run₀ → PlacesCarried nan (l .channels) n width first (samplesOf format bytes) runLength 0 run₀ run
+      → ranAt after stores run' ≡ renderOf rules l target n s run → Placed format (l .channels) n width first (framesIn (l .channels) n run') bytes bytes' → RunGiven l format target width first n s bytes after stores bytes'
+  run-given a m g r c =
+      let fs : framesIn (l .channels) n run ≡ framesAt nan width (l .channels) first n (samplesOf format bytes) = gathered format (l .channels) n width first bytes run₀ run g in
+      let k = kernel-asks l n s run (a .ready) (a .some) (a .short) (m ∙ a .lends .run-fit) in
+      let e = r ∙ ran-as rules l target n s run in
+      let many = shown-many rules l target s (framesIn (l .channels) n run) ∙ frames-at-length nan runLength (l .channels) 0 n run in
+      let shown = rendered rules l s target (framesIn (l .channels) n run) .frames in
+      record {
+        limiter-is = ap (λ (z : Ran). z .limiter) e ∙ ap (λ (z : List (List Float)). rendered rules l s target z .limiter) fs;
+        stores-are = ap (λ (z : Ran). z .stores) e ∙ ap (λ (z : List (List Float)). rendered rules l s target z .stores) fs;
+        audio-is =
+            subst (λ (z : List (List Float)). Placed format (l .channels) n width first (outputsOf (rendered rules l s target z .frames)) bytes bytes') fs
+            (placed-outputs format (l .channels) n run (outputsOf shown) width first bytes bytes' (a .short) (length-map shown (λ (x : Framed). x .outputs) ∙ many) (run-room l run (a .ready .set-up) (m ∙ a .lends .run-fit))
+            (subst (λ (z : List Float). Placed format (l .channels) n width first (framesIn (l .channels) n z) bytes bytes') (ap (λ (z : Ran). z .audio) e) c));
+        still = λ left room. subst (λ (z : Ran). RunsReady (z .limiter) left (z .stores)) (sym e) (still-ready rules l target n s run k (a .unit) left room);
+      }
