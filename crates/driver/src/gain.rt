@@ -16,6 +16,7 @@ use crate::ready::target_in_range;
 use crate::state::KernelProcessor;
 use envelope::env::Envelope;
 use envelope::env::GainStep;
+use frame::gains::gain_steps;
 use limiter::state::Limiter;
 use settings::memory::row_len;
 
@@ -101,7 +102,16 @@ impl KernelProcessor {
         let l = self.limiter;
         let bank = self.bank;
         let env = l.env;
-        let step = env.step_env(marks, minima, weights, row, l.release_coeff, gain);
+        let mut gains = [gain];
+        let step = gain_steps(
+            env,
+            marks,
+            minima,
+            weights,
+            row,
+            l.release_coeff,
+            &mut gains,
+        );
         let answer = told(step);
         let next = step.env;
         let limiter = with_env(l, next);

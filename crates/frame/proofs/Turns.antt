@@ -90,6 +90,26 @@ module _ (weights : List Float) (coeff : Float) (e : Enveloped) (i : ℕ) (l : L
         gains-more (s .env) (omega arith) (ap (λ (g : GainStepped). g .env) came),
       )
 
+-- no step yet: all is as at first; one step: of a lone gain, that is its step
+pub record Lone (weights : List Float) (coeff : Float) (e : Enveloped) (l : List Float) (i : ℕ) (s : GainStepped) (left : List Float) : Type 0 where
+  pub env-still : i ≡ 0 → s .env ≡ e
+  pub gains-still : i ≡ 0 → left ≡ l
+  pub stepped : i ≡ 1 → (x : Float) → l ≡ x ∷ [] → s ≡ gainStepOf weights coeff e x
+
+module _ (weights : List Float) (coeff : Float) (e : Enveloped) (l : List Float) where
+  pub lone-start : (s : GainStepped) → s .env ≡ e → Lone weights coeff e l 0 s l
+  lone-start s h = record { env-still = λ z. h; gains-still = λ z. refl; stepped = λ z. absurd (omega arith) }
+
+  module _ (i : ℕ) (s : GainStepped) (left : List Float) (was : Lone weights coeff e l i s left) where
+    pub lone-turn : (next : GainStepped) (after : List Float) → next ≡ gainStepOf weights coeff (s .env) (getD left i nan) → Lone weights coeff e l (i + 1) next after
+    lone-turn next after came = record { env-still = λ z. absurd (omega arith); gains-still = λ z. absurd (omega arith); stepped = λ z x one. first (omega arith) x one }
+      where
+        first : i ≡ 0 → (x : Float) → l ≡ x ∷ [] → next ≡ gainStepOf weights coeff e x
+        first z x one = came ∙ rw (was .env-still z, was .gains-still z, z, one) refl
+
+    pub lone-done : i ≤ length l → length l ≤ i → (x : Float) → l ≡ x ∷ [] → s ≡ gainStepOf weights coeff e x
+    lone-done most least x one = let n : length l ≡ 1 = ap (λ (k : List Float). length k) one in was .stepped (omega arith) x one
+
 -- ---- outputs
 -- the outputs passed, and what the rest comes to
 abbrev pub outputsFrom : (Float → Float) → ℕ → ℕ → List Float → List Float → ℕ → List Float → Outputs

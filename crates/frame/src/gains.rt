@@ -1,15 +1,16 @@
 // The gain applied to each frame of a run.
 ghost use mathlib.Core.Path.{_≡_};
-ghost use mathlib.Core.List.{map};
+ghost use mathlib.Core.List.{[], _∷_, map};
 ghost use Prim.Native.Nat.{_+_, _≤_};
 ghost use lib.ListN.{length};
 ghost use lib.Ieee.{Float};
 ghost use Rattle.keeper.specs.InOrder.{mostFrames};
-ghost use Rattle.envelope.specs.Step.{envelopedAt, EnvReady};
+ghost use Rattle.envelope.specs.Step.{envelopedAt, gainStepAt, gainStepOf, EnvReady};
 ghost use Rattle.frame.specs.Frame.{requiredGain};
 ghost use Rattle.frame.specs.Passes.{gainsAt, gainsOf};
 use arithmetic::number::min;
 use envelope::env::Envelope;
+use envelope::env::GainStep;
 
 // Below the target the ratio exceeds one and becomes unity, so there is no case of its own for it.
 fn required_gain(target: f64, peak: f64) -> f64
@@ -28,7 +29,8 @@ pub fn required_gains(target: f64, peaks: &mut [f64])
     }
 }
 
-// A gain step for each frame: the gain to apply takes the required gain's place.
+// A gain step for each frame: the gain to apply takes the required gain's place. What the last step told is
+// handed back; of one gain, that is its step.
 pub fn gain_steps(
     env: Envelope,
     marks: &mut [u64],
@@ -37,19 +39,25 @@ pub fn gain_steps(
     row: &mut [f64],
     coeff: f64,
     gains: &mut [f64],
-) -> Envelope
+) -> GainStep
     requires { ⌜ EnvReady (now weights) (envelopedAt env (now marks) (now minima) (now row)) ⌝ }
     requires { ⌜ env .keeper .frame + length (now gains) ≤ mostFrames ⌝ }
-    ensures { λ r. ⌜ gainsAt r (now (marks .exit)) (now (minima .exit)) (now (row .exit)) (now (gains .exit))
+    ensures { λ r. ⌜ gainsAt (r .env) (now (marks .exit)) (now (minima .exit)) (now (row .exit)) (now (gains .exit))
         ≡ gainsOf (now (weights .entry)) coeff (envelopedAt env (now (marks .entry)) (now (minima .entry)) (now (row .entry))) (now (gains .entry)) ⌝ }
+    ensures { λ r. ⌜ ((x : Float) → now (gains .entry) ≡ x ∷ [] → gainStepAt r (now (marks .exit)) (now (minima .exit)) (now (row .exit))
+        ≡ gainStepOf (now (weights .entry)) coeff (envelopedAt env (now (marks .entry)) (now (minima .entry)) (now (row .entry))) x) ⌝ }
 {
     let n = gains.len();
-    let mut e = env;
+    let mut last = GainStep {
+        floor: 1.0,
+        dropped: 0,
+        mean: 1.0,
+        env,
+    };
     for i in 0..n {
-        let step = e.step_env(marks, minima, weights, row, coeff, gains[i]);
-        let next = step.env;
-        e = next;
-        gains[i] = e.gain;
+        let e = last.env;
+        last = e.step_env(marks, minima, weights, row, coeff, gains[i]);
+        gains[i] = last.env.gain;
     }
-    e
+    last
 }

@@ -4,7 +4,7 @@
 // The linked peak over the channels.
 mod peaks;
 // Required gains and gain steps.
-mod gains;
+pub mod gains;
 // The delayed outputs.
 mod outputs;
 // A run in passes.

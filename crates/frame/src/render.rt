@@ -51,7 +51,8 @@ fn render_in(
 {
     all_peaks(settings, channels, n, audio, detector, gains);
     required_gains(target, gains);
-    let after = gain_steps(env, marks, minima, weights, row, coeff, gains);
+    let last = gain_steps(env, marks, minima, weights, row, coeff, gains);
+    let after = last.env;
     let next = all_outputs(format, channels, look, pos, n, gains, delay, audio);
     Rendered {
         env: after,

@@ -39,7 +39,7 @@ gain-steps-requires c κs =
 
 all-outputs-requires : tie.Need-all-outputs-requires
 all-outputs-requires c κs =
-    let g = c .before .before .before .before .before .before .before .before .before .before .before in
+    let g = c .before .before .before .before .before .before .before .before .before .before .before .before in
     let q = g .before .before .before .before .before .before .before in
     let p = q .before .before .before .before .before .before in
     let s = p .before .before .before .before .before .before .before .before .before .before .before .before in
@@ -64,12 +64,12 @@ same-length-5 c = search needs
 
 same-length-6 : tie.Need-same-length-6
 same-length-6 c =
-    let p = c .before .before .before .before .before .before .before .before .before .before .before .before .before .before .before .before .before .before .before .before .before .before .before .before .before .before .before .before .before in
+    let p = c .before .before .before .before .before .before .before .before .before .before .before .before .before .before .before .before .before .before .before .before .before .before .before .before .before .before .before .before .before .before in
     p .all-peaks .kept .1 .1 .1 .1 .0
 
 same-length-7 : tie.Need-same-length-7
 same-length-7 c =
-    let g = c .before .before .before .before .before .before .before .before .before .before .before .before .before .before .before .before in
+    let g = c .before .before .before .before .before .before .before .before .before .before .before .before .before .before .before .before .before in
     let q = g .before .before .before .before .before .before .before in
     let p = q .before .before .before .before .before .before in
     g .gain-steps .kept .1 .1 .1 .1 .1 .1 .0 ∙ q .required-gains .kept .1 .0 ∙ p .all-peaks .kept .1 .1 .1 .1 .1 .0
@@ -77,7 +77,7 @@ same-length-7 c =
 returns : tie.Need-returns
 returns c =
     let o = c .before .before .before .before in
-    let g = o .before .before .before .before .before .before .before .before .before .before .before .before in
+    let g = o .before .before .before .before .before .before .before .before .before .before .before .before .before in
     let q = g .before .before .before .before .before .before .before in
     let p = q .before .before .before .before .before .before in
     let s = p .before .before .before .before .before .before .before .before .before .before .before .before in
@@ -87,10 +87,10 @@ returns c =
     let m = movingAt (a .env) (a .pos) (now (a .delay)) (now (a .marks)) (now (a .minima)) (now (a .row)) (now (a .detector)) in
     let enough : a .channels * runLength ≤ length audio = omega (arith, r .most, r .audio-fit) in
     let peaks = peaksAt (p .all-peaks .last .1 .1 .1 .1 .1 .0) (p .all-peaks .last .1 .1 .1 .1 .0) in
-    let gains = gainsAt (g .gain-steps .result) (g .gain-steps .last .1 .0) (g .gain-steps .last .1 .1 .0) (g .gain-steps .last .1 .1 .1 .1 .0) (g .gain-steps .last .1 .1 .1 .1 .1 .1 .0) in
+    let gains = gainsAt (g .gain-steps .result .env) (g .gain-steps .last .1 .0) (g .gain-steps .last .1 .1 .0) (g .gain-steps .last .1 .1 .1 .1 .0) (g .gain-steps .last .1 .1 .1 .1 .1 .1 .0) in
     let written = writtenAt (o .all-outputs .last .1 .1 .1 .1 .1 .1 .1 .0) (o .all-outputs .last .1 .1 .1 .1 .1 .1 .0) in
     run-done (rulesOf (a .settings) (a .format)) (now (a .weights)) (a .coeff) (a .look) (a .target) (a .channels) (a .n) m audio (r .short) (r .delay-fit) (r .detector-fit) enough
-    (now (a .gains)) peaks (q .required-gains .last .1 .0) gains (s .pre .1) (p .all-peaks .ensures) (q .required-gains .ensures) (g .gain-steps .ensures)
+    (now (a .gains)) peaks (q .required-gains .last .1 .0) gains (s .pre .1) (p .all-peaks .ensures) (q .required-gains .ensures) (g .gain-steps .ensures .0)
     written (o .all-outputs .result) (o .all-outputs .ensures .0) (o .all-outputs .ensures .1)
 
 pub render-in-spec : {M : Type 1} → statement M

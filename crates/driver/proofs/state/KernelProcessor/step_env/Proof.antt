@@ -1,4 +1,5 @@
--- `step_env`: refused, or the envelope's own step.
+-- `step_env`: refused, or the envelope's own step, the one of a run of one gain.
+use mathlib.Core.Path.{refl}
 use mathlib.Core.List.{List, []}
 use lib.Ieee.{Float}
 use borrow.Author.Needs.{needs}
@@ -33,13 +34,22 @@ same-length-3 c = search needs
 
 returns : tie.Need-returns
 returns c delay detector =
-    gain-refused (machine (c .before .before .before .before .before .before .before .before .before .before .before) delay detector) (c .before .before .before .before .before .before .before .before .before .before .before .args .gain) (c .before .before .before .judge-gain .result) (c .before .before .before .judge-gain .ensures delay detector) (c .before .judged .given .0 .0) (c .before .judged .given .1)
+    let s = c .before .before .before .before .before .before .before .before .before .before .before in
+    let j = c .before .before .before .judge-gain in
+    gain-refused (machine s delay detector) (s .args .gain) (j .result) (j .ensures delay detector) (c .before .judged .given .0 .0) (c .before .judged .given .1)
 
 enum-told : tie.Need-enum-told
 enum-told c = search needs
 
-step-env-requires : tie.Need-step-env-requires
-step-env-requires c κs = gain-ready (machine (c .before .before .before .before .before .before .before .before .before .before .before .before .before .before .before .before) [] []) (c .before .before .before .before .before .before .before .before .before .before .before .before .before .before .before .before .args .gain) (c .before .before .before .before .before .before .before .before .judge-gain .result) (c .before .before .before .before .before .before .before .before .judge-gain .ensures [] []) (c .before .before .before .before .before .before .enum-told .given .1)
+slice-aggregate-gain-steps : tie.Need-slice-aggregate-gain-steps
+slice-aggregate-gain-steps c = search needs
+
+gain-steps-requires : tie.Need-gain-steps-requires
+gain-steps-requires c κs =
+    let s = c .before .before .before .before .before .before .before .before .before .before .before .before .before .before .before .before .before in
+    let j = c .before .before .before .before .before .before .before .before .before .judge-gain in
+    let ready = gain-ready (machine s [] []) (s .args .gain) (j .result) (j .ensures [] []) (c .before .before .before .before .before .before .before .enum-told .given .1) in
+    (ready, ready .keeper .room)
 
 told-requires : tie.Need-told-requires
 told-requires c κs = search needs
@@ -58,14 +68,16 @@ same-length-6 c = search needs
 
 returns-2 : tie.Need-returns-2
 returns-2 c delay detector =
-    let e = c .before .before .before .before .before .before .before .before .before .step-env in
+    let s = c .before .before .before .before .before .before .before .before .before .before .before .before .before .before .before .before .before .before .before .before .before .before .before .before .before .before .before .before in
+    let j = c .before .before .before .before .before .before .before .before .before .before .before .before .before .before .before .before .before .before .before .before .judge-gain in
+    let e = c .before .before .before .before .before .before .before .before .before .before .gain-steps in
     let marks = e .last .1 .0 in
     let minima = e .last .1 .1 .0 in
     let row = e .last .1 .1 .1 .1 .0 in
     rw (c .with-env .ensures, c .before .before .told .ensures marks minima row)
-    (gain-done (machine (c .before .before .before .before .before .before .before .before .before .before .before .before .before .before .before .before .before .before .before .before .before .before .before .before .before .before) delay detector) (c .before .before .before .before .before .before .before .before .before .before .before .before .before .before .before .before .before .before .before .before .before .before .before .before .before .before .args .gain) (c .before .before .before .before .before .before .before .before .before .before .before .before .before .before .before .before .before .before .judge-gain .result) (c .before .before .before .before .before .before .before .before .before .before .before .before .before .before .before .before .before .before .judge-gain .ensures delay detector) (c .before .before .before .before .before .before .before .before .before .before .before .before .before .before .before .before .enum-told .given .1) (gainStepAt (e .result) marks minima row) (e .ensures))
+    (gain-done (machine s delay detector) (s .args .gain) (j .result) (j .ensures delay detector) (c .before .before .before .before .before .before .before .before .before .before .before .before .before .before .before .before .before .before .enum-told .given .1) (gainStepAt (e .result) marks minima row) (e .ensures .1 (s .args .gain) refl))
 
 pub step-env-spec : {M : Type 1} → statement M
 step-env-spec =
     tie.close
-    (tie.spec judge-gain-requires enum-known-judged same-length same-length-2 same-length-3 returns enum-told step-env-requires told-requires with-env-requires same-length-4 same-length-5 same-length-6 returns-2)
+    (tie.spec judge-gain-requires enum-known-judged same-length same-length-2 same-length-3 returns enum-told slice-aggregate-gain-steps gain-steps-requires told-requires with-env-requires same-length-4 same-length-5 same-length-6 returns-2)
