@@ -109,7 +109,8 @@ pub fn turn(
     detector: &mut [f64],
 ) -> Turned
     requires { ⌜ TurnAsked (machineOf limiter bank (atCall delay marks minima weights row detector)) block format (now events) (now audio) (now run) ⌝ }
-    ensures { λ r. ⌜ TurnGiven (machineOf limiter bank (atEntry delay marks minima weights row detector)) block format (now (events .entry)) (now (audio .entry))
+    ensures { λ r. ⌜ TurnGiven (machineOf limiter bank (atEntry delay marks minima weights row detector)) block format
+        (now (events .entry)) (now (audio .entry))
         (machineOf (r .limiter) (r .bank) (atExit delay marks minima weights row detector)) (r .block) (now (audio .exit)) ⌝ }
 {
     let first = block.rendered;

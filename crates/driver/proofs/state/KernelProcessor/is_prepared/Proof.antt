@@ -1,7 +1,5 @@
 -- `is_prepared`: clause by clause, the bank's by its one parameter.
-use mathlib.Core.Path.{sym}
 use borrow.Author.Needs.{needs}
-use Rattle.turns.specs.Machine.{prepared}
 use Rattle.driver.proofs.Judged.{one-judged}
 use Rattle.driver.proofs.state.KernelProcessor.is_prepared.Statement.{statement}
 use Rattle.driver.proofs.state.KernelProcessor.is_prepared.Tie as tie
