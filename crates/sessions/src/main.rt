@@ -6,15 +6,8 @@ ghost use lib.ListN.{length};
 use records::tally::Replayed;
 use records::tally::Tally;
 use records::words::next;
+use session_calls::head;
 
-// The samples of a session, and the digest of a call's outputs.
-mod samples;
-// The head of a session.
-mod head;
-// What its calls answer.
-mod answers;
-// Its calls.
-mod calls;
 // The session.
 mod session;
 

@@ -1,11 +1,12 @@
 // A recorded session on stores of its lengths.
-use crate::calls;
-use crate::head::Head;
 use driver::state::KernelProcessor;
 use records::tally::Step;
 use records::tally::Tally;
 use records::words::Read;
 use records::words::next;
+use session_calls::calls;
+use session_calls::calls::Played;
+use session_calls::head::Head;
 
 // The tally with a call.
 fn counted(tally: Tally, same: bool) -> Tally {
@@ -26,6 +27,36 @@ fn ended(tally: Tally, op: Read) -> Tally {
         return tally;
     }
     counted(tally, false)
+}
+
+// The rest of a call whose op was read. Another op is no call's, and differs.
+fn play(
+    fd: i32,
+    op: u64,
+    h: Head,
+    p: KernelProcessor,
+    x: u64,
+    delay: &mut [f64],
+    marks: &mut [u64],
+    minima: &mut [f64],
+    weights: &[f64],
+    row: &mut [f64],
+    detector: &mut [f64],
+) -> Played {
+    match op {
+        2 => calls::block(fd, h, p, x, delay, marks, minima, weights, row, detector),
+        3 => calls::drain(fd, h, p, x, delay, marks, minima, weights, row, detector),
+        4 => calls::reset(p, x, delay, marks, minima, weights, row, detector),
+        5 => calls::set(fd, p, x),
+        6 => calls::read(fd, p, x),
+        7 => calls::gain_step(fd, p, x, marks, minima, weights, row),
+        8 => calls::setup(h, x, delay, marks, minima, weights, row, detector),
+        _ => Played {
+            processor: p,
+            x,
+            same: false,
+        },
+    }
 }
 
 // The setup (8), then the calls that the file has, up to the session's end.
@@ -52,7 +83,7 @@ pub fn each(
         if is_end(op) {
             return ended(tally, op);
         }
-        let played = calls::play(
+        let played = play(
             fd,
             op.word,
             h,

@@ -1,7 +1,7 @@
 -- `weights`: a part that is lent keeps the whole's length.
 use mathlib.Core.Path.{_∙_}
 use borrow.Author.Needs.{needs}
-use Rattle.sessions.proofs.Lent.{lent-length}
+use Rattle.session_calls.proofs.Lent.{lent-length}
 use Rattle.sessions.proofs.weights.Statement.{statement}
 use Rattle.sessions.proofs.weights.Tie as tie
 

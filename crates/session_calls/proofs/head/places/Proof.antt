@@ -3,8 +3,8 @@ use Prim.Native.Nat.{_*_, _≤_}
 use native.Mathlib.Nat.{mul-le-mul}
 use native.Mathlib.Omega.{arith}
 use borrow.Author.Needs.{needs}
-use Rattle.sessions.proofs.head.places.Statement.{statement}
-use Rattle.sessions.proofs.head.places.Tie as tie
+use Rattle.session_calls.proofs.head.places.Statement.{statement}
+use Rattle.session_calls.proofs.head.places.Tie as tie
 
 returns : tie.Need-returns
 returns c = search needs

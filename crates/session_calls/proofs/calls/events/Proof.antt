@@ -1,9 +1,9 @@
 -- `events`: a part that is lent keeps the whole's length.
 use mathlib.Core.Path.{_∙_}
 use borrow.Author.Needs.{needs}
-use Rattle.sessions.proofs.Lent.{lent-length}
-use Rattle.sessions.proofs.calls.events.Statement.{statement}
-use Rattle.sessions.proofs.calls.events.Tie as tie
+use Rattle.session_calls.proofs.Lent.{lent-length}
+use Rattle.session_calls.proofs.calls.events.Statement.{statement}
+use Rattle.session_calls.proofs.calls.events.Tie as tie
 
 events-room-requires : tie.Need-events-room-requires
 events-room-requires c κs = search needs

@@ -97,7 +97,7 @@ fn process(
     Played { processor, x, same }
 }
 
-fn block(
+pub fn block(
     fd: i32,
     h: Head,
     p: KernelProcessor,
@@ -166,7 +166,7 @@ fn flush(
     Played { processor, x, same }
 }
 
-fn drain(
+pub fn drain(
     fd: i32,
     h: Head,
     p: KernelProcessor,
@@ -196,7 +196,7 @@ fn drain(
     )
 }
 
-fn reset(
+pub fn reset(
     p: KernelProcessor,
     x: u64,
     delay: &mut [f64],
@@ -213,7 +213,7 @@ fn reset(
     Played { processor, x, same }
 }
 
-fn set(fd: i32, p: KernelProcessor, x: u64) -> Played {
+pub fn set(fd: i32, p: KernelProcessor, x: u64) -> Played {
     let id = id(fd);
     let value = float(fd);
     let done = p.set_parameter_immediate(id, value);
@@ -223,7 +223,7 @@ fn set(fd: i32, p: KernelProcessor, x: u64) -> Played {
     Played { processor, x, same }
 }
 
-fn read(fd: i32, p: KernelProcessor, x: u64) -> Played {
+pub fn read(fd: i32, p: KernelProcessor, x: u64) -> Played {
     let id = id(fd);
     let number = next(fd).word;
     let bits = next(fd).word;
@@ -235,7 +235,7 @@ fn read(fd: i32, p: KernelProcessor, x: u64) -> Played {
     }
 }
 
-fn gain_step(
+pub fn gain_step(
     fd: i32,
     p: KernelProcessor,
     x: u64,
@@ -262,7 +262,7 @@ fn prepared(done: SetUp, x: u64, look: usize) -> Played {
     Played { processor, x, same }
 }
 
-fn setup(
+pub fn setup(
     h: Head,
     x: u64,
     delay: &mut [f64],
@@ -276,34 +276,4 @@ fn setup(
     let spec = h.spec;
     let done = KernelProcessor::prepare(s, spec, delay, marks, minima, weights, row, detector);
     prepared(done, x, h.look)
-}
-
-// The rest of a call whose op was read. Another op is no call's, and differs.
-pub fn play(
-    fd: i32,
-    op: u64,
-    h: Head,
-    p: KernelProcessor,
-    x: u64,
-    delay: &mut [f64],
-    marks: &mut [u64],
-    minima: &mut [f64],
-    weights: &[f64],
-    row: &mut [f64],
-    detector: &mut [f64],
-) -> Played {
-    match op {
-        2 => block(fd, h, p, x, delay, marks, minima, weights, row, detector),
-        3 => drain(fd, h, p, x, delay, marks, minima, weights, row, detector),
-        4 => reset(p, x, delay, marks, minima, weights, row, detector),
-        5 => set(fd, p, x),
-        6 => read(fd, p, x),
-        7 => gain_step(fd, p, x, marks, minima, weights, row),
-        8 => setup(h, x, delay, marks, minima, weights, row, detector),
-        _ => Played {
-            processor: p,
-            x,
-            same: false,
-        },
-    }
 }

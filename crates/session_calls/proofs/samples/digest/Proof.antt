@@ -3,8 +3,8 @@ use Prim.Native.Nat.{_-_, _*_, _≤_}
 use native.Mathlib.Omega.{arith}
 use borrow.Author.Needs.{needs}
 use lib.ListN.{length}
-use Rattle.sessions.proofs.samples.digest.Statement.{statement}
-use Rattle.sessions.proofs.samples.digest.Tie as tie
+use Rattle.session_calls.proofs.samples.digest.Statement.{statement}
+use Rattle.session_calls.proofs.samples.digest.Tie as tie
 
 abbrev Inv-loop : tie.InvT-loop
 Inv-loop bytes width n size d₀ i₀ d i = (i ≤ size) × (8 * size ≤ length bytes)

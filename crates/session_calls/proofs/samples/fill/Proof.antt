@@ -4,8 +4,8 @@ use Prim.Native.Nat.{_-_, _*_, _≤_}
 use native.Mathlib.Omega.{arith}
 use borrow.Author.Needs.{needs}
 use lib.ListN.{length}
-use Rattle.sessions.proofs.samples.fill.Statement.{statement}
-use Rattle.sessions.proofs.samples.fill.Tie as tie
+use Rattle.session_calls.proofs.samples.fill.Statement.{statement}
+use Rattle.session_calls.proofs.samples.fill.Tie as tie
 
 abbrev Inv-loop : tie.InvT-loop
 Inv-loop bytes₀ x kind n state₀ i₀ bytes state i = (length bytes ≡ length bytes₀) × (i ≤ n) × (8 * n ≤ length bytes₀)

@@ -4,8 +4,8 @@ use Prim.Native.Nat.{_-_, _≤_}
 use native.Mathlib.Omega.{arith}
 use borrow.Author.Needs.{needs}
 use lib.ListN.{length, length-set}
-use Rattle.sessions.proofs.calls.words.Statement.{statement}
-use Rattle.sessions.proofs.calls.words.Tie as tie
+use Rattle.session_calls.proofs.calls.words.Statement.{statement}
+use Rattle.session_calls.proofs.calls.words.Tie as tie
 
 abbrev Inv-loop : tie.InvT-loop
 Inv-loop fd into₀ i₀ into i = (length into ≡ length into₀) × (i ≤ length into₀)

@@ -1,0 +1,2 @@
+-- Laws of recorded calls that belong to no one function.
+pub mod Lent

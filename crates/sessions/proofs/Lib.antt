@@ -1,2 +1,0 @@
--- Laws of the replayed sessions that belong to no one function.
-pub mod Lent
