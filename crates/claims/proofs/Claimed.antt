@@ -1,4 +1,4 @@
--- THE CLAIM, proved: demand 3 holds of the driver's definitions.
+-- THE CLAIM, proved: demand 3 holds of the definitions of `turns` and `driver`.
 use mathlib.Core.Path.{sym, ap, _∙_, refl}
 use mathlib.Core.List.{List, [], _∷_}
 use Rattle.arithmetic.specs.Reply.{Reply}

@@ -102,7 +102,7 @@ framesBy steps rules weights coeff look target m (xs ∷ later) =
     let f = frameBy steps rules weights coeff look target m xs in
     frameFirst f (framesBy steps rules weights coeff look target (f .moving) later)
 
--- driver's `rendered`
+-- `rendered` of `turns`
 unfoldable pub renderedBy : Steps → Rules → Renderer
 renderedBy steps rules l s target fs =
     let r = framesBy steps rules (s .weights) (l .«release_coeff») (l .env .keeper .look) target (movingOf l s) fs in

@@ -37,7 +37,7 @@ pub record Limiting : Type 0 where
   pub parameters : Machine → ℕ → Float → Left
   pub resets : Machine → Left
 
--- the limiter that the code meets: the driver's definitions
+-- the limiter that the code meets: the definitions of `turns` and `driver`
 abbrev pub limiting : Limiting
 limiting = record {
   setups = λ s spec stores. setupOf s spec stores;

@@ -29,8 +29,8 @@ pub fn required_gains(target: f64, peaks: &mut [f64])
     }
 }
 
-// A gain step for each frame: the gain to apply takes the required gain's place. What the last step told is
-// handed back; of one gain, that is its step.
+// A gain step for each frame: the gain to apply takes the required gain's place. The envelope afterwards is
+// handed back in a step; of one gain, all that its step tells is promised, of more the envelope alone.
 pub fn gain_steps(
     env: Envelope,
     marks: &mut [u64],

@@ -17,7 +17,7 @@ fn tail_run(left: usize) -> usize
     if left < 32 { left } else { 32 }
 }
 
-// Drains n frames of the tail, in runs.
+// Drains n frames of the tail, in runs. `run` is where each run is rendered, and left free.
 pub fn drain_frames(
     limiter: Limiter,
     format: Format,

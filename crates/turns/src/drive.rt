@@ -69,6 +69,7 @@ pub fn drive(
         b = t.bank;
         block = t.block;
     }
+    // mostly nothing is left to latch: a bank is large, and is handed on as it came
     if events.len() / 3 <= block.latched {
         return Driven {
             limiter: l,
