@@ -1,6 +1,7 @@
 -- What 18, 16 and 19 say of the machine, and their order from what the code finds.
 use mathlib.Core.Path.{_≡_, refl, ap}
-use mathlib.Core.Bool.{Bool, true, false, _&&_}
+use mathlib.Core.Bool as Booleans
+use mathlib.Core.Bool.{Bool, true, false, _&&_, and-false}
 use mathlib.Core.List.{List, [], _∷_}
 use Prim.Native.Nat.{ℕ}
 use native.Mathlib.Omega.{arith}
@@ -39,15 +40,6 @@ prepared-is l b h =
     let e = and-true r d (o .1) in
     record { kernel = k .0; bank = w .0; one = eqb-true (b .count) 1 (o .0); rate = eqb-true (b .rate) (l .rate) (e .0); declared = e .1 }
 
--- 18 over a bank of one parameter is 18 over that parameter
-no : (x : Bool) → x && false ≡ false
-no true = refl
-no false = refl
-
-yes : (x : Bool) → x && true ≡ x
-yes true = refl
-yes false = refl
-
 -- a slot that is not there declares nothing
 none-declares : (s : LimiterSettings) → declares s (slotAt 0 []) ≡ false
 unfolding declares toBits ofBits
@@ -56,9 +48,10 @@ none-declares s = refl
 one-slot : (s : LimiterSettings) (ready e : Bool) (rate : ℕ) (ss : List Smoother)
     → (ready && slotPrepared rate 0 (slotAt 0 ss)) && (e && declares s (slotAt 0 ss)) ≡ (ready && allPrepared rate 0 (take 1 ss)) && (e && declares s (slotAt 0 ss))
 unfolding allPrepared
-one-slot s ready e rate [] = rw (none-declares s, no e, no (ready && slotPrepared rate 0 (slotAt 0 [])), no (ready && true)) refl
-one-slot s ready e rate (t ∷ ss) = rw (yes (slotPrepared rate 0 t)) refl
+one-slot s ready e rate [] = rw (none-declares s, and-false e, and-false (ready && slotPrepared rate 0 (slotAt 0 [])), and-false (ready && true)) refl
+one-slot s ready e rate (t ∷ ss) = rw (Booleans.and-true (slotPrepared rate 0 t)) refl
 
+-- 18 over a bank of one parameter is 18 over that parameter
 pub one-judged : (l : Limiter) (b : SmootherBank)
     → (let t = thresholdOf b in Order.prepared l && ((b .ready && slotPrepared (b .rate) 0 t) && (eqb (b .count) 1 && (eqb (b .rate) (l .rate) && declares (l .settings) t)))) ≡ prepared l b
 unfolding prepared Bank.prepared
@@ -66,7 +59,7 @@ one-judged l b = ap (λ (x : Bool). Order.prepared l && x) (go (eqb (b .count) 1
   where
     go : (one : Bool) → eqb (b .count) 1 ≡ one → (let d = eqb (b .rate) (l .rate) && declares (l .settings) (thresholdOf b) in
         (b .ready && slotPrepared (b .rate) 0 (thresholdOf b)) && (eqb (b .count) 1 && d) ≡ (b .ready && (leb (b .count) 8 && allPrepared (b .rate) 0 (take (b .count) (b .smoothers)))) && (eqb (b .count) 1 && d))
-    go false h = rw (h, no (b .ready && slotPrepared (b .rate) 0 (thresholdOf b)), no (b .ready && (leb (b .count) 8 && allPrepared (b .rate) 0 (take (b .count) (b .smoothers))))) refl
+    go false h = rw (h, and-false (b .ready && slotPrepared (b .rate) 0 (thresholdOf b)), and-false (b .ready && (leb (b .count) 8 && allPrepared (b .rate) 0 (take (b .count) (b .smoothers))))) refl
     go true h = rw (eqb-true (b .count) 1 h) (one-slot (l .settings) (b .ready) (eqb (b .rate) (l .rate)) (b .rate) (b .smoothers))
 
 -- the first of eight slots, whatever stands for a slot that is not there

@@ -16,10 +16,6 @@ use Rattle.keeper.specs.InOrder.{each, above, rising, lessMark, lessMini
 pub both : (p q : Bool) → p ≡ true → q ≡ true → p && q ≡ true
 both p q h k = rw (h, k) refl
 
-pub and-no : (p : Bool) → p && false ≡ false
-and-no true = refl
-and-no false = refl
-
 -- ---- the back
 module _ (gain : Float) where
   pub back-stops : (e : Entry) (es : List Entry) → lt (e .minimum) gain ≡ true → dropBack gain (e ∷ es) ≡ e ∷ es

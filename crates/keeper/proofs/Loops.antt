@@ -1,6 +1,6 @@
 -- One turn of each loop, on plain values.
 use mathlib.Core.Path.{_≡_, refl, sym, ap, _∙_}
-use mathlib.Core.Bool.{Bool, true, false, _&&_}
+use mathlib.Core.Bool.{Bool, true, false, _&&_, and-false}
 use mathlib.Core.List.{List, [], _∷_, _++_, append-nil}
 use Prim.Native.Nat.{ℕ, zero, suc, _+_, _-_, _≤_, _<_}
 use native.Mathlib.Nat.{add-zero, sub-self}
@@ -15,7 +15,7 @@ use Rattle.keeper.specs.Ring.{Entry, wrap, entryAt, ringOf, dropBack, dr
 use Rattle.keeper.specs.InOrder.{each, above, rising, lessMark, lessMinimum, lastMark, firstMark, unitMinima}
 use Rattle.arithmetic.proofs.Order.{and-true, same-test}
 use Rattle.keeper.proofs.Places.{wrap-in, wrap-wrap, ring-back, ring-front, front-place}
-use Rattle.keeper.proofs.Drops.{and-no, back-stops, back-goes, front-kept, front-dropped}
+use Rattle.keeper.proofs.Drops.{back-stops, back-goes, front-kept, front-dropped}
 
 -- ---- drop_back: the entry at the back of `left` ones stays or goes
 module _ (cap : ℕ) (minima : List Float) (head left back : ℕ) (gain : Float) (some : 0 < left) (at : back ≡ wrap cap (head + left - 1)) where
@@ -147,7 +147,7 @@ module _ (cap : ℕ) (marks : List ℕ) (minima : List Float) (head left back be
 
       go : (b : Bool) → lessMark f e ≡ b → rises (ringOf cap marks minima head left) ≡ false
       go false k = rw (each-fails cap marks minima head left back some' at (above lessMark) (above-next lessMark ∙ k)) refl
-      go true k = rw (each-fails cap marks minima head left back some' at (above lessMinimum) (above-next lessMinimum ∙ (rw k at h))) (and-no (rising lessMark (ringOf cap marks minima head left)))
+      go true k = rw (each-fails cap marks minima head left back some' at (above lessMinimum) (above-next lessMinimum ∙ (rw k at h))) (and-false (rising lessMark (ringOf cap marks minima head left)))
 
 -- ---- ends_fit
 module _ (look head len last frame : ℕ) (marks : List ℕ) (minima : List Float) (inside : head ≤ look) (some : 0 < len) (at : last ≡ wrap (look + 1) (head + len - 1)) where
