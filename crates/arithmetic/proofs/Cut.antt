@@ -1,4 +1,4 @@
--- −k is at most 1010 for −700 to 0: the steps from −x to it keep the order, and at 700 they end at 1010.39.
+-- −k is at most 1010 for −700 to 0: the steps from −x to it keep the order, and at 700 they end below 1011.
 use mathlib.Core.Path.{_≡_, refl, sym, ap, _∙_, subst}
 use mathlib.Core.Bool.{Bool, true, false, not, cond}
 use Prim.Native.Nat.{ℕ, zero, suc, _+_, _*_, _/_, _^_, _≤_, _<_}
@@ -119,9 +119,9 @@ turned (fin false m e) s p = neg-round binary64 true (m * up e * 2 + 1 * 1 * dow
 pub record Bounded (z : Float) : Type 0 where
   pub above : lt (fin true 1 (pos 0)) z ≡ true
   pub below : lt z (fin false 1 (pos 64)) ≡ true
-  pub small : toUnsigned 64 z ≤ 1022
+  pub small : toUnsigned 64 z ≤ 1010
 
-few : (z : Float) → T (finite z) → le z sum700 ≡ true → toUnsigned 64 z ≤ 1022
+few : (z : Float) → T (finite z) → le z sum700 ≡ true → toUnsigned 64 z ≤ 1010
 unfolding toUnsigned
 few nan p h = absurd p
 few (inf t) p h = absurd p

@@ -40,7 +40,7 @@ module _ (h : ℕ) (x r : Float) where
   pub at-middle : 0x3e30_0000 < h → h ≤ 0x3fd6_2e42 → r ≡ scaled x x Number.zero 0 → r ≡ expAt h x
   at-middle a b e = rw (lt-leb h 0x3e30_0000 a, le-leb h 0x3fd6_2e42 b) e
 
-  past : 0x3fd6_2e42 < h → expAt h x ≡ reduced x (stepsOf h x)
+  pub past : 0x3fd6_2e42 < h → expAt h x ≡ reduced x (stepsOf h x)
   past a = rw (lt-leb h 0x3e30_0000 (omega arith), lt-leb h 0x3fd6_2e42 a) refl
 
   pub at-one : 0x3fd6_2e42 < h → h < 0x3ff0_a2b2 → r ≡ reduced x 1 → r ≡ expAt h x

@@ -8,6 +8,7 @@ pub mod Power
 pub mod Cut
 pub mod Exp
 pub mod Rows
+pub mod Wrong
 pub mod NanPattern
 pub mod Same
 pub mod Passed
@@ -16,3 +17,4 @@ pub mod UnitScaled
 pub mod UnitHigh
 pub mod UnitReduced
 pub mod Unit
+pub mod PowerExact

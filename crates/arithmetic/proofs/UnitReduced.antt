@@ -95,17 +95,29 @@ pub record Near (n m : ℕ) (e : ℤ) : Type 0 where
   pub over : m * up e * 2 ^ 32 * 64 ≤ 24 * (down e * 2 ^ 32) + n * 2977044471 * down e * 64
   pub under : n * 2977044471 * down e * 64 ≤ 24 * (down e * 2 ^ 32) + m * up e * 2 ^ 32 * 64
 
-pub reduced-unit : (n m : ℕ) (e : ℤ) → 0 < n → n ≤ 1022 → Near n m e → within Number.zero one (reduced (fin true m e) n) ≡ true
-reduced-unit n m e P N h =
+-- so the reduced argument is at most 1/2, hi at most 3/8 and lo at most 1/64
+pub record Reduced (x : Float) (n : ℕ) : Type 0 where
+  pub argument : Small 32 (sub binary64 (hiOf x n) (loOf n))
+  pub high : Small 24 (hiOf x n)
+  pub low : Small 1 (loOf n)
+
+pub reduced-small : (n m : ℕ) (e : ℤ) → n ≤ 1022 → Near n m e → Reduced (fin true m e) n
+reduced-small n m e N h =
     let x = fin true m e in
     let l = lo-small n N in
-    let k = hi-small in
-    scaled-unit (sub binary64 (hiOf x n) (loOf n)) (widen 32 (sub binary64 (hiOf x n) (loOf n)) (lit≤ tt) (sub-small 25 (lit< tt) (hiOf x n) (loOf n) k l (lit≤ tt))) (hiOf x n) (loOf n) n k l P
+    record {
+      argument = widen 32 (sub binary64 (hiOf x n) (loOf n)) (lit≤ tt) (sub-small 25 (lit< tt) (hiOf x n) (loOf n) hi-small l (lit≤ tt));
+      high = hi-small;
+      low = l;
+    }
   where
     hi-small : Small 24 (hiOf (fin true m e) n)
     hi-small =
         unfold sub in
         near m e (neg (mul binary64 (kOf n) ln2Hi)) (n * 2977044471) (2 ^ 32) (lit< tt) (neg-value (mul binary64 (kOf n) ln2Hi) true (n * 2977044471) (2 ^ 32) (exact-product n N (kOf n) (k-value n N))) (h .over) (h .under)
+
+pub reduced-unit : (x : Float) (n : ℕ) → 0 < n → Reduced x n → within Number.zero one (reduced x n) ≡ true
+reduced-unit x n P r = scaled-unit (sub binary64 (hiOf x n) (loOf n)) (r .argument) (hiOf x n) (loOf n) n (r .high) (r .low) P
 
 -- ---- n = 1, between 21/64 and 17/16
 pub near-one : (m : ℕ) (e : ℤ) → 21 * down e ≤ m * up e * 64 → m * up e * 64 < 68 * down e → Near 1 m e
@@ -121,7 +133,7 @@ whole-of n (fin false m r) s p e h =
     let k : n ≡ m * up r / down r = omega arith in
     rw k (div-mul-le-self (m * up r) (down r), lt-div-mul-add (down-pos r))
 
-own-value : (y : Float) → signOf y ≡ false → T (finite y) → HasValue y false (num y) (den y)
+pub own-value : (y : Float) → signOf y ≡ false → T (finite y) → HasValue y false (num y) (den y)
 own-value nan s p = absurd p
 own-value (inf t) s p = absurd p
 own-value (fin t m e) s p = (s, refl)

@@ -126,7 +126,7 @@ power-parts (suc n) = rw (lt-leb (suc n) 0 (omega arith)) (refl, ap (λ (z : ℕ
     gone : (n : ℕ) → suc n - 1 ≡ n
     gone n = omega arith
 
-at-power : (n : ℕ) (z : Float) → signOf z ≡ false → T (finite z) → mul binary64 z (powerOf n) ≡ round binary64 false (num z) (den z * 2 ^ n)
+pub at-power : (n : ℕ) (z : Float) → signOf z ≡ false → T (finite z) → mul binary64 z (powerOf n) ≡ round binary64 false (num z) (den z * 2 ^ n)
 at-power n nan s p = absurd p
 at-power n (inf t) s p = absurd p
 at-power n (fin true m e) s p = clash true refl s
@@ -149,7 +149,7 @@ powered n z s p h =
 
 -- ---- the correction c of a reduced r of magnitude at most 1/2
 module _ (r : Float) (R : Small 32 r) where
-  abbrev square : Float
+  abbrev pub square : Float
   square = mul binary64 r r
 
   square-small : Small 16 square
@@ -178,14 +178,14 @@ module _ (r : Float) (R : Small 32 r) where
   correction-small = correction-from 32 (lit< tt) R
 
   -- 2 − c is 1 at least
-  abbrev below : Float
+  abbrev pub below : Float
   below = sub binary64 two (correction r square)
 
   below-is : Rounded 1 3 below
   unfolding sub ofBits
   below-is = beside 1 1 refl (neg (correction r square)) (bound-neg (correction r square) (widen 64 (correction r square) (lit≤ tt) correction-small))
 
-  abbrev ratio : Float
+  abbrev pub ratio : Float
   ratio = div binary64 (mul binary64 r (correction r square)) below
 
   -- r × c / (2 − c) keeps a bound that r × c has
@@ -196,16 +196,16 @@ module _ (r : Float) (R : Small 32 r) where
   quotient-small = quotient (exact 18 6 (lit< tt) (lit≤ tt)) (mul-small 18 (lit< tt) r (correction r square) R correction-small (lit≤ tt))
 
   -- what is added to 1
-  abbrev rest : Float → Float → Float
+  abbrev pub rest : Float → Float → Float
   rest hi lo = add binary64 (sub binary64 ratio lo) hi
 
-  rest-small : (hi lo : Float) → Small 24 hi → Small 1 lo → Small 64 (rest hi lo)
+  pub rest-small : (hi lo : Float) → Small 24 hi → Small 1 lo → Small 48 (rest hi lo)
   rest-small hi lo h l =
-      add-small 64 (lit< tt) (sub binary64 ratio lo) hi (sub-small 19 (lit< tt) ratio lo quotient-small l (lit≤ tt)) h (lit≤ tt)
+      add-small 48 (lit< tt) (sub binary64 ratio lo) hi (sub-small 19 (lit< tt) ratio lo quotient-small l (lit≤ tt)) h (lit≤ tt)
 
   pub scaled-unit : (hi lo : Float) (n : ℕ) → Small 24 hi → Small 1 lo → 0 < n → within Number.zero one (scaled r hi lo n) ≡ true
   scaled-unit hi lo n h l N =
-      let y = beside 0 0 refl (rest hi lo) (rest-small hi lo h l) in
+      let y = beside 0 0 refl (rest hi lo) (widen 64 (rest hi lo) (lit≤ tt) (rest-small hi lo h l)) in
       let m = most-of y (lit< tt) in
       powered n (combined r (correction r square) hi lo) (no-sign y (lit< tt)) (m .known) (le-trans (omega (arith, m .most)) (mul-le-mul-right (den (combined r (correction r square) hi lo)) (twice n N)))
     where
@@ -297,6 +297,6 @@ module _ (x : Float) (X : Small 24 x) (below-zero : le x Number.zero ≡ true) (
 
   pub scaled-none : within Number.zero one (scaled x x Number.zero 0) ≡ true
   scaled-none =
-      let y = not-more 0 0 refl (rest x wide x Number.zero) (rest-small x wide x Number.zero X (record { known = tt; most = lit≤ tt })) (not-above (sub binary64 fraction Number.zero) x (X .known) below-zero at-most) in
+      let y = not-more 0 0 refl (rest x wide x Number.zero) (widen 64 (rest x wide x Number.zero) (lit≤ tt) (rest-small x wide x Number.zero X (record { known = tt; most = lit≤ tt }))) (not-above (sub binary64 fraction Number.zero) x (X .known) below-zero at-most) in
       let m = most-of y (lit< tt) in
       powered 0 (combined x c x Number.zero) (no-sign y (lit< tt)) (m .known) (omega (arith, m .most))

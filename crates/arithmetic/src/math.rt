@@ -71,14 +71,14 @@ fn cut(x: f64) -> u64
     requires { ⌜ inDomain x ≡ true ⌝ }
     requires { ⌜ 0 < highOf x ⌝ }
     ensures { λ r. ⌜ r ≡ cutOf x ⌝ }
-    ensures { λ r. ⌜ r ≤ 1022 ⌝ }
+    ensures { λ r. ⌜ r ≤ 1010 ⌝ }
 {
     std::num::truncating_f64_to_u64(cutting(x))
 }
 
 // The argument is reduced by n times ln 2, in two parts.
 fn reduced(x: f64, n: u64) -> f64
-    requires { ⌜ n ≤ 1022 ⌝ }
+    requires { ⌜ n ≤ 1010 ⌝ }
     ensures { λ r. ⌜ r ≡ reduced x n ⌝ }
 {
     let k = -(n as f64);
@@ -89,7 +89,7 @@ fn reduced(x: f64, n: u64) -> f64
 
 // 1 + (x × c / (2 − c) − lo + hi), times 2 to the −n.
 fn scaled(x: f64, hi: f64, lo: f64, n: u64) -> f64
-    requires { ⌜ n ≤ 1022 ⌝ }
+    requires { ⌜ n ≤ 1010 ⌝ }
     ensures { λ r. ⌜ r ≡ scaled x hi lo n ⌝ }
 {
     let c = correction(x, x * x);
