@@ -9,4 +9,5 @@ pub mod Prepared
 pub mod NotNan
 pub mod Updates
 pub mod Rows
+pub mod Wrong
 pub mod Shapes

@@ -5,3 +5,4 @@ pub mod Sum
 pub mod Copy
 pub mod Push
 pub mod Line
+pub mod Wrong

@@ -4,3 +4,4 @@ pub mod Channels
 pub mod Exchange
 pub mod Keeps
 pub mod Place
+pub mod Wrong

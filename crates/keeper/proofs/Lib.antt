@@ -8,3 +8,4 @@ pub mod Scan
 pub mod Window
 pub mod Floor
 pub mod Rows
+pub mod Wrong

@@ -4,3 +4,4 @@ pub mod Ready
 pub mod Setup
 pub mod Frames
 pub mod Keeping
+pub mod Wrong

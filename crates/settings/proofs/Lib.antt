@@ -4,4 +4,5 @@ pub mod Unit
 pub mod WeightPart
 pub mod WeightSum
 pub mod Rows
+pub mod Wrong
 pub mod Taken

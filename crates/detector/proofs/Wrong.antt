@@ -1,0 +1,43 @@
+-- Inputs at which the wrong programs of ARCHITECTURE.md's table would answer otherwise: each row computes what the definition answers there, and its comment names the wrong program.
+use mathlib.Core.Path.{_≡_, refl}
+use mathlib.Core.List.{List, [], _∷_, map, reverse}
+use lib.ListN.{replicate}
+use lib.Ieee.{Float, nan, binary64, add, mul, lt, ofBits, toBits}
+use Rattle.arithmetic.specs.Number.{zero, one}
+use Rattle.detector.specs.Taps.{taps, phase0, phase1, phase2, phase3}
+use Rattle.detector.specs.Oversample.{sumFrom, sumOf, sumsOf, larger, largestFrom, largestOf, shifted, detected, peakAbsOf}
+use Rattle.detector.specs.Run.{pushesOf, peaksAbsOf}
+use Rattle.detector.specs.History.{silent}
+
+-- what an `unfolding` line names, so that a push computes
+unfoldable pushing : Type 0
+unfolding ofBits toBits add mul lt taps phase0 phase1 phase2 phase3 sumFrom sumOf sumsOf larger largestFrom largestOf shifted detected peakAbsOf pushesOf peaksAbsOf
+pushing = ⊥
+
+-- taps read oldest first: a single 1.0 on silence meets each phase's first tap, and would meet its last one
+pub newest-first :
+    (toBits binary64 (peakAbsOf taps silent one .peak) ≡ 0x3f4f_d62a_b99d_a6bf)
+    × (toBits binary64 (peakAbsOf (map (λ (phase : List Float). reverse phase) taps) silent one .peak) ≡ 0x3f4f_d62a_b99d_a6db)
+unfolding pushing
+newest-first = (refl, refl)
+
+-- a NaN sum that wins, be it the first or the last
+pub nan-sum-loses : (largestOf (nan ∷ one ∷ []) ≡ one) × (largestOf (one ∷ nan ∷ []) ≡ one)
+unfolding largestOf largestFrom larger lt
+nan-sum-loses = (refl, refl)
+
+-- a store of another length shifted: 11 samples stay as they are, and the answer is 0.0
+pub short-store-left : peakAbsOf taps (replicate 11 one) one ≡ record { peak = zero; store = replicate 11 one }
+unfolding peakAbsOf
+short-store-left = refl
+
+-- the store not shifted between the pushes of a run: the second 1.0 would meet the same taps as the first
+pub run-shifts :
+    map (λ (x : Float). toBits binary64 x) (peaksAbsOf taps silent (one ∷ one ∷ []) (zero ∷ zero ∷ []) .peaks) ≡ 0x3f4f_d62a_b99d_a6bf ∷ 0x3f82_fb4b_0208_206e ∷ []
+unfolding pushing
+run-shifts = refl
+
+-- a run of 33 samples taken: its answers are left alone
+pub long-run-left : peaksAbsOf taps silent (replicate 33 one) (replicate 33 zero) .peaks ≡ replicate 33 zero
+unfolding peaksAbsOf
+long-run-left = refl

@@ -1,0 +1,71 @@
+-- Inputs at which the wrong programs of ARCHITECTURE.md's table would answer otherwise: each row computes what the definition answers there, and its comment names the wrong program.
+use Prim.Native.Nat.{ℕ}
+use mathlib.Core.Path.{_≡_, refl}
+use mathlib.Core.Bool.{true}
+use mathlib.Core.List.{[], _∷_}
+use lib.ListN.{replicate}
+use lib.Ieee.{Float, add, sub, mul, div, lt, le, ne, eq, isNan, ofBits}
+use Rattle.arithmetic.specs.Number
+use Rattle.arithmetic.specs.Number.{bits, one}
+use Rattle.arithmetic.specs.Sanitize.{flushDenormal}
+use Rattle.detector.specs.Oversample.{peakAbsOf, detected, shifted, sumsOf, largestFrom, largestOf}
+use Rattle.keeper.specs.Keeper.{keepingAt, freshKeeper, steppedOf}
+use Rattle.envelope.specs.Row.{rowedAt, pushed}
+use Rattle.envelope.specs.Mean.{meanOf}
+use Rattle.envelope.specs.Follow.{followed}
+use Rattle.envelope.specs.Step.{Enveloped, enveloped, gainStepOf}
+use Rattle.frame.specs.Rules.{Rules}
+use Rattle.frame.specs.Frame.{requiredGain, linkedFrom, delayedFrom, Moving, Framed, frameOf}
+use Rattle.frame.specs.Passes.{gainsOf}
+
+abbrev eighth : Float
+eighth = bits 0x3fc0_0000_0000_0000
+
+abbrev quarter : Float
+quarter = bits 0x3fd0_0000_0000_0000
+
+abbrev half : Float
+half = bits 0x3fe0_0000_0000_0000
+
+abbrev two : Float
+two = bits 0x4000_0000_0000_0000
+
+-- ---- the required gain
+-- an infinity or a NaN let pass: target / 0 and 0 / 0
+pub silent-frame : (requiredGain one Number.zero ≡ one) × (requiredGain Number.zero Number.zero ≡ one)
+unfolding div lt isNan
+silent-frame = (refl, refl)
+
+-- ---- gain steps
+-- before any frame, one weight, a coefficient of 1
+abbrev start : Enveloped
+start = enveloped (keepingAt (freshKeeper 11) (replicate 12 0) (replicate 12 Number.zero)) (rowedAt (record { pos = 0; tally = 0 }) (one ∷ [])) one
+
+unfoldable stepping : Type 0
+unfolding gainStepOf steppedOf pushed meanOf followed ne eq add sub mul lt le ofBits
+stepping = ⊥
+
+-- each step from the run's first envelope: 0.5, then 1
+pub steps-in-turn : gainsOf (one ∷ []) one start (half ∷ one ∷ []) .gains ≡ half ∷ half ∷ []
+unfolding stepping gainsOf
+steps-in-turn = refl
+
+-- ---- a frame: two channels with lines of two places, at the last of them; samples 2 and 1 at a target of 1, and no detector
+abbrev rules : Rules
+rules = record { linking = record { taps = []; counts = λ (c : ℕ). true }; leaves = λ (x : Float). flushDenormal x }
+
+abbrev moving : Moving
+moving = record { env = start; delay = Number.zero ∷ half ∷ Number.zero ∷ quarter ∷ []; pos = 1; detector = replicate 24 Number.zero }
+
+unfoldable pub framed : Framed
+framed = frameOf rules (one ∷ []) one 2 one moving (two ∷ one ∷ [])
+
+-- the last channel's peak alone: a gain of 1. Silence always: outputs of 0. The new sample given out at once: 1 and 0.5. The channels exchanged: 0.125 and 0.25
+pub frame-of-two : (framed .gain ≡ half) × (framed .outputs ≡ quarter ∷ eighth ∷ [])
+unfolding framed frameOf linkedFrom peakAbsOf detected shifted sumsOf largestFrom largestOf delayedFrom stepping div isNan
+frame-of-two = (refl, refl)
+
+-- the delay position not taken round: 2. The sample stored at another place, or in another channel's line
+pub frame-stored : (framed .moving .pos ≡ 0) × (framed .moving .delay ≡ Number.zero ∷ two ∷ Number.zero ∷ one ∷ [])
+unfolding framed frameOf linkedFrom peakAbsOf detected shifted sumsOf largestFrom largestOf delayedFrom stepping div isNan
+frame-stored = (refl, refl)
