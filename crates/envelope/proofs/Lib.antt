@@ -4,3 +4,4 @@ pub mod Tally
 pub mod Scan
 pub mod Gain
 pub mod Newest
+pub mod Wrong

@@ -1,18 +1,20 @@
 -- The tally of a row whose floor at one place is replaced, and of a row read in another order.
 use mathlib.Core.Path.{_≡_, refl, sym, ap, _∙_}
-use mathlib.Core.Bool.{Bool, true, false, cond, _&&_}
+use mathlib.Core.Bool.{Bool, true, false, cond, not, _&&_}
 use mathlib.Core.List.{List, [], _∷_, _++_}
 use Prim.Native.Nat.{ℕ, zero, suc, _+_, _-_, _≤_, _<_}
+use native.Mathlib.Nat.{zero-add}
 use native.Mathlib.Omega.{arith}
 use lib.ListN.{length, getD, set, take, drop, take-append-drop, length-drop, length-set}
 use lib.Seq.{take-suc, take-all, getD-drop}
 use lib.Dec.{eqb, ltb}
-use lib.Ieee.{Float, nan, ne}
-use borrow.Author.Tests.{eqb-true, ltb-true}
+use lib.Ieee.{Float, nan, eq, ne}
+use borrow.Author.Tests.{eqb-true, ltb-true, ne-eqb}
 use Rattle.arithmetic.specs.Number.{one}
 use Rattle.arithmetic.proofs.Order.{and-true}
 use Rattle.envelope.specs.declared.row.AttackRow.{AttackRow}
 use Rattle.envelope.specs.Row.{otherThanOne, tallyOf, down, newestFirst, allUnit, rowInOrder, nextPos, rowedAt, pushed}
+use Rattle.envelope.specs.Mean.{allOne}
 
 pub replaced : (row : List Float) (i : ℕ) (f : Float) → i < length row → tallyOf (set row i f) + otherThanOne (getD row i nan) ≡ tallyOf row + otherThanOne f
 replaced [] i f h = absurd (omega arith)
@@ -37,6 +39,16 @@ tally-newest row pos h =
     tally-append (down row 0 pos) (down row pos (length row - pos))
     ∙ rw (tally-down row 0 pos (omega arith), tally-down row pos (length row - pos) (omega arith), take-all (length row - pos) (drop pos row) (simp length-drop (omega arith)))
     (sym (tally-append (take pos row) (drop pos row)) ∙ ap tallyOf (take-append-drop pos row))
+
+-- all are 1.0 exactly where the tally is 0
+none-counted : (b : Bool) (fs : List Float) → allOne fs ≡ eqb (tallyOf fs) 0 → (b && allOne fs) ≡ eqb (cond (not b) 1 0 + tallyOf fs) 0
+none-counted true fs e = e ∙ ap (λ (n : ℕ). eqb n 0) (sym (zero-add (tallyOf fs)))
+none-counted false fs e = sym (ne-eqb (1 + tallyOf fs) 0 (λ z. absurd (omega arith)))
+
+pub all-one : (floors : List Float) → allOne floors ≡ eqb (tallyOf floors) 0
+unfolding ne
+all-one [] = refl
+all-one (f ∷ fs) = none-counted (eq f one) fs (all-one fs)
 
 -- what "in order" says of a row
 pub record Ordered (s : AttackRow) (row : List Float) : Type 0 where

@@ -7,13 +7,14 @@ use native.Mathlib.Numerals.{add-one}
 use native.Mathlib.Omega.{arith}
 use lib.ListN.{length, getD, drop}
 use lib.Seq.{drop-cons}
+use lib.Dec.{eqb}
 use lib.Ieee.{Float, nan, binary64, add, mul}
 use borrow.Author.Tests.{eq-eqb, ne-eqb}
 use Rattle.arithmetic.specs.Number
 use Rattle.arithmetic.specs.Number.{one}
 use Rattle.envelope.specs.Row.{down, newestFirst, tallyOf}
-use Rattle.envelope.specs.Mean.{weightedFrom, meanOf}
-use Rattle.envelope.proofs.Tally.{tally-newest}
+use Rattle.envelope.specs.Mean.{allOne, weightedFrom, meanOf}
+use Rattle.envelope.proofs.Tally.{tally-newest, all-one}
 
 -- one floor more
 pub next : (sum : Float) (ws : List Float) (at : ℕ) (row : List Float) (from left : ℕ) → at < length ws → 0 < left
@@ -35,10 +36,14 @@ joined acc [] (x ∷ xs) ys h = absurd (omega arith)
 joined acc (w ∷ ws) (x ∷ xs) ys h = joined (add binary64 acc (mul binary64 w x)) ws xs ys (omega arith)
 
 -- ---- the mean
+-- the tally tells a row of nothing but 1, read newest first too
+newest-all-one : (row : List Float) (pos : ℕ) → pos ≤ length row → allOne (newestFirst pos row) ≡ eqb (tallyOf row) 0
+newest-all-one row pos h = all-one (newestFirst pos row) ∙ ap (λ (n : ℕ). eqb n 0) (tally-newest row pos h)
+
 pub mean-one : (weights row : List Float) (pos : ℕ) → pos ≤ length row → tallyOf row ≡ 0 → one ≡ meanOf weights (newestFirst pos row)
 unfolding meanOf
 mean-one weights row pos h e =
-    sym (ap (λ (b : Bool). cond b one (weightedFrom Number.zero weights (newestFirst pos row))) (eq-eqb (tallyOf (newestFirst pos row)) 0 (tally-newest row pos h ∙ e)))
+    sym (ap (λ (b : Bool). cond b one (weightedFrom Number.zero weights (newestFirst pos row))) (newest-all-one row pos h ∙ eq-eqb (tallyOf row) 0 e))
 
 -- both parts, from what the code finds: the mean is the left fold over the row newest first, whatever its position
 pub mean-sum : (weights row : List Float) (pos : ℕ) (a b : Float) → pos ≤ length row → length weights ≡ length row → (tallyOf row ≡ 0 → ⊥)
@@ -47,5 +52,5 @@ unfolding meanOf
 mean-sum weights row pos a b h l n p q =
     let d = length-down row 0 pos in
     q
-    ∙ rw (tally-newest row pos h, ne-eqb (tallyOf row) 0 n)
+    ∙ rw (newest-all-one row pos h ∙ ne-eqb (tallyOf row) 0 n)
     (rw (joined Number.zero weights (down row 0 pos) (down row pos (length row - pos)) (omega arith), d, p) refl)
