@@ -8,3 +8,5 @@ pub mod Length
 pub mod Going
 pub mod Whole
 pub mod Rows
+pub mod TrueText
+pub mod Wrong

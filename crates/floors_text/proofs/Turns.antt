@@ -1,4 +1,4 @@
--- The text, line by line: what a turn of the loop adds to it.
+-- The text, line by line: what a turn of the loop adds to it, and the keeper with its stores.
 use mathlib.Core.Path.{_≡_, refl, sym, ap, _∙_}
 use mathlib.Core.List.{List, [], _∷_, _++_}
 use Prim.Native.Nat.{ℕ, _+_, _-_, _≤_, _<_}
@@ -10,7 +10,7 @@ use Rattle.arithmetic.specs.Number.{bits}
 use Rattle.keeper.specs.Keeper.{Keeping, Stepped, steppedOf}
 use Rattle.floors_text.specs.Print.{frameLine, refusalLine}
 use Rattle.floors_text.specs.Lines.{linesOf, firstOf, gainOf}
-use Rattle.floors_text.specs.Text.{frameText, gainText}
+use Rattle.floors_text.specs.Text.{frameText, gainText, gainsLeft}
 use Rattle.floors_text.specs.declared.lines.Field.the-variants.{Malformed, Number}
 use Rattle.floors_text.proofs.Cuts.{firstLength, first-take, first-within, first-some, lines-cut}
 
@@ -49,16 +49,31 @@ module _ (input : List ℕ) (at : ℕ) where
   unfolding gainText
   text-done k number h = rw (drop-of-length-le input {i = at} h) refl
 
+  pub left-done : (k : Keeping) → length input ≤ at → gainsLeft k (linesOf (drop at input)) ≡ k
+  unfolding gainsLeft
+  left-done k h = rw (drop-of-length-le input {i = at} h) refl
+
   module _ (more : at < length input) (k : Keeping) (number : ℕ) (line : List ℕ) (cut : line ≡ firstOf (linesOf (drop at input))) where
     text-cut : gainText k number (linesOf (drop at input)) ≡ gainText k number (line ∷ linesOf (drop (at + lineLength) input))
     text-cut = rw (lines-on more, cut) refl
+
+    left-cut : gainsLeft k (linesOf (drop at input)) ≡ gainsLeft k (line ∷ linesOf (drop (at + lineLength) input))
+    left-cut = rw (lines-on more, cut) refl
 
     -- a malformed line
     pub text-stops : gainOf line ≡ Malformed → gainText k number (linesOf (drop at input)) ≡ refusalLine number
     unfolding gainText
     text-stops e = text-cut ∙ rw e refl
 
+    pub left-stops : gainOf line ≡ Malformed → gainsLeft k (linesOf (drop at input)) ≡ k
+    unfolding gainsLeft
+    left-stops e = left-cut ∙ rw e refl
+
     -- a gain
+    pub left-more : (b : ℕ) → gainOf line ≡ Number b → gainsLeft k (linesOf (drop at input)) ≡ gainsLeft (steppedOf k (bits b) .keeping) (linesOf (drop (at + lineLength) input))
+    unfolding gainsLeft
+    left-more b e = left-cut ∙ rw e refl
+
     pub text-more : (b : ℕ) → gainOf line ≡ Number b → gainText k number (linesOf (drop at input)) ≡ frameText k (bits b) ++ gainText (steppedOf k (bits b) .keeping) (number + 1) (linesOf (drop (at + lineLength) input))
     unfolding gainText
     text-more b e = text-cut ∙ rw e refl

@@ -2,3 +2,4 @@
 pub mod Print
 pub mod Lines
 pub mod Text
+pub mod TrueText

@@ -21,16 +21,30 @@ opened look = keepingAt (freshKeeper look) (replicate (look + 1) 0) (replicate (
 abbrev pub frameText : Keeping → Float → List ℕ
 frameText k gain = let s = steppedOf k gain in frameLine (k .keeper .frame) (s .floor) (s .dropped) (s .keeping .keeper .len)
 
--- a malformed line stops the text with its refusal
-abbrev pub orElse : Field → List ℕ → (ℕ → List ℕ) → List ℕ
-orElse Malformed refusal text = refusal
-orElse (Number n) refusal text = text n
+-- what the number of a line gives; a malformed line stops there (the text with its refusal)
+abbrev pub orElse : {A : Type 0} → Field → A → (ℕ → A) → A
+orElse Malformed stop more = stop
+orElse (Number n) stop more = more n
 
 -- the lines from a number on: each a gain, which the keeper takes
 unfoldable pub gainText : Keeping → ℕ → List (List ℕ) → List ℕ
 gainText k number [] = []
 gainText k number (line ∷ lines) =
     orElse (gainOf line) (refusalLine number) (λ b. frameText k (bits b) ++ gainText (steppedOf k (bits b) .keeping) (number + 1) lines)
+
+-- the gains of the lines before the first malformed one, in the order of the lines
+abbrev pub gainsIn : List (List ℕ) → List Float
+gainsIn [] = []
+gainsIn (line ∷ lines) = orElse (gainOf line) [] (λ b. bits b ∷ gainsIn lines)
+
+-- keeper and stores after steps with gains, the first gain first
+abbrev pub keptAfter : Keeping → List Float → Keeping
+keptAfter k [] = k
+keptAfter k (x ∷ xs) = keptAfter (steppedOf k x .keeping) xs
+
+-- keeper and stores after the lines up to the first malformed one
+unfoldable pub gainsLeft : Keeping → List (List ℕ) → Keeping
+gainsLeft k lines = keptAfter k (gainsIn lines)
 
 -- the first line, a look, and those after it
 abbrev pub linesText : List (List ℕ) → List ℕ

@@ -6,7 +6,7 @@ ghost use Rattle.arithmetic.specs.Number.{bits};
 ghost use Rattle.keeper.specs.Keeper.{Ready, keepingAt, steppedOf};
 ghost use Rattle.floors_text.specs.Lines.{linesOf};
 ghost use Rattle.floors_text.specs.Print.{Put};
-ghost use Rattle.floors_text.specs.Text.{opened, frameText, gainText, writtenAt, floorsOf};
+ghost use Rattle.floors_text.specs.Text.{opened, frameText, gainText, gainsLeft, writtenAt, floorsOf};
 
 mod lines;
 mod print;
@@ -57,7 +57,7 @@ fn step_line(
 }
 
 // The lines from a place on, each a gain for the keeper at a look, and the texts that they give.
-// The stores are the keeper's.
+// The stores are the keeper's: they are left as the last gain before a malformed line leaves them.
 fn gain_lines(
     input: &[u8],
     from: usize,
@@ -69,6 +69,8 @@ fn gain_lines(
     requires { ⌜ (length (now input) ≤ 60000) × (from ≤ length (now input)) × (11 ≤ look) × (look ≤ 4096) ⌝ }
     requires { ⌜ (length (now marks) ≡ look + 1) × (length (now minima) ≡ look + 1) ⌝ }
     ensures { λ r. ⌜ Put (now (output .entry)) 0 (gainText (opened look) 2 (linesOf (drop from (now (input .entry))))) (now (output .exit)) r ⌝ }
+    ensures { λ r. ⌜ now (marks .exit) ≡ gainsLeft (opened look) (linesOf (drop from (now (input .entry)))) .marks ⌝ }
+    ensures { λ r. ⌜ now (minima .exit) ≡ gainsLeft (opened look) (linesOf (drop from (now (input .entry)))) .minima ⌝ }
 {
     let ready = FloorKeeper::setup(look, marks, minima);
     let mut keeper = ready.keeper;

@@ -7,9 +7,9 @@ use mathlib.Core.List.{List}
 use lib.ListN.{length, take, drop}
 use Rattle.floors_text.specs.Lines.{linesOf, firstOf}
 use denote.Ref.{now}
-use Rattle.keeper.specs.Keeper.{keepingAt, KeeperLeft}
+use Rattle.keeper.specs.Keeper.{Keeping, keepingAt, KeeperLeft}
 use Rattle.floors_text.proofs.Turns.{line-is, line-ends}
-use Rattle.floors_text.proofs.Going.{Going, going-start, going-few, going-ready, going-done, going-stops, refusal-room, frame-room, going-turn, setup-opened}
+use Rattle.floors_text.proofs.Going.{Going, going-start, going-few, going-ready, going-done, going-stops, left-whole, left-stopped, refusal-room, frame-room, going-turn, setup-opened}
 use Rattle.floors_text.proofs.Puts.{put-length}
 use Rattle.floors_text.proofs.gain_lines.Statement.{statement}
 use Rattle.floors_text.proofs.gain_lines.Tie as tie
@@ -50,7 +50,7 @@ setup-requires c κs = search needs
 loop-holds : tie.Need-loop-holds Inv-loop μ-loop
 loop-holds c =
     let s = c .before .before .before .before .before .before .before .before .before .before .before .before in
-    going-start (now (s .args .input)) (s .args .from) (s .args .look) (now (s .args .output)) (s .pre .0 .0) (s .pre .0 .3) (s .pre .0 .1) (keepingAt (c .before .before .before .before .before .setup .result .keeper) (c .before .before .before .before .before .setup .last .1 .0) (c .before .before .before .before .before .setup .last .1 .1 .0)) (ap (λ (o : KeeperLeft). o .keeping) (c .before .before .before .before .before .setup .ensures) ∙ setup-opened (s .args .look) (now (s .args .marks)) (now (s .args .minima)) (s .pre .0 .2) (s .pre .0 .3) (s .pre .1 .0) (s .pre .1 .1))
+    going-start (now (s .args .input)) (s .args .from) (s .args .look) (now (s .args .output)) (s .pre .0 .0) (s .pre .0 .3) (s .pre .0 .1) (keepingAt (c .before .before .before .before .before .setup .result .keeper) (c .before .before .before .before .before .setup .last .1 .0) (c .before .before .before .before .before .setup .last .1 .1 .0)) (ap (λ (o : KeeperLeft). o .keeping) (c .before .before .before .before .before .setup .ensures ∙ setup-opened (s .args .look) (now (s .args .marks)) (now (s .args .minima)) (s .pre .0 .2) (s .pre .0 .3) (s .pre .1 .0) (s .pre .1 .1)))
 
 line-end-requires : tie.Need-line-end-requires Inv-loop μ-loop
 line-end-requires c κs = c .before .loop .inv .within
@@ -91,10 +91,12 @@ returns : tie.Need-returns Inv-loop μ-loop
 returns c =
     let l = c .before .before .before .before .before .before .before .before .before .before in
     let g = c .before .before .before .before .before .before in
-    going-stops (l .loop .inv) (g .before .before .before .loop-test .taken) (line g) (cut g) (sym (g .gain-of .ensures) ∙ c .before .before .before .before .enum-told .given .1) (c .before .before .put-refusal .last .0) (c .before .before .put-refusal .result) (c .before .before .put-refusal .ensures)
+    let e = sym (g .gain-of .ensures) ∙ c .before .before .before .before .enum-told .given .1 in
+    let k = left-stopped (l .loop .inv) (g .before .before .before .loop-test .taken) (line g) (cut g) e in
+    (going-stops (l .loop .inv) (g .before .before .before .loop-test .taken) (line g) (cut g) e (c .before .before .put-refusal .last .0) (c .before .before .put-refusal .result) (c .before .before .put-refusal .ensures), (ap (λ (j : Keeping). j .marks) k, ap (λ (j : Keeping). j .minima) k))
 
 same-length-3 : tie.Need-same-length-3 Inv-loop μ-loop
-same-length-3 c = put-length (returns c)
+same-length-3 c = put-length (returns c .0)
 
 enum-known-pattern : tie.Need-enum-known-pattern Inv-loop μ-loop
 enum-known-pattern c = search needs
@@ -135,7 +137,10 @@ same-length-6 : tie.Need-same-length-6 Inv-loop μ-loop
 same-length-6 c = c .before .loop .inv .same-length
 
 returns-2 : tie.Need-returns-2 Inv-loop μ-loop
-returns-2 c = let l = c .before in going-done (l .loop .inv) (c .loop-test .left)
+returns-2 c =
+    let l = c .before in
+    let k = left-whole (l .loop .inv) (c .loop-test .left) in
+    (going-done (l .loop .inv) (c .loop-test .left), (ap (λ (j : Keeping). j .marks) k, ap (λ (j : Keeping). j .minima) k))
 
 pub gain-lines-spec : {M : Type 1} → statement M
 gain-lines-spec =
