@@ -4,3 +4,4 @@ pub mod Planes
 pub mod Numbers
 pub mod Places
 pub mod Written
+pub mod Wrong

@@ -161,7 +161,7 @@ module _ (format : Format) where
 
   -- ---- bytes that are whole samples: their size is no `largest`
   module _ (bytes : List ℕ) (size : ℕ) (fit : sizeOf format bytes ≡ size) (small : size < largest) where
-    whole : (length bytes % sampleBytes format ≡ 0) × (length bytes / sampleBytes format ≡ size)
+    pub whole : (length bytes % sampleBytes format ≡ 0) × (length bytes / sampleBytes format ≡ size)
     unfolding sizeOf
     whole = go (eqb (length bytes % sampleBytes format) 0) refl
       where

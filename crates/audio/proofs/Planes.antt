@@ -2,11 +2,11 @@
 use mathlib.Core.Path.{_≡_, refl, sym, ap, _∙_}
 use mathlib.Core.Bool.{Bool, true, false}
 use mathlib.Core.List.{List, [], _∷_, _++_, map}
-use Prim.Native.Nat.{ℕ, zero, suc, _+_, _-_, _*_, _≤_, _<_}
+use Prim.Native.Nat.{ℕ, zero, suc, _+_, _-_, _*_, _≤_, _<_, min}
 use native.Mathlib.Nat.{suc-mul, zero-mul}
 use native.Mathlib.Omega.{arith}
 use lib.Dec.{ltb}
-use lib.ListN.{length, getD, take, drop, length-append, length-drop, length-map, take-append-drop, List·getD-append, List·getD-map}
+use lib.ListN.{length, getD, take, drop, length-append, length-take, length-drop, length-map, take-append-drop, List·getD-append, List·getD-map}
 use lib.Seq.{getD-drop, getD-take, getD-append-add, ext-getD, length-take-le}
 use borrow.Author.Tests.{ltb-true, ltb-false}
 use Rattle.audio.specs.Planar.{frameAt, framesAt, firstOf, othersOf, written}
@@ -232,6 +232,35 @@ module _ {A : Type 0} (none : A) where
 
       later : (c i : ℕ) → c < k → i < length (map (λ (f : List A). othersOf f) a) → getD (getD (map (λ (f : List A). othersOf f) a) i []) c none ≡ getD (getD (map (λ (f : List A). othersOf f) b) i []) c none
       later c i h g = other a c i ∙ same (suc c) i (omega arith) (omega (arith, g, length-map a (λ (f : List A). othersOf f))) ∙ sym (other b c i)
+
+  -- audios that agree elsewhere are alike once the outputs are written
+  pub written-elsewhere : (w k n : ℕ) (a b : List A) (outputs : List (List A)) → n ≤ w → length a ≡ length b → ((p : ℕ) → ((c : ℕ) → c < k → c * w ≤ p → c * w + n ≤ p) → getD a p none ≡ getD b p none)
+      → written none w k n a outputs ≡ written none w k n b outputs
+  unfolding written
+  written-elsewhere w zero n a b outputs short l same = ext-getD none a b l (λ i h. same i (λ c g. absurd (omega arith)))
+  written-elsewhere w (suc k) n a b outputs short l same = rw (left, written-elsewhere w k n (drop w a) (drop w b) (map (λ (f : List A). othersOf f) outputs) short (length-drop w a ∙ rw l (sym (length-drop w b))) later) refl
+    where
+      parts : (x : List A) → length (drop n (take w x)) ≡ min w (length x) - n
+      parts x = length-drop n (take w x) ∙ rw (length-take w x) refl
+
+      part : (x : List A) (i : ℕ) → n + i < w → getD (drop n (take w x)) i none ≡ getD x (n + i) none
+      part x i h = getD-drop n (take w x) i none ∙ getD-take w x (n + i) none h
+
+      outside : (i c : ℕ) → n + i < w → c * w ≤ n + i → c * w + n ≤ n + i
+      outside i zero h g = let z = zero-mul w in omega arith
+      outside i (suc c) h g = let z = suc-mul c w in absurd (omega arith)
+
+      left : drop n (take w a) ≡ drop n (take w b)
+      left = ext-getD none (drop n (take w a)) (drop n (take w b)) (parts a ∙ rw l (sym (parts b))) (λ i h.
+          let g : n + i < w = omega (arith, h, parts a) in
+          part a i g ∙ same (n + i) (λ c q. outside i c g) ∙ sym (part b i g))
+
+      further : (p : ℕ) → ((c : ℕ) → c < k → c * w ≤ p → c * w + n ≤ p) → (c : ℕ) → c < suc k → c * w ≤ w + p → c * w + n ≤ w + p
+      further p h zero g q = let z = zero-mul w in omega arith
+      further p h (suc c) g q = let z = suc-mul c w in omega (arith, h c (omega arith) (omega arith))
+
+      later : (p : ℕ) → ((c : ℕ) → c < k → c * w ≤ p → c * w + n ≤ p) → getD (drop w a) p none ≡ getD (drop w b) p none
+      later p h = getD-drop w a p none ∙ same (w + p) (further p h) ∙ sym (getD-drop w b p none)
 
   -- ---- equal channel by channel
   pub planes-same : (w k : ℕ) (a b : List A) → length a ≡ k * w → length b ≡ k * w → ((c i : ℕ) → c < k → i < w → getD a (c * w + i) none ≡ getD b (c * w + i) none) → a ≡ b

@@ -2,11 +2,11 @@
 // each of 8 channels.
 ghost use mathlib.Core.Path.{_≡_};
 ghost use mathlib.Core.List.{map};
-ghost use Prim.Native.Nat.{_+_, _*_, _≤_, _<_};
+ghost use Prim.Native.Nat.{_+_, _*_, _%_, _≤_, _<_};
 ghost use lib.ListN.{length, getD, set};
 ghost use lib.Ieee.{nan};
 ghost use Rattle.audio.specs.Planar.{framesAt};
-ghost use Rattle.audio.specs.Format.{bytesFor, sizeOf, placesOf, samplesOf};
+ghost use Rattle.audio.specs.Format.{sampleBytes, bytesFor, sizeOf, placesOf, samplesOf};
 ghost use Rattle.audio.specs.Inner.{PlacesCopied, PlacesCarried, Placed};
 use crate::format::Format;
 use crate::words::put_word;
@@ -24,8 +24,9 @@ fn sample(format: Format, bytes: &[u8], i: usize) -> f64
     }
 }
 
-// A sample into its place.
+// A sample into its place, in bytes that are whole samples.
 fn put_sample(format: Format, bytes: &mut [u8], i: usize, x: f64)
+    requires { ⌜ length (now bytes) % sampleBytes format ≡ 0 ⌝ }
     requires { ⌜ i < length (placesOf format (now bytes)) ⌝ }
     ensures { λ _. ⌜ placesOf format (now (bytes .exit)) ≡ set (placesOf format (now (bytes .entry))) i (bytesFor format x) ⌝ }
 {
@@ -68,8 +69,9 @@ pub fn gather(
     }
 }
 
-// The bytes of n samples from one place on to another place on.
+// The bytes of n samples from one place on to another place on, in bytes that are whole samples.
 fn write_channel(format: Format, n: usize, from: usize, run: &[f64], to: usize, bytes: &mut [u8])
+    requires { ⌜ length (now bytes) % sampleBytes format ≡ 0 ⌝ }
     requires { ⌜ from + n ≤ length (now run) ⌝ }
     requires { ⌜ to + n ≤ length (placesOf format (now bytes)) ⌝ }
     ensures { λ _. ⌜ PlacesCopied (bytesFor format nan) n from (map (bytesFor format) (now (run .entry)))

@@ -4,3 +4,4 @@ pub mod Called
 pub mod Started
 pub mod Stepped
 pub mod Refusing
+pub mod Wrong

@@ -6,15 +6,12 @@ use Prim.Native.Nat.{ℕ, _+_, _-_, _*_, _≤_, _<_}
 use native.Mathlib.Nat.{mul-le-mul-right}
 use native.Mathlib.Omega.{arith}
 use lib.Dec.{eqb, leb}
-use lib.ListN.{length}
-use lib.Ieee.{Float}
 use borrow.Author.Tests.{eqb-true, eq-eqb, ne-eqb, leb-true, leb-false, le-leb, lt-leb, not-true, not-false}
 use Rattle.arithmetic.specs.Reply.{Reply, finished, numbered, unless, andThen, must}
 use Rattle.arithmetic.proofs.Order.{and-true}
 use Rattle.arithmetic.proofs.Passed.{passed-must, passed-then}
 use Rattle.audio.specs.Format.{sizeOf, writtenBytes}
 use Rattle.audio.specs.declared.format.Format.{Format}
-use Rattle.detector.specs.Run.{runLength}
 use Rattle.keeper.specs.InOrder.{mostFrames}
 use Rattle.limiter.specs.Order
 use Rattle.limiter.specs.Stores.{Stores}
@@ -118,9 +115,9 @@ module _ (format : Format) (m : Machine) (position frames : ℕ) (events : List 
   block-left f = rw (reply-is, sym B ∙ not-true b f) refl
 
   -- where nothing is refused
-  pub block-asks : (run : List Float) → length run ≡ 8 * runLength → not b ≡ false → BlockAsked m format position frames bytes run
+  pub block-asks : not b ≡ false → BlockAsked m format position frames bytes
   unfolding blockReply
-  block-asks run fit f =
+  block-asks f =
       let z = ap (λ (x : Reply). x .number) (sym R) ∙ eqb-true (r .number) 0 (passed f) in
       let l = m .limiter in
       let geometry = must (sized m (l .«max_block») frames size) 20 in
@@ -133,7 +130,7 @@ module _ (format : Format) (m : Machine) (position frames : ℕ) (events : List 
       let few = leb-true frames (l .«max_block») (g .0) in
       record {
         ready = ready-is m (a .0) frames (leb-true (l .env .keeper .frame + frames) mostFrames (o .1));
-        lends = record { short = omega (arith, few, block-most l (ready-kernel m (a .0))); audio-fit = sym S ∙ eqb-true size (l .channels * frames) (g .1); run-fit = fit };
+        lends = record { short = omega (arith, few, block-most l (ready-kernel m (a .0))); audio-fit = sym S ∙ eqb-true size (l .channels * frames) (g .1) };
         far = leb-true (position + frames) farthest (o .0);
       }
 
@@ -208,12 +205,12 @@ module _ (format : Format) (m : Machine) (frames : ℕ) (bytes : List ℕ) (size
           look-most = bounds-of l (r .set-up) .look-most;
         }
 
-    pub drain-asked : (k : ℕ) (run : List Float) → k ≡ drainable l frames → length run ≡ 8 * runLength → DrainAsked l format k frames (m .stores) bytes run
-    drain-asked k run K fit =
+    pub drain-asked : (k : ℕ) → k ≡ drainable l frames → DrainAsked l format k frames (m .stores) bytes
+    drain-asked k K =
         let a = drain-may in
         record {
           ready = record { set-up = a .ready .set-up; lengths = a .ready .lengths; order = a .ready .order; room = omega (arith, a .ready .room, K) };
-          lends = record { short = a .short; audio-fit = a .audio-fit; run-fit = fit };
+          lends = record { short = a .short; audio-fit = a .audio-fit };
           tail = omega (arith, K, a .drained-most);
           inside = omega (arith, K);
         }

@@ -15,7 +15,6 @@ use audio::format::Format;
 use audio::format::size_of;
 use limiter::state::Limiter;
 use turns::drain::drain_frames;
-use turns::turn::run_room;
 
 // The frames of the tail that a drain writes.
 fn drainable(limiter: Limiter, frames: usize) -> usize
@@ -96,14 +95,12 @@ impl KernelProcessor {
         let bank = self.bank;
         let n = drainable(limiter, frames);
         let done = limiter.env.keeper.look <= limiter.drained + n;
-        let mut run = run_room();
         let after = drain_frames(
             limiter,
             format,
             n,
             frames,
             audio,
-            &mut run,
             delay,
             marks,
             minima,

@@ -14,7 +14,6 @@ use crate::state::KernelProcessor;
 use audio::format::Format;
 use audio::format::size_of;
 use turns::drive::drive;
-use turns::turn::run_room;
 
 impl KernelProcessor {
     // 20, 21 and 22 in turn, for a limiter that is set up. No store is read.
@@ -107,7 +106,6 @@ impl KernelProcessor {
         }
         let limiter = self.limiter;
         let bank = self.bank;
-        let mut run = run_room();
         let left = drive(
             limiter,
             bank,
@@ -116,7 +114,6 @@ impl KernelProcessor {
             frames,
             events,
             audio,
-            &mut run,
             delay,
             marks,
             minima,

@@ -28,6 +28,7 @@ fn push_run(store: &mut [f64], run: &mut [f64], samples: &mut [f64])
     requires { ⌜ length (now samples) ≡ length (now run) ⌝ }
     ensures { λ _. ⌜ pushesAt (now (run .exit)) (now (store .exit))
         ≡ peaksAbsOf taps (now (store .entry)) (now (run .entry)) (now (run .entry)) ⌝ }
+    ensures { λ _. ⌜ now (samples .exit) ≡ now (run .entry) ⌝ }
 {
     copy_run(run, samples);
     detector::oversample::peaks_abs(store, samples, run);

@@ -80,9 +80,9 @@ module _ (format : Format) (l₀ : Limiter) (n width : ℕ) (s₀ : Stores) (byt
     pub ready : RunsReady l (n - first) s
     pub run-fit : length run ≡ 8 * runLength
 
-  pub drained-start : (run : List Float) → DrainAsked l₀ format n width s₀ bytes₀ run → Drained 0 l₀ s₀ bytes₀ run
+  pub drained-start : (run : List Float) → length run ≡ 8 * runLength → DrainAsked l₀ format n width s₀ bytes₀ → Drained 0 l₀ s₀ bytes₀ run
   unfolding rendered framesOf
-  drained-start run a =
+  drained-start run fit a =
       let e : l₀ .drained + 0 ≡ l₀ .drained = omega arith in
       let f : n - 0 ≡ n = omega arith in
       record {
@@ -92,10 +92,10 @@ module _ (format : Format) (l₀ : Limiter) (n width : ℕ) (s₀ : Stores) (byt
         audio-is = sym (written-bytes-none format width k bytes₀ (a .lends .audio-fit) (audio-small l₀ width (a .ready .set-up) (a .lends .short)));
         look-is = refl;
         ready = subst (λ (i : ℕ). RunsReady l₀ i s₀) (sym f) (a .ready);
-        run-fit = a .lends .run-fit;
+        run-fit = fit;
       }
 
-  module _ (run₀ : List Float) (a : DrainAsked l₀ format n width s₀ bytes₀ run₀) (first len : ℕ) (l : Limiter) (s : Stores) (bytes : List ℕ) (run : List Float) (d : Drained first l s bytes run) (more : first < n) (N : len ≡ min (n - first) 32) where
+  module _ (a : DrainAsked l₀ format n width s₀ bytes₀) (first len : ℕ) (l : Limiter) (s : Stores) (bytes : List ℕ) (run : List Float) (d : Drained first l s bytes run) (more : first < n) (N : len ≡ min (n - first) 32) where
     -- a run has a frame at least, and no more than are left
     pub tail-inside : (1 ≤ len) × (len ≤ runLength) × (first + len ≤ n)
     tail-inside = (omega (arith, N, more), omega (arith, N, more), omega (arith, N, more))

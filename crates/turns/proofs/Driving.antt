@@ -86,8 +86,8 @@ module _ (format : Format) (position frames : ℕ) (words bytes₀ : List ℕ) (
     pub run-fit : length run ≡ 8 * runLength
 
   -- ---- from the start
-  pub driving-start : (run : List Float) → BlockAsked m₀ format position frames bytes₀ run → (block : Unfinished) → block ≡ record { position = position; frames = frames; rendered = 0; latched = 0 } → Driving block m₀ bytes₀ run
-  driving-start run a block E = subst (λ (b : Unfinished). Driving b m₀ bytes₀ run) (sym E) start
+  pub driving-start : (run : List Float) → length run ≡ 8 * runLength → BlockAsked m₀ format position frames bytes₀ → (block : Unfinished) → block ≡ record { position = position; frames = frames; rendered = 0; latched = 0 } → Driving block m₀ bytes₀ run
+  driving-start run fit a block E = subst (λ (b : Unfinished). Driving b m₀ bytes₀ run) (sym E) start
     where
       start : Driving (record { position = position; frames = frames; rendered = 0; latched = 0 }) m₀ bytes₀ run
       start =
@@ -108,10 +108,10 @@ module _ (format : Format) (position frames : ℕ) (words bytes₀ : List ℕ) (
             same = rw (e, f, g) refl;
             audio-is = sym (written-bytes-none format frames k bytes₀ (a .lends .audio-fit) (audio-small (m₀ .limiter) frames (a .ready .set-up) (a .lends .short)));
             ready = subst (λ (n : ℕ). RunsReady (m₀ .limiter) n (m₀ .stores)) (sym f) (a .ready);
-            run-fit = a .lends .run-fit;
+            run-fit = fit;
           }
 
-  module _ (run₀ : List Float) (asked : BlockAsked m₀ format position frames bytes₀ run₀) (block : Unfinished) (m : Machine) (bytes : List ℕ) (run : List Float) (d : Driving block m bytes run) (more : block .rendered < frames) where
+  module _ (asked : BlockAsked m₀ format position frames bytes₀) (block : Unfinished) (m : Machine) (bytes : List ℕ) (run : List Float) (d : Driving block m bytes run) (more : block .rendered < frames) where
     abbrev first : ℕ
     first = block .rendered
 
@@ -134,14 +134,15 @@ module _ (format : Format) (position frames : ℕ) (words bytes₀ : List ℕ) (
     pub driving-asks : TurnAsked m block format words bytes run
     driving-asks = record {
       ready = rw (d .frames-is) (d .ready);
-      lends = record { short = rw (d .frames-is) (asked .lends .short); audio-fit = audio-size; run-fit = d .run-fit };
+      lends = record { short = rw (d .frames-is) (asked .lends .short); audio-fit = audio-size };
+      run-fit = d .run-fit;
       far = rw (d .position-is, d .frames-is) (asked .far);
       more = rw (d .frames-is) more;
       events-left = d .events-left;
     }
 
     -- ---- and leaves the next
-    module _ (after : Machine) (next : Unfinished) (bytes' : List ℕ) (run' : List Float) (r : TurnGiven m block format words bytes after next bytes') (R : length run' ≡ length run) where
+    module _ (after : Machine) (next : Unfinished) (bytes' : List ℕ) (run' : List Float) (r : TurnGiven m block format words bytes run after next bytes' run') (R : length run' ≡ length run) where
       abbrev turn : Turn
       turn = turnAt format m block words bytes
 

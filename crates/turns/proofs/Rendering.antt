@@ -12,7 +12,7 @@ use Rattle.audio.specs.Planar.{framesAt}
 use Rattle.audio.specs.Format.{samplesOf}
 use Rattle.audio.specs.Inner.{PlacesCarried, Placed}
 use Rattle.audio.specs.declared.format.Format.{Format}
-use Rattle.audio.proofs.Planes.{frames-at-length}
+use Rattle.audio.proofs.Planes.{frames-at-length, written-elsewhere}
 use Rattle.audio.proofs.Written.{size-small, gathered, placed-outputs}
 use Rattle.detector.specs.Run.{runLength}
 use Rattle.keeper.specs.InOrder.{mostFrames}
@@ -89,10 +89,10 @@ module _ (l : Limiter) (format : Format) (target : Float) (width first n : ℕ) 
   rules = rulesOf (l .settings) format
 
   pub run-given : RunAsked l format target width first n s bytes run₀ → length run ≡ length run₀ → PlacesCarried nan (l .channels) n width first (samplesOf format bytes) runLength 0 run₀ run
-      → ranAt after stores run' ≡ renderOf rules l target n s run → Placed format (l .channels) n width first (framesIn (l .channels) n run') bytes bytes' → RunGiven l format target width first n s bytes after stores bytes'
+      → ranAt after stores run' ≡ renderOf rules l target n s run → Placed format (l .channels) n width first (framesIn (l .channels) n run') bytes bytes' → RunGiven l format target width first n s bytes run₀ after stores bytes' run'
   run-given a m g r c =
       let fs : framesIn (l .channels) n run ≡ framesAt nan width (l .channels) first n (samplesOf format bytes) = gathered format (l .channels) n width first bytes run₀ run g in
-      let k = kernel-asks l n s run (a .ready) (a .some) (a .short) (m ∙ a .lends .run-fit) in
+      let k = kernel-asks l n s run (a .ready) (a .some) (a .short) (m ∙ a .run-fit) in
       let e = r ∙ ran-as rules l target n s run in
       let many = shown-many rules l target s (framesIn (l .channels) n run) ∙ frames-at-length nan runLength (l .channels) 0 n run in
       let shown = rendered rules l s target (framesIn (l .channels) n run) .frames in
@@ -101,7 +101,11 @@ module _ (l : Limiter) (format : Format) (target : Float) (width first n : ℕ) 
         stores-are = ap (λ (z : Ran). z .stores) e ∙ ap (λ (z : List (List Float)). rendered rules l s target z .stores) fs;
         audio-is =
             subst (λ (z : List (List Float)). Placed format (l .channels) n width first (outputsOf (rendered rules l s target z .frames)) bytes bytes') fs
-            (placed-outputs format (l .channels) n run (outputsOf shown) width first bytes bytes' (a .short) (length-map shown (λ (x : Framed). x .outputs) ∙ many) (run-room l run (a .ready .set-up) (m ∙ a .lends .run-fit))
+            (placed-outputs format (l .channels) n run (outputsOf shown) width first bytes bytes' (a .short) (length-map shown (λ (x : Framed). x .outputs) ∙ many) (run-room l run (a .ready .set-up) (m ∙ a .run-fit))
             (subst (λ (z : List Float). Placed format (l .channels) n width first (framesIn (l .channels) n z) bytes bytes') (ap (λ (z : Ran). z .audio) e) c));
+        run-is =
+            ap (λ (z : Ran). z .audio) e
+            ∙ ap (λ (z : List (List Float)). writtenIn (l .channels) n run (outputsOf (rendered rules l s target z .frames))) fs
+            ∙ written-elsewhere nan runLength (l .channels) n run run₀ (outputsOf (rendered rules l s target (framesAt nan width (l .channels) first n (samplesOf format bytes)) .frames)) (a .short) m (λ p h. g .elsewhere p (λ c q t. omega (arith, h c q (omega (arith, t)))));
         still = λ left room. subst (λ (z : Ran). RunsReady (z .limiter) left (z .stores)) (sym e) (still-ready rules l target n s run k (a .unit) left room);
       }

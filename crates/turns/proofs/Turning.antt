@@ -15,6 +15,7 @@ use Rattle.limiter.specs.declared.state.Limiter.{Limiter}
 use Rattle.settings.specs.Target.{targetOf}
 use Rattle.settings.proofs.Unit.{target-unit}
 use Rattle.bank.specs.declared.smoother_bank.SmootherBank.{SmootherBank}
+use Rattle.frame.specs.Run.{writtenIn}
 use Rattle.turns.specs.Machine.{Machine, machineOf, thresholdOf}
 use Rattle.turns.specs.Events.{Latched}
 use Rattle.turns.specs.Block.{renderedIn, runAt, outputsOf}
@@ -31,6 +32,7 @@ module _ (m : Machine) (block : Unfinished) (format : Format) (words bytes : Lis
   turn-asks target threshold margin T = record {
     ready = record { set-up = a .ready .set-up; lengths = a .ready .lengths; order = a .ready .order; room = omega (arith, a .ready .room, turn-inside .2) };
     lends = a .lends;
+    run-fit = a .run-fit;
     unit = rw T (target-unit threshold margin);
     some = turn-inside .0;
     short = turn-inside .1;
@@ -38,8 +40,8 @@ module _ (m : Machine) (block : Unfinished) (format : Format) (words bytes : Lis
   }
 
   module _ (l : LatchedTo) (B : latchedAt l words ≡ beforeRun (standsAt block) (block .rendered) (waitingAt words (block .latched)) (m .bank)) (few : l .cursor ≤ length words / 3)
-      (target : Float) (T : target ≡ targetOf (thresholdOf (l .bank) .cur) (m .limiter .settings .«true_peak_margin_db»)) (after : Limiter) (stores : Stores) (bytes' : List ℕ)
-      (r : RunGiven (m .limiter) format target (block .frames) (block .rendered) n (m .stores) bytes after stores bytes') where
+      (target : Float) (T : target ≡ targetOf (thresholdOf (l .bank) .cur) (m .limiter .settings .«true_peak_margin_db»)) (after : Limiter) (stores : Stores) (bytes' : List ℕ) (run' : List Float)
+      (r : RunGiven (m .limiter) format target (block .frames) (block .rendered) n (m .stores) bytes run after stores bytes' run') where
     abbrev now : SmootherBank
     now = beforeRun (standsAt block) (block .rendered) (waitingAt words (block .latched)) (m .bank) .bank
 
@@ -58,7 +60,10 @@ module _ (m : Machine) (block : Unfinished) (format : Format) (words bytes : Lis
     abbrev Out : ℕ → Float → Type 0
     Out i x = Placed format (m .limiter .channels) i (block .frames) (block .rendered) (outputsOf (renderedIn format m (m .limiter) (m .stores) x (frames i) .frames)) bytes bytes'
 
-    pub turn-given : TurnGiven m block format words bytes (machineOf after (l .bank) stores) (record { position = block .position; frames = block .frames; rendered = block .rendered + n; latched = l .cursor }) bytes'
+    abbrev RunOut : ℕ → Float → Type 0
+    RunOut i x = run' ≡ writtenIn (m .limiter .channels) i run (outputsOf (renderedIn format m (m .limiter) (m .stores) x (frames i) .frames))
+
+    pub turn-given : TurnGiven m block format words bytes run (machineOf after (l .bank) stores) (record { position = block .position; frames = block .frames; rendered = block .rendered + n; latched = l .cursor }) bytes' run'
     turn-given = record {
       machine-is = rw (r .limiter-is, r .stores-are, target-is, bank-is, N) refl;
       waiting-is = ap (λ (x : Latched). x .waiting) B;
@@ -67,5 +72,6 @@ module _ (m : Machine) (block : Unfinished) (format : Format) (words bytes : Lis
       frames-is = refl;
       rendered-is = ap (λ (i : ℕ). block .rendered + i) N;
       audio-is = subst (λ (i : ℕ). Out i due) N (subst (λ (x : Float). Out n x) target-is (r .audio-is));
+      run-is = subst (λ (i : ℕ). RunOut i due) N (subst (λ (x : Float). RunOut n x) target-is (r .run-is));
       ready = r .still (block .frames - (block .rendered + n)) (omega (arith, a .ready .room, turn-inside .2));
     }

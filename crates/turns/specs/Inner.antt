@@ -14,6 +14,7 @@ use Rattle.audio.specs.declared.format.Format.{Format}
 use Rattle.detector.specs.Run.{runLength}
 use Rattle.keeper.specs.InOrder.{mostFrames}
 use Rattle.frame.specs.Rules.{rulesOf}
+use Rattle.frame.specs.Run.{writtenIn}
 use Rattle.limiter.specs.Stores.{Stores, lengthsOf, lengthsFit}
 use Rattle.limiter.specs.Order
 use Rattle.limiter.specs.declared.state.Limiter.{Limiter}
@@ -48,26 +49,27 @@ pub record RunsReady (l : Limiter) (left : ℕ) (s : Stores) : Type 0 where
   pub order : Order.inOrder l (s .marks) (s .minima) (s .row) ≡ true
   pub room : l .env .keeper .frame + left ≤ mostFrames
 
--- the call's audio, so many frames a channel; the run's own has 32 places for each of 8 channels
-pub record Lends (l : Limiter) (format : Format) (width : ℕ) (bytes : List ℕ) (run : List Float) : Type 0 where
+-- the call's audio, so many frames a channel
+pub record Lends (l : Limiter) (format : Format) (width : ℕ) (bytes : List ℕ) : Type 0 where
   pub short : width ≤ 65536
   pub audio-fit : sizeOf format bytes ≡ l .channels * width
-  pub run-fit : length run ≡ 8 * runLength
 
--- n frames, from the frame `first` of a call's audio on, at a target
+-- n frames, from the frame `first` of a call's audio on, at a target; the run's own audio has 32 places for each of 8 channels
 pub record RunAsked (l : Limiter) (format : Format) (target : Float) (width first n : ℕ) (s : Stores) (bytes : List ℕ) (run : List Float) : Type 0 where
   pub ready : RunsReady l n s
-  pub lends : Lends l format width bytes run
+  pub lends : Lends l format width bytes
+  pub run-fit : length run ≡ 8 * runLength
   pub unit : within Number.zero one target ≡ true
   pub some : 1 ≤ n
   pub short : n ≤ runLength
   pub inside : first + n ≤ width
 
--- those frames are rendered, their outputs are placed in the audio, and limiter and stores are as ready as they were. `run` is left free.
-pub record RunGiven (l : Limiter) (format : Format) (target : Float) (width first n : ℕ) (s : Stores) (bytes : List ℕ) (after : Limiter) (stores : Stores) (bytes' : List ℕ) : Type 0 where
+-- those frames are rendered, their outputs are placed in the call's audio and in the run's, where everything else is as it was, and limiter and stores are as ready as they were
+pub record RunGiven (l : Limiter) (format : Format) (target : Float) (width first n : ℕ) (s : Stores) (bytes : List ℕ) (run : List Float) (after : Limiter) (stores : Stores) (bytes' : List ℕ) (run' : List Float) : Type 0 where
   pub limiter-is : after ≡ rendered (rulesOf (l .settings) format) l s target (framesAt nan width (l .channels) first n (samplesOf format bytes)) .limiter
   pub stores-are : stores ≡ rendered (rulesOf (l .settings) format) l s target (framesAt nan width (l .channels) first n (samplesOf format bytes)) .stores
   pub audio-is : Placed format (l .channels) n width first (outputsOf (rendered (rulesOf (l .settings) format) l s target (framesAt nan width (l .channels) first n (samplesOf format bytes)) .frames)) bytes bytes'
+  pub run-is : run' ≡ writtenIn (l .channels) n run (outputsOf (rendered (rulesOf (l .settings) format) l s target (framesAt nan width (l .channels) first n (samplesOf format bytes)) .frames))
   pub still : (left : ℕ) → l .env .keeper .frame + (n + left) ≤ mostFrames → RunsReady after left stores
 
 -- ---- a turn of a block
@@ -81,7 +83,8 @@ standsAt b = b .position + b .rendered
 -- machine and geometry judged, room for the frames left, and one of them at least
 pub record TurnAsked (m : Machine) (block : Unfinished) (format : Format) (words : List ℕ) (bytes : List ℕ) (run : List Float) : Type 0 where
   pub ready : RunsReady (m .limiter) (framesLeft block) (m .stores)
-  pub lends : Lends (m .limiter) format (block .frames) bytes run
+  pub lends : Lends (m .limiter) format (block .frames) bytes
+  pub run-fit : length run ≡ 8 * runLength
   pub far : block .position + block .frames ≤ farthest
   pub more : block .rendered < block .frames
   pub events-left : block .latched ≤ length words / 3
@@ -92,7 +95,7 @@ turnAt format m block words bytes =
     turnBy (renderedIn format m) (standsAt block) (block .rendered) (waitingAt words (block .latched))
     (framesAt nan (block .frames) (m .limiter .channels) (block .rendered) (runAt (standsAt block) (framesLeft block)) (samplesOf format bytes)) m
 
-pub record TurnGiven (m : Machine) (block : Unfinished) (format : Format) (words : List ℕ) (bytes : List ℕ) (after : Machine) (next : Unfinished) (bytes' : List ℕ) : Type 0 where
+pub record TurnGiven (m : Machine) (block : Unfinished) (format : Format) (words : List ℕ) (bytes : List ℕ) (run : List Float) (after : Machine) (next : Unfinished) (bytes' : List ℕ) (run' : List Float) : Type 0 where
   pub machine-is : after ≡ turnAt format m block words bytes .machine
   pub waiting-is : waitingAt words (next .latched) ≡ turnAt format m block words bytes .waiting
   pub events-left : next .latched ≤ length words / 3
@@ -100,13 +103,14 @@ pub record TurnGiven (m : Machine) (block : Unfinished) (format : Format) (words
   pub frames-is : next .frames ≡ block .frames
   pub rendered-is : next .rendered ≡ block .rendered + runAt (standsAt block) (framesLeft block)
   pub audio-is : Placed format (m .limiter .channels) (runAt (standsAt block) (framesLeft block)) (block .frames) (block .rendered) (outputsOf (turnAt format m block words bytes .frames)) bytes bytes'
+  pub run-is : run' ≡ writtenIn (m .limiter .channels) (runAt (standsAt block) (framesLeft block)) run (outputsOf (turnAt format m block words bytes .frames))
   pub ready : RunsReady (after .limiter) (framesLeft next) (after .stores)
 
 -- ---- the turns of a block
 -- machine and geometry judged, room for the frames
-pub record BlockAsked (m : Machine) (format : Format) (position frames : ℕ) (bytes : List ℕ) (run : List Float) : Type 0 where
+pub record BlockAsked (m : Machine) (format : Format) (position frames : ℕ) (bytes : List ℕ) : Type 0 where
   pub ready : RunsReady (m .limiter) frames (m .stores)
-  pub lends : Lends (m .limiter) format frames bytes run
+  pub lends : Lends (m .limiter) format frames bytes
   pub far : position + frames ≤ farthest
 
 -- what they leave
@@ -119,8 +123,8 @@ abbrev pub silent : Format → Limiter → Stores → ℕ → Rendered
 silent format l s n = rendered (rulesOf (l .settings) format) l s (l .target) (silence (l .channels) n)
 
 -- limiter and stores judged, with room for n frames, which lie in the tail and in the audio
-pub record DrainAsked (l : Limiter) (format : Format) (n width : ℕ) (s : Stores) (bytes : List ℕ) (run : List Float) : Type 0 where
+pub record DrainAsked (l : Limiter) (format : Format) (n width : ℕ) (s : Stores) (bytes : List ℕ) : Type 0 where
   pub ready : RunsReady l n s
-  pub lends : Lends l format width bytes run
+  pub lends : Lends l format width bytes
   pub tail : l .drained + n ≤ l .env .keeper .look
   pub inside : n ≤ width

@@ -6,6 +6,7 @@ ghost use Rattle.limiter.specs.Stores.{atEntry, atExit, atCall};
 ghost use Rattle.turns.specs.Block.{period, outputsOf};
 ghost use Rattle.turns.specs.Drain.{withDrained};
 ghost use Rattle.turns.specs.Inner.{silent, DrainAsked};
+use crate::turn::run_room;
 use audio::format::Format;
 use audio::planar::scatter;
 use limiter::state::Limiter;
@@ -17,14 +18,13 @@ fn tail_run(left: usize) -> usize
     if left < 32 { left } else { 32 }
 }
 
-// Drains n frames of the tail, in runs. `run` is where each run is rendered, and left free.
+// Drains n frames of the tail, in runs.
 pub fn drain_frames(
     limiter: Limiter,
     format: Format,
     n: usize,
     width: usize,
     audio: &mut [u8],
-    run: &mut [f64],
     delay: &mut [f64],
     marks: &mut [u64],
     minima: &mut [f64],
@@ -32,7 +32,7 @@ pub fn drain_frames(
     row: &mut [f64],
     detector: &mut [f64],
 ) -> Limiter
-    requires { ⌜ DrainAsked limiter format n width (atCall delay marks minima weights row detector) (now audio) (now run) ⌝ }
+    requires { ⌜ DrainAsked limiter format n width (atCall delay marks minima weights row detector) (now audio) ⌝ }
     ensures { λ r. ⌜ r
         ≡ withDrained (silent format limiter (atEntry delay marks minima weights row detector) n .limiter) (limiter .drained + n) ⌝ }
     ensures { λ _. ⌜ atExit delay marks minima weights row detector
@@ -42,6 +42,7 @@ pub fn drain_frames(
         (outputsOf (silent format limiter (atEntry delay marks minima weights row detector) n .frames)) ⌝ }
 {
     let channels = limiter.channels;
+    let mut run = run_room();
     let mut l = limiter;
     let mut first: usize = 0;
     while first < n {
@@ -49,7 +50,7 @@ pub fn drain_frames(
         l = l.drain(
             format,
             len,
-            run,
+            &mut run,
             delay,
             marks,
             minima,
@@ -57,7 +58,7 @@ pub fn drain_frames(
             row,
             detector,
         );
-        scatter(format, channels, len, run, width, first, audio);
+        scatter(format, channels, len, &run, width, first, audio);
         first += len;
     }
     l

@@ -5,6 +5,7 @@ ghost use Rattle.turns.specs.Machine.{machineOf};
 ghost use Rattle.turns.specs.Inner.{BlockAsked, driven};
 use crate::events::latch_rest;
 use crate::turn::Unfinished;
+use crate::turn::run_room;
 use crate::turn::turn;
 use audio::format::Format;
 use bank::smoother_bank::SmootherBank;
@@ -16,7 +17,7 @@ pub struct Driven {
     pub bank: SmootherBank,
 }
 
-// A block that nothing refuses. `run` is where each run is rendered, and left free.
+// A block that nothing refuses.
 pub fn drive(
     limiter: Limiter,
     bank: SmootherBank,
@@ -25,7 +26,6 @@ pub fn drive(
     frames: usize,
     events: &[u64],
     audio: &mut [u8],
-    run: &mut [f64],
     delay: &mut [f64],
     marks: &mut [u64],
     minima: &mut [f64],
@@ -33,7 +33,7 @@ pub fn drive(
     row: &mut [f64],
     detector: &mut [f64],
 ) -> Driven
-    requires { ⌜ BlockAsked (machineOf limiter bank (atCall delay marks minima weights row detector)) format position frames (now audio) (now run) ⌝ }
+    requires { ⌜ BlockAsked (machineOf limiter bank (atCall delay marks minima weights row detector)) format position frames (now audio) ⌝ }
     ensures { λ r. ⌜ machineOf (r .limiter) (r .bank) (atExit delay marks minima weights row detector)
         ≡ driven format (machineOf limiter bank (atEntry delay marks minima weights row detector)) position frames
         (now (events .entry)) (now (audio .entry)) .machine ⌝ }
@@ -41,6 +41,7 @@ pub fn drive(
         ≡ driven format (machineOf limiter bank (atEntry delay marks minima weights row detector)) position frames
         (now (events .entry)) (now (audio .entry)) .bytes ⌝ }
 {
+    let mut run = run_room();
     let mut l = limiter;
     let mut b = bank;
     let mut block = Unfinished {
@@ -57,7 +58,7 @@ pub fn drive(
             format,
             events,
             audio,
-            run,
+            &mut run,
             delay,
             marks,
             minima,

@@ -53,7 +53,8 @@ fn target_now(limiter: Limiter, bank: SmootherBank) -> f64
     target(bank.value_at(0), s.true_peak_margin_db)
 }
 
-// Renders n frames of a call's audio, from a frame on. `run` is where they are rendered.
+// Renders n frames of a call's audio, from a frame on. `run` is where they are rendered, and holds
+// their outputs afterwards.
 fn render_frames(
     limiter: Limiter,
     format: Format,
@@ -72,7 +73,7 @@ fn render_frames(
 ) -> Limiter
     requires { ⌜ RunAsked limiter format target width first n (atCall delay marks minima weights row detector) (now audio) (now run) ⌝ }
     ensures { λ r. ⌜ RunGiven limiter format target width first n (atEntry delay marks minima weights row detector) (now (audio .entry))
-        r (atExit delay marks minima weights row detector) (now (audio .exit)) ⌝ }
+        (now (run .entry)) r (atExit delay marks minima weights row detector) (now (audio .exit)) (now (run .exit)) ⌝ }
 {
     let channels = limiter.channels;
     gather(format, channels, n, width, first, audio, run);
@@ -92,7 +93,8 @@ fn render_frames(
     after
 }
 
-// The next run of a block that nothing refuses. `run` is scratch, and left free.
+// The next run of a block that nothing refuses. `run` is where it is rendered, and holds its outputs
+// afterwards.
 pub fn turn(
     limiter: Limiter,
     bank: SmootherBank,
@@ -110,8 +112,8 @@ pub fn turn(
 ) -> Turned
     requires { ⌜ TurnAsked (machineOf limiter bank (atCall delay marks minima weights row detector)) block format (now events) (now audio) (now run) ⌝ }
     ensures { λ r. ⌜ TurnGiven (machineOf limiter bank (atEntry delay marks minima weights row detector)) block format
-        (now (events .entry)) (now (audio .entry))
-        (machineOf (r .limiter) (r .bank) (atExit delay marks minima weights row detector)) (r .block) (now (audio .exit)) ⌝ }
+        (now (events .entry)) (now (audio .entry)) (now (run .entry))
+        (machineOf (r .limiter) (r .bank) (atExit delay marks minima weights row detector)) (r .block) (now (audio .exit)) (now (run .exit)) ⌝ }
 {
     let first = block.rendered;
     let at = block.position + first as u64;

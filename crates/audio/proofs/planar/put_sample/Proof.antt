@@ -22,13 +22,13 @@ unfolding bytesFor
 stored F64 bytes i x h = place-put F64 bytes i h (bytesOf 8 (toBits binary64 x)) (bytes-length 8 (toBits binary64 x))
 
 mul-put-word : tie.Need-mul-put-word
-mul-put-word c = let s = c .before .before in omega (arith, eight-room (s .args .format) (now (s .args .bytes)) (s .args .i) (s .pre))
+mul-put-word c = let s = c .before .before in omega (arith, eight-room (s .args .format) (now (s .args .bytes)) (s .args .i) (s .pre .1))
 
 to-bits-requires : tie.Need-to-bits-requires
 to-bits-requires c κs = search needs
 
 put-word-requires : tie.Need-put-word-requires
-put-word-requires c κs = let s = c .before .before .before in eight-room (s .args .format) (now (s .args .bytes)) (s .args .i) (s .pre)
+put-word-requires c κs = let s = c .before .before .before in eight-room (s .args .format) (now (s .args .bytes)) (s .args .i) (s .pre .1)
 
 same-length : tie.Need-same-length
 same-length c = search needs
@@ -39,7 +39,7 @@ returns c =
     let a = s .args in
     ap (placesOf (a .format)) (c .before .before .put-word .ensures)
     ∙ ap (λ (w : ℕ). placesOf (a .format) (put (now (a .bytes)) (8 * a .i) (bytesOf 8 w))) (c .before .before .before .to-bits .ensures)
-    ∙ stored (a .format) (now (a .bytes)) (a .i) (a .x) (s .pre)
+    ∙ stored (a .format) (now (a .bytes)) (a .i) (a .x) (s .pre .1)
 
 pub put-sample-spec : {M : Type 1} → statement M
 put-sample-spec =

@@ -1,7 +1,7 @@
 -- `scatter`: the channels passed are carried.
 use mathlib.Core.Path.{_≡_, refl, sym, subst, _∙_}
 use mathlib.Core.List.{map}
-use Prim.Native.Nat.{ℕ, _+_, _-_, _*_, _≤_, _<_}
+use Prim.Native.Nat.{ℕ, _+_, _-_, _*_, _%_, _≤_, _<_}
 use native.Mathlib.Nat.{add-zero}
 use native.Mathlib.Omega.{arith}
 use denote.Ref.{now}
@@ -9,10 +9,10 @@ use borrow.Author.Needs.{needs}
 use lib.ListN.{length}
 use lib.Ieee.{nan}
 use Rattle.arithmetic.specs.Number.{largest}
-use Rattle.audio.specs.Format.{bytesFor, placesOf}
+use Rattle.audio.specs.Format.{sampleBytes, bytesFor, placesOf}
 use Rattle.audio.specs.Inner.{PlacesCopied, PlacesCarried}
 use Rattle.audio.proofs.Carry.{places-end, carried-none, carried-more}
-use Rattle.audio.proofs.Places.{places-fit, size-same}
+use Rattle.audio.proofs.Places.{whole, places-fit, size-same}
 use Rattle.audio.proofs.Written.{size-small, carried-placed}
 use Rattle.audio.proofs.planar.scatter.Statement.{statement}
 use Rattle.audio.proofs.planar.scatter.Tie as tie
@@ -30,17 +30,18 @@ loop-holds c =
     let a = s .args in
     (omega arith, refl, carried-none (a .n) 32 0 (map (bytesFor (a .format)) (now (a .run))) (a .width) (a .first) (s .pre .1 .1 .1 .0) (placesOf (a .format) (now (a .bytes))))
 
--- the channel's places lie in the bytes
+-- the channel's places lie in the bytes, which are whole samples
 inside : (c : tie.In-loop Inv-loop μ-loop)
-    → (let a = c .before .before .before .before .args in let k = c .before .loop .c in let b = c .before .loop .bytes in (k * a .width + a .width ≤ length (placesOf (a .format) b)) × (length (placesOf (a .format) b) < largest))
+    → (let a = c .before .before .before .before .args in let k = c .before .loop .c in let b = c .before .loop .bytes in (k * a .width + a .width ≤ length (placesOf (a .format) b)) × (length (placesOf (a .format) b) < largest) × (length b % sampleBytes (a .format) ≡ 0))
 inside c =
     let l = c .before in
     let s = c .before .before .before .before in
     let a = s .args in
     let small = size-small (a .channels) (a .width) (s .pre .0) (s .pre .1 .0) in
-    let fit = places-fit (a .format) (l .loop .bytes) (a .channels * a .width) (size-same (a .format) (l .loop .bytes) (now (a .bytes)) (l .loop .inv .1) ∙ sym (s .pre .1 .1 .0)) small in
+    let size = size-same (a .format) (l .loop .bytes) (now (a .bytes)) (l .loop .inv .1) ∙ sym (s .pre .1 .1 .0) in
+    let fit = places-fit (a .format) (l .loop .bytes) (a .channels * a .width) size small in
     let e = places-end (l .loop .c) (a .channels) (a .width) (c .loop-test .taken) in
-    (omega (arith, e, fit), omega (arith, small, fit))
+    (omega (arith, e, fit), omega (arith, small, fit), whole (a .format) (l .loop .bytes) (a .channels * a .width) size small .0)
 
 mul-write-channel : tie.Need-mul-write-channel Inv-loop μ-loop
 mul-write-channel c = omega arith
@@ -52,7 +53,7 @@ add-write-channel : tie.Need-add-write-channel Inv-loop μ-loop
 add-write-channel c = let i = inside c in omega arith
 
 write-channel-requires : tie.Need-write-channel-requires Inv-loop μ-loop
-write-channel-requires c κs = let i = inside (c .before) in (omega arith, omega arith)
+write-channel-requires c κs = let i = inside (c .before) in (i .2, (omega arith, omega arith))
 
 add-c : tie.Need-add-c Inv-loop μ-loop
 add-c c = omega arith

@@ -1,13 +1,13 @@
 -- `write_channel`: the words passed are there.
 use mathlib.Core.Path.{_≡_, refl, sym, ap, subst, _∙_}
 use mathlib.Core.List.{List, map}
-use Prim.Native.Nat.{ℕ, _+_, _-_, _≤_}
+use Prim.Native.Nat.{ℕ, _+_, _-_, _%_, _≤_}
 use native.Mathlib.Omega.{arith}
 use denote.Ref.{now}
 use borrow.Author.Needs.{needs}
 use lib.ListN.{length, getD, set, length-set, List·getD-map}
 use lib.Ieee.{nan}
-use Rattle.audio.specs.Format.{bytesFor, placesOf}
+use Rattle.audio.specs.Format.{sampleBytes, bytesFor, placesOf}
 use Rattle.audio.specs.Inner.{PlacesCopied}
 use Rattle.audio.proofs.Carry.{copied-none, copied-more}
 use Rattle.audio.proofs.Places.{places-few}
@@ -36,7 +36,10 @@ shared-slice-read-put-sample : tie.Need-shared-slice-read-put-sample Inv-loop μ
 shared-slice-read-put-sample c = search needs
 
 put-sample-requires : tie.Need-put-sample-requires Inv-loop μ-loop
-put-sample-requires c κs = search needs
+put-sample-requires c κs =
+    let l = c .before .before .before in
+    let s = l .before .before .before in
+    (ap (λ (n : ℕ). n % sampleBytes (s .args .format)) (l .loop .inv .1) ∙ s .pre .0, omega arith)
 
 add-i : tie.Need-add-i Inv-loop μ-loop
 add-i c = search needs

@@ -29,7 +29,7 @@ returns c =
     let p = c .before .before .before .before in
     let r = p .before .before .before .before .before .before in
     let a = r .before .before .before .before .before .before .args in
-    p .peaks-abs .ensures ∙ ap (λ (l : List Float). peaksAbsOf taps (now (a .store)) l (now (a .run))) (r .copy-run .ensures)
+    (p .peaks-abs .ensures ∙ ap (λ (l : List Float). peaksAbsOf taps (now (a .store)) l (now (a .run))) (r .copy-run .ensures), r .copy-run .ensures)
 
 pub push-run-spec : {M : Type 1} → statement M
 push-run-spec =

@@ -13,19 +13,19 @@ gather-requires : tie.Need-gather-requires
 gather-requires c κs =
     let a = c .before .before .before .before .before .before .before .before .before .before .args in
     let p = c .before .before .before .before .before .before .before .before .before .before .pre in
-    (bounds-of (a .limiter) (p .ready .set-up) .most, (p .lends .short, (sym (p .lends .audio-fit), (p .inside, (p .short, p .lends .run-fit)))))
+    (bounds-of (a .limiter) (p .ready .set-up) .most, (p .lends .short, (sym (p .lends .audio-fit), (p .inside, (p .short, p .run-fit)))))
 
 render-requires : tie.Need-render-requires
 render-requires c κs =
     let a = c .before .before .before .before .before .before .before .before .before .before .before .before .before .before .before .before .before .before .before .args in
     let p = c .before .before .before .before .before .before .before .before .before .before .before .before .before .before .before .before .before .before .before .pre in
-    kernel-asks (a .limiter) (a .n) (storesAt (now (a .delay)) (now (a .marks)) (now (a .minima)) (now (a .weights)) (now (a .row)) (now (a .detector))) (c .before .before .before .before .before .before .before .before .gather .last .1 .1 .1 .1 .1 .1 .0) (p .ready) (p .some) (p .short) (c .before .before .before .before .before .before .before .before .gather .kept .1 .1 .1 .1 .1 .1 .0 ∙ p .lends .run-fit)
+    kernel-asks (a .limiter) (a .n) (storesAt (now (a .delay)) (now (a .marks)) (now (a .minima)) (now (a .weights)) (now (a .row)) (now (a .detector))) (c .before .before .before .before .before .before .before .before .gather .last .1 .1 .1 .1 .1 .1 .0) (p .ready) (p .some) (p .short) (c .before .before .before .before .before .before .before .before .gather .kept .1 .1 .1 .1 .1 .1 .0 ∙ p .run-fit)
 
 scatter-requires : tie.Need-scatter-requires
 scatter-requires c κs =
     let a = c .before .before .before .before .before .before .before .before .before .before .before .before .before .before .before .before .before .before .before .before .before .before .before .before .before .before .before .before .before .before .before .before .before .before .args in
     let p = c .before .before .before .before .before .before .before .before .before .before .before .before .before .before .before .before .before .before .before .before .before .before .before .before .before .before .before .before .before .before .before .before .before .before .pre in
-    (bounds-of (a .limiter) (p .ready .set-up) .most, (p .lends .short, (sym (p .lends .audio-fit), (omega (arith, p .inside), (omega (arith, p .short), c .before .before .before .before .before .before .before .before .before .before .before .before .before .before .render .kept .1 .1 .1 .1 .0 ∙ c .before .before .before .before .before .before .before .before .before .before .before .before .before .before .before .before .before .before .before .before .before .before .before .gather .kept .1 .1 .1 .1 .1 .1 .0 ∙ p .lends .run-fit)))))
+    (bounds-of (a .limiter) (p .ready .set-up) .most, (p .lends .short, (sym (p .lends .audio-fit), (omega (arith, p .inside), (omega (arith, p .short), c .before .before .before .before .before .before .before .before .before .before .before .before .before .before .render .kept .1 .1 .1 .1 .0 ∙ c .before .before .before .before .before .before .before .before .before .before .before .before .before .before .before .before .before .before .before .before .before .before .before .gather .kept .1 .1 .1 .1 .1 .1 .0 ∙ p .run-fit)))))
 
 same-length : tie.Need-same-length
 same-length c = search needs

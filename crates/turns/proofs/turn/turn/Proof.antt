@@ -74,7 +74,7 @@ returns c =
     let r = c .before .before .before .before .before .before .before .before .before .before .before .before .before .before .render-frames in
     let o = r .last .1 .1 .1 .1 .1 .1 in
     turn-given (machine s) (a .block) (a .format) (now (a .events)) (now (a .audio)) (now (a .run)) (s .pre) (n .result) (n .ensures) (b .result) (b .ensures .1) (b .ensures .0) (t .result) (t .ensures) (r .result)
-    (storesAt (o .1 .1 .0) (o .1 .1 .1 .0) (o .1 .1 .1 .1 .0) (now (a .weights)) (o .1 .1 .1 .1 .1 .1 .0) (o .1 .1 .1 .1 .1 .1 .1 .0)) (o .0) (r .ensures)
+    (storesAt (o .1 .1 .0) (o .1 .1 .1 .0) (o .1 .1 .1 .1 .0) (now (a .weights)) (o .1 .1 .1 .1 .1 .1 .0) (o .1 .1 .1 .1 .1 .1 .1 .0)) (o .0) (o .1 .0) (r .ensures)
 
 pub turn-spec : {M : Type 1} → statement M
 turn-spec =

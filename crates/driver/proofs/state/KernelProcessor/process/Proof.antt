@@ -1,5 +1,4 @@
 -- `process`: refused, or the turns.
-use native.Mathlib.Omega.{arith}
 use borrow.Author.Needs.{needs}
 use denote.Ref.{now}
 use Rattle.limiter.specs.Stores.{storesAt}
@@ -51,21 +50,14 @@ returns c =
     let f = c .before .is-finished in
     block-left (a .format) (machine s) (a .position) (a .frames) (eventsOf (now (a .events))) (now (a .audio)) (z .result) (z .ensures) (answerReply (j .result)) (j .ensures) (f .result) (f .ensures) (c .if1 .taken)
 
-run-room-requires : tie.Need-run-room-requires
-run-room-requires c κs = tt
-
-slice-aggregate-drive : tie.Need-slice-aggregate-drive
-slice-aggregate-drive c = omega arith
-
 drive-requires : tie.Need-drive-requires
 drive-requires c κs =
-    let s = c .before .before .before .before .before .before .before .before .before .before .before .before .before .before .before .before .before .before .before .before .before .before .before .before .before .before .before .before in
+    let s = c .before .before .before .before .before .before .before .before .before .before .before .before .before .before .before .before .before .before .before .before .before .before .before .before .before .before in
     let a = s .args in
-    let z = c .before .before .before .before .before .before .before .before .before .before .before .before .before .before .before .before .before .before .size-of in
-    let j = c .before .before .before .before .before .before .before .before .before .before .before .before .judge-block in
-    let f = c .before .before .before .before .before .before .before .before .before .before .before .is-finished in
-    let room = c .before .before .before .before .before .before .before .run-room in
-    block-asks (a .format) (machine s) (a .position) (a .frames) (eventsOf (now (a .events))) (now (a .audio)) (z .result) (z .ensures) (answerReply (j .result)) (j .ensures) (f .result) (f .ensures) (room .result) (room .ensures) (c .before .before .before .before .before .before .before .before .before .before .if1 .left)
+    let z = c .before .before .before .before .before .before .before .before .before .before .before .before .before .before .before .before .size-of in
+    let j = c .before .before .before .before .before .before .before .before .before .before .judge-block in
+    let f = c .before .before .before .before .before .before .before .before .before .is-finished in
+    block-asks (a .format) (machine s) (a .position) (a .frames) (eventsOf (now (a .events))) (now (a .audio)) (z .result) (z .ensures) (answerReply (j .result)) (j .ensures) (f .result) (f .ensures) (c .before .before .before .before .before .before .before .before .if1 .left)
 
 same-length-7 : tie.Need-same-length-7
 same-length-7 c = search needs
@@ -87,17 +79,17 @@ same-length-12 c = search needs
 
 returns-2 : tie.Need-returns-2
 returns-2 c =
-    let s = c .before .before .before .before .before .before .before .before .before .before .before .before .before .before .before .before .before .before .before .before .before .before .before .before .before .before .before .before .before .before .before .before .before .before .before .before .before .before .before .before .before .before .before .before in
+    let s = c .before .before .before .before .before .before .before .before .before .before .before .before .before .before .before .before .before .before .before .before .before .before .before .before .before .before .before .before .before .before .before .before .before .before .before .before .before .before .before .before .before in
     let a = s .args in
-    let z = c .before .before .before .before .before .before .before .before .before .before .before .before .before .before .before .before .before .before .before .before .before .before .before .before .before .before .before .before .before .before .before .before .before .before .size-of in
-    let j = c .before .before .before .before .before .before .before .before .before .before .before .before .before .before .before .before .before .before .before .before .before .before .before .before .before .before .before .before .judge-block in
-    let f = c .before .before .before .before .before .before .before .before .before .before .before .before .before .before .before .before .before .before .before .before .before .before .before .before .before .before .before .is-finished in
-    let d = c .before .before .before .before .before .before .before .before .before .before .before .before .before .before .before .drive in
+    let z = c .before .before .before .before .before .before .before .before .before .before .before .before .before .before .before .before .before .before .before .before .before .before .before .before .before .before .before .before .before .before .before .size-of in
+    let j = c .before .before .before .before .before .before .before .before .before .before .before .before .before .before .before .before .before .before .before .before .before .before .before .before .before .judge-block in
+    let f = c .before .before .before .before .before .before .before .before .before .before .before .before .before .before .before .before .before .before .before .before .before .before .before .before .is-finished in
+    let d = c .before .before .before .before .before .before .before .before .before .before .before .before .before .before .drive in
     let o = d .last .1 .1 .1 .1 .1 .1 in
     block-finished (a .format) (machine s) (a .position) (a .frames) (eventsOf (now (a .events))) (now (a .audio)) (z .result) (z .ensures) (answerReply (j .result)) (j .ensures) (f .result) (f .ensures)
-    (machineOf (d .result .limiter) (d .result .bank) (storesAt (o .1 .1 .0) (o .1 .1 .1 .0) (o .1 .1 .1 .1 .0) (now (a .weights)) (o .1 .1 .1 .1 .1 .1 .0) (o .1 .1 .1 .1 .1 .1 .1 .0))) (o .0) (c .before .before .before .before .before .before .before .before .before .before .before .before .before .before .before .before .before .before .before .before .before .before .before .before .before .before .if1 .left) (d .ensures .0) (d .ensures .1)
+    (machineOf (d .result .limiter) (d .result .bank) (storesAt (o .1 .0) (o .1 .1 .0) (o .1 .1 .1 .0) (now (a .weights)) (o .1 .1 .1 .1 .1 .0) (o .1 .1 .1 .1 .1 .1 .0))) (o .0) (c .before .before .before .before .before .before .before .before .before .before .before .before .before .before .before .before .before .before .before .before .before .before .before .if1 .left) (d .ensures .0) (d .ensures .1)
 
 pub process-spec : {M : Type 1} → statement M
 process-spec =
     tie.close
-    (tie.spec size-of-requires judge-block-requires is-finished-requires same-length same-length-2 same-length-3 same-length-4 same-length-5 same-length-6 returns run-room-requires slice-aggregate-drive drive-requires same-length-7 same-length-8 same-length-9 same-length-10 same-length-11 same-length-12 returns-2)
+    (tie.spec size-of-requires judge-block-requires is-finished-requires same-length same-length-2 same-length-3 same-length-4 same-length-5 same-length-6 returns drive-requires same-length-7 same-length-8 same-length-9 same-length-10 same-length-11 same-length-12 returns-2)
