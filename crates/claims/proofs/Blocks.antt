@@ -25,13 +25,13 @@ use Rattle.claims.specs.Session.{block, limiting, called}
 use Rattle.claims.specs.Book.{Book, lookIn, coeffIn}
 use Rattle.claims.specs.BookCalls.{latchWhere, Joining, joiningFrom, lastTarget, blockJudged, blockEntered, enter}
 use Rattle.claims.specs.Claim.{Given}
-use Rattle.claims.proofs.Each.{renderEach}
+use Rattle.claims.proofs.Each.{renderEach, each-left}
 use Rattle.claims.proofs.Latches.{bankWith}
 use Rattle.claims.proofs.Runs.{runs-each}
 use Rattle.claims.proofs.Turned.{Holding, each-holds, each-many, each-target, each-drained}
 use Rattle.claims.proofs.Given.{outputs-back, given}
 use Rattle.claims.proofs.Joining.{joining-many, joining-fit, events-set, where-sound, joining-sound}
-use Rattle.claims.proofs.Calls.{Tied, tied-whole, tied-suited, tied-frames, tied-largest, tied-small, tied-renders, Never, never-later, never-finished, never-must, never-then, Done, finished-done, by-reply, grown-tied}
+use Rattle.claims.proofs.Calls.{Tied, CountedIn, tied-whole, tied-suited, tied-frames, tied-largest, tied-small, tied-renders, Never, never-later, never-finished, never-must, never-then, Done, finished-done, by-reply, grown-tied}
 
 -- ---- the reply
 never-events : (frames before index : ℕ) (events : List Event) → Never (eventsReply frames before index events .number)
@@ -43,7 +43,7 @@ never-events frames before index (e ∷ es) = go (misplaced frames before e) (ne
     go true later = never-later 21 (omega arith)
     go false later = later
 
-module _ (b : Book) (m : Machine) (t : Tied b m) (format : Format) (position frames : ℕ) (events : List Event) (bytes : List ℕ) where
+module _ (drops : ℕ) (b : Book) (m : Machine) (t : Tied b m) (n : CountedIn drops b m) (format : Format) (position frames : ℕ) (events : List Event) (bytes : List ℕ) where
   abbrev rules : Rules
   rules = rulesOf (b .settings) format
 
@@ -76,10 +76,10 @@ module _ (b : Book) (m : Machine) (t : Tied b m) (format : Format) (position fra
   outcomeOf r = record { reply = finished []; machine = r .machine; bytes = writtenBytes format frames (m .limiter .channels) frames bytes (outputsOf (r .frames)); frames = r .frames }
 
   module _ (short : frames ≤ 65536) (fit : sizeOf format bytes ≡ b .spec .channels * frames) (passed : eventsReply frames 0 0 events .number ≡ 0) (room : length (b .frames) + frames ≤ mostFrames) where
-    block-holds : Holding rules (lookIn b) (b .spec .channels) (b .weights) (coeffIn b) (m .limiter) (m .stores) (b .frames) (joined .frames) shown
+    block-holds : Holding rules (lookIn b) (b .spec .channels) (b .weights) (coeffIn b) drops (m .limiter) (m .stores) (b .frames) (joined .frames) shown
     block-holds =
-        each-holds rules (lookIn b) (b .spec .channels) (b .weights) (coeffIn b) (joined .frames) (m .limiter) (m .stores) (b .frames) (tied-suited b m t) (tied-whole b m t .kernel) (t .moving)
-        (joining-fit b position frames events audio 0 frames (b .threshold)) (omega (arith, many))
+        each-holds rules (lookIn b) (b .spec .channels) (b .weights) (coeffIn b) (joined .frames) drops (m .limiter) (m .stores) (b .frames) (tied-suited b m t) (tied-whole b m t .kernel) (t .moving)
+        (joining-fit b position frames events audio 0 frames (b .threshold)) (omega (arith, many)) n
 
     abbrev written : ℕ → List ℕ
     written channels = writtenBytes format frames channels frames bytes (outputsOf (shown .frames))
@@ -90,7 +90,7 @@ module _ (b : Book) (m : Machine) (t : Tied b m) (format : Format) (position fra
         subst (λ (k : ℕ). Given format (b .spec .channels) frames k (outputsOf (shown .frames)) bytes (written (m .limiter .channels))) (sym many)
         (subst (λ (c : ℕ). Given format (b .spec .channels) frames frames (outputsOf (shown .frames)) bytes (written c)) (sym (t .channels))
         (given format frames (b .spec .channels) frames bytes (outputsOf (shown .frames)) outputs (omega arith) fit (tied-small b m t frames short)
-        (outputs-back (b .settings) format (lookIn b) (b .spec .channels) (b .weights) (coeffIn b) (b .frames) (joined .frames) (shown .frames) (block-holds .frames))))
+        (outputs-back (b .settings) format (lookIn b) (b .spec .channels) (b .weights) (coeffIn b) drops (b .frames) (joined .frames) (shown .frames) (block-holds .frames))))
 
     block-tied : Tied (blockEntered b position frames events audio .book) (machineOf (shown .limiter) bank (shown .stores))
     unfolding blockEntered
@@ -113,17 +113,18 @@ module _ (b : Book) (m : Machine) (t : Tied b m) (format : Format) (position fra
           drained-is = each-drained rules (lookIn b) (b .spec .channels) (b .weights) (coeffIn b) (joined .frames) l (m .stores) ∙ rw (many, t .drained) refl;
         })
 
-    block-left : Done b m (block format position frames events bytes) (blockDone (rendered rules) format m position frames events bytes) (blockEntered b position frames events audio)
+    block-left : Done drops b m (block format position frames events bytes) (blockDone (rendered rules) format m position frames events bytes) (blockEntered b position frames events audio)
     unfolding blockEntered
     block-left =
         let e = blockEntered b position frames events audio in
-        subst (λ (r : RunsLeft). Done b m (block format position frames events bytes) (outcomeOf r) e)
+        subst (λ (r : RunsLeft). Done drops b m (block format position frames events bytes) (outcomeOf r) e)
         (sym (runs-each rules b position frames events audio m (drop 1 (m .bank .smoothers)) (tied-whole b m t .one .count) (t .slots) (t .channels) (t .settings) passed))
-        (finished-done b m t (block format position frames events bytes) (outcomeOf (record { machine = machineOf (shown .limiter) bank (shown .stores); frames = shown .frames })) e refl refl (block-holds .frames) block-given block-tied)
+        (finished-done drops b m t n (block format position frames events bytes) (outcomeOf (record { machine = machineOf (shown .limiter) bank (shown .stores); frames = shown .frames })) e refl refl (block-holds .frames)
+        (each-left rules (joined .frames) (m .limiter) (m .stores)) block-given block-tied (block-holds .counted))
 
   -- ---- the call
   block-finished : blockJudged b position frames events (sizeOf format bytes) .number ≡ 0
-      → Done b m (block format position frames events bytes) (blockDone (rendered rules) format m position frames events bytes) (blockEntered b position frames events audio)
+      → Done drops b m (block format position frames events bytes) (blockDone (rendered rules) format m position frames events bytes) (blockEntered b position frames events audio)
   block-finished z =
       let sizes = leb frames (b .spec .«max_block») && eqb (sizeOf format bytes) (b .spec .channels * frames) in
       let roomy = reaches position frames && leb (length (b .frames) + frames) mostFrames in
@@ -133,15 +134,15 @@ module _ (b : Book) (m : Machine) (t : Tied b m) (format : Format) (position fra
       let r = and-true (reaches position frames) (leb (length (b .frames) + frames) mostFrames) (passed-must roomy 21 (q .1)) in
       block-left (omega (arith, leb-true frames (b .spec .«max_block») (s .0), tied-largest b m t)) (eqb-true (sizeOf format bytes) (b .spec .channels * frames) (s .1)) (q .0) (leb-true (length (b .frames) + frames) mostFrames (r .1))
 
-  pub block-done : Done b m (block format position frames events bytes) (called limiting m (block format position frames events bytes)) (enter b (block format position frames events bytes))
+  pub block-done : Done drops b m (block format position frames events bytes) (called limiting m (block format position frames events bytes)) (enter b (block format position frames events bytes))
   unfolding enter blockBy
   block-done =
       let call = block format position frames events bytes in
       let sizes = leb frames (b .spec .«max_block») && eqb (sizeOf format bytes) (b .spec .channels * frames) in
       let roomy = reaches position frames && leb (length (b .frames) + frames) mostFrames in
       let doneBy : Renderer → Outcome = λ (render : Renderer). blockDone render format m position frames events bytes in
-      subst (λ (render : Renderer). Done b m call (blockBy render format m position frames events bytes) (enter b call)) (tied-renders b m t format)
-      (subst (λ (r : Reply). Done b m call (cond (eqb (r .number) 0) (doneBy (rendered rules)) (refusedAs r m bytes)) (enter b call)) (sym block-reply)
-      (by-reply b m t call (blockJudged b position frames events (sizeOf format bytes)) (doneBy (rendered rules)) (blockEntered b position frames events audio)
+      subst (λ (render : Renderer). Done drops b m call (blockBy render format m position frames events bytes) (enter b call)) (tied-renders b m t format)
+      (subst (λ (r : Reply). Done drops b m call (cond (eqb (r .number) 0) (doneBy (rendered rules)) (refusedAs r m bytes)) (enter b call)) (sym block-reply)
+      (by-reply drops b m t n call (blockJudged b position frames events (sizeOf format bytes)) (doneBy (rendered rules)) (blockEntered b position frames events audio)
       (never-then (must sizes 20) (andThen (eventsReply frames 0 0 events) (must roomy 22)) (never-must sizes 20 (omega arith))
       (never-then (eventsReply frames 0 0 events) (must roomy 22) (never-events frames 0 0 events) (never-must roomy 22 (omega arith)))) block-finished))

@@ -1,16 +1,18 @@
--- The start that the controls share: look 11, one channel, 8,000 frames a second, threshold and margin 0 dB (a target of 1), release 0 (a coefficient of 1), blocks of up to 64 frames.
+-- The two starts of the controls, both at 8,000 frames a second, threshold and margin 0 dB (a target of 1), blocks of up to 64 frames. `mono`: look 11, one channel, one weight, release 0 (a coefficient of 1).
+-- `stereo`: look 14, two channels, three weights, release 50 ms.
+use Prim.Native.Nat.{ℕ, _+_, _*_}
 use mathlib.Core.Path.{_≡_, refl, ap, subst, _∙_}
 use mathlib.Core.Bool.{true}
 use mathlib.Core.List.{List, [], _∷_}
-use lib.ListN.{replicate}
-use lib.Ieee.{ofBits, toBits, toUnsigned, lt, le, eq, ne, isNan, neg, add, sub, mul, div, ofInt}
+use lib.ListN.{length, replicate}
+use lib.Ieee.{Float, ofBits, toBits, toUnsigned, lt, le, eq, ne, isNan, neg, add, sub, mul, div, ofInt}
 use Rattle.arithmetic.specs.Number
 use Rattle.arithmetic.specs.Number.{bits, one}
 use Rattle.arithmetic.specs.Exp.{expOf}
 use Rattle.audio.specs.Bytes.{wordOf, bytesOf, cut, joined}
 use Rattle.audio.specs.Planar.{frameAt, framesAt, written}
 use Rattle.audio.specs.Format.{sampleOf, bytesFor, sizeOf, placesOf, writtenBytes}
-use Rattle.detector.specs.Oversample.{peakAbsOf, detected, shifted, sumsOf, sumOf, sumFrom, larger, largestFrom, largestOf}
+use Rattle.detector.specs.Oversample.{remembered, peakAbsOf, detected, shifted, sumsOf, sumOf, sumFrom, larger, largestFrom, largestOf}
 use Rattle.detector.specs.Taps.{taps, phase0, phase1, phase2, phase3}
 use Rattle.detector.specs.History.{latest}
 use Rattle.keeper.specs.InOrder
@@ -19,6 +21,7 @@ use Rattle.envelope.specs.Row.{pushed, rowInOrder}
 use Rattle.envelope.specs.Mean.{meanOf}
 use Rattle.envelope.specs.Follow.{followed}
 use Rattle.envelope.specs.Step.{gainStepOf}
+use Rattle.settings.specs.Derived.{lookOf, coefficientOf}
 use Rattle.settings.specs.Settings.{settingsOf, processSpec}
 use Rattle.settings.specs.Target.{targetOf}
 use Rattle.settings.specs.Weights.{accepted}
@@ -30,7 +33,6 @@ use Rattle.limiter.specs.Stores.{Stores, storesAt}
 use Rattle.limiter.specs.Prepare.{prepareOf}
 use Rattle.limiter.specs.Order
 use Rattle.limiter.specs.Reset
-use Rattle.limiter.specs.declared.state.Limiter.{Limiter}
 use Rattle.bank.specs.Param.{faultOf}
 use Rattle.bank.specs.Smoother.{vacant, stepsOf, coeffOf, smootherOf, derived, slotPrepared, targetSet, immediateSet, stepped, resetOne}
 use Rattle.bank.specs.Bank
@@ -49,9 +51,10 @@ use Rattle.turns.specs.Drain.{drainReply, drainBy}
 use Rattle.driver.specs.Calls
 use Rattle.driver.specs.Calls.{Left, setupOf, parameterReply, parameterOf}
 use Rattle.claims.specs.Session.{Call, Limiting}
-use Rattle.claims.specs.Book.{Book, between, peakFrom, requiredOf, floorsOf, attackRow, notOne, gainAfter, leavingFrom}
+use Rattle.claims.specs.Book.{Book, between, peakFrom, requiredOf, floorsOf, keptFrom, keptIn, attackRow, notOne, gainAfter, leavingFrom}
 use Rattle.claims.specs.BookCalls.{openedNew, enter, blockEntered, drainEntered, joiningFrom, thresholdAt, latchWhere, samplesFrom, joinAll, lastTarget}
 use Rattle.claims.specs.Claim.{Claim, Holds}
+use Rattle.claims.specs.GainSteps.{GainStepping, GainsHold, GainClaim}
 
 -- ---- what an `unfolding` line names, so that calls compute
 unfoldable numbers : Type 0
@@ -87,36 +90,37 @@ calling = ⊥
 
 -- the book's share in it
 unfoldable pub booking : Type 0
-unfolding enter blockEntered drainEntered joiningFrom thresholdAt latchWhere samplesFrom joinAll lastTarget between latest peakFrom requiredOf floorsOf attackRow notOne gainAfter leavingFrom
+unfolding enter blockEntered drainEntered joiningFrom thresholdAt latchWhere samplesFrom joinAll lastTarget between latest peakFrom requiredOf floorsOf keptFrom keptIn attackRow notOne gainAfter leavingFrom
 booking = ⊥
 
--- ---- the start
--- 1.375 ms
-abbrev pub settings11 : LimiterSettings
-settings11 = settingsOf Number.zero Number.zero (bits 0x3ff6_0000_0000_0000) Number.zero
+-- a setup
+unfoldable setting : Type 0
+unfolding numbers setupOf prepareOf accepted setUpOf declaredReply firstFault faultOf slotsOf smootherOf stepsOf coeffOf
+setting = ⊥
 
-abbrev pub spec11 : ProcessSpec
-spec11 = processSpec 8000 1 64 Cap.Unlimited
+-- ---- a start: what is set up, and look and release coefficient that follow
+pub record Start : Type 0 where
+  pub lookahead : Float
+  pub release : Float
+  pub channels : ℕ
+  pub weights : List Float
+  pub look : ℕ
+  pub coeff : Float
 
-abbrev pub stores11 : Stores
-stores11 = storesAt (replicate 11 Number.zero) (replicate 12 0) (replicate 12 Number.zero) (one ∷ []) (one ∷ []) (replicate 12 Number.zero)
+abbrev pub settingsIn : Start → LimiterSettings
+settingsIn s = settingsOf Number.zero Number.zero (s .lookahead) (s .release)
+
+abbrev pub specIn : Start → ProcessSpec
+specIn s = processSpec 8000 (s .channels) 64 Cap.Unlimited
+
+abbrev pub storesIn : Start → Stores
+storesIn s =
+    storesAt (replicate (s .channels * s .look) Number.zero) (replicate (s .look + 1) 0) (replicate (s .look + 1) Number.zero) (s .weights) (replicate (length (s .weights)) one)
+    (replicate (s .channels * remembered) Number.zero)
 
 -- what setup leaves, written out
-abbrev pub limiter11 : Limiter
-limiter11 = record {
-  settings = settings11;
-  rate = 8000;
-  channels = 1;
-  «max_block» = 64;
-  «release_coeff» = one;
-  env = freshEnvelope 11;
-  «delay_pos» = 0;
-  target = one;
-  drained = 0;
-}
-
-abbrev pub threshold11 : Smoother
-threshold11 = record {
+abbrev pub thresholdIn : Smoother
+thresholdIn = record {
   id = 0;
   cur = Number.zero;
   target = Number.zero;
@@ -131,40 +135,85 @@ threshold11 = record {
   «smoothing_ms» = fiveMs;
 }
 
-abbrev pub bank11 : SmootherBank
-bank11 = record { smoothers = threshold11 ∷ vacant ∷ vacant ∷ vacant ∷ vacant ∷ vacant ∷ vacant ∷ vacant ∷ []; count = 1; rate = 8000; ready = true }
+abbrev pub bankIn : SmootherBank
+bankIn = record { smoothers = thresholdIn ∷ vacant ∷ vacant ∷ vacant ∷ vacant ∷ vacant ∷ vacant ∷ vacant ∷ []; count = 1; rate = 8000; ready = true }
 
-abbrev pub start : Machine
-start = machineOf limiter11 bank11 stores11
+abbrev pub machineIn : Start → Machine
+machineIn s =
+    machineOf (record {
+      settings = settingsIn s;
+      rate = 8000;
+      channels = s .channels;
+      «max_block» = 64;
+      «release_coeff» = s .coeff;
+      env = freshEnvelope (s .look);
+      «delay_pos» = 0;
+      target = one;
+      drained = 0;
+    }) bankIn (storesIn s)
 
-abbrev pub startBook : Book
-startBook = record {
-  settings = settings11;
-  spec = spec11;
-  weights = one ∷ [];
-  threshold = threshold11;
+abbrev pub bookIn : Start → Book
+bookIn s = record {
+  settings = settingsIn s;
+  spec = specIn s;
+  weights = s .weights;
+  threshold = thresholdIn;
   target = one;
   drained = 0;
   frames = [];
 }
 
-start-reply : setupOf settings11 spec11 stores11 .reply .number ≡ 0
-unfolding setupOf prepareOf accepted setUpOf declaredReply firstFault faultOf numbers
-start-reply = refl
+-- that setup leaves it so
+record Starts (s : Start) : Type 0 where
+  reply : setupOf (settingsIn s) (specIn s) (storesIn s) .reply .number ≡ 0
+  machine : setupOf (settingsIn s) (specIn s) (storesIn s) .machine ≡ machineIn s
+  book : openedNew (settingsIn s) (specIn s) (s .weights) ≡ bookIn s
 
-start-machine : setupOf settings11 spec11 stores11 .machine ≡ start
-unfolding setupOf prepareOf accepted setUpOf declaredReply firstFault faultOf slotsOf smootherOf stepsOf coeffOf numbers
-start-machine = refl
+-- a limiter that sets up as it should
+abbrev pub SetsUp : Start → Limiting → Type 0
+SetsUp s l = l .setups (settingsIn s) (specIn s) (storesIn s) ≡ setupOf (settingsIn s) (specIn s) (storesIn s)
 
-start-book : openedNew settings11 spec11 (one ∷ []) ≡ startBook
-unfolding smootherOf stepsOf coeffOf numbers
-start-book = refl
+-- any list of calls after a start
+from : (s : Start) → Starts s → (l : Limiting) → SetsUp s l → Claim l → (calls : List Call) → Holds l 0 (bookIn s) (machineIn s) calls
+from s starts l same claim calls =
+    let set-up = l .setups (settingsIn s) (specIn s) (storesIn s) in
+    subst (λ (m : Machine). Holds l 0 (bookIn s) m calls) (ap (λ (r : Left). r .machine) same ∙ starts .machine)
+    (subst (λ (b : Book). Holds l 0 b (set-up .machine) calls) (starts .book)
+    (claim .after-setup (settingsIn s) (specIn s) (storesIn s) (ap (λ (r : Left). r .reply .number) same ∙ starts .reply) calls))
 
--- any list of calls after this start, which is the same in each control
-pub from : (l : Limiting) → l .setups settings11 spec11 stores11 ≡ setupOf settings11 spec11 stores11 → Claim l → (calls : List Call)
-    → Holds l startBook start calls
-from l same claim calls =
-    let set-up = l .setups settings11 spec11 stores11 in
-    subst (λ (m : Machine). Holds l startBook m calls) (ap (λ (r : Left). r .machine) same ∙ start-machine)
-    (subst (λ (b : Book). Holds l b (set-up .machine) calls) start-book
-    (claim .after-setup settings11 spec11 stores11 (ap (λ (r : Left). r .reply .number) same ∙ start-reply) calls))
+-- ---- the two
+-- 1.375 ms
+abbrev pub mono : Start
+mono = record { lookahead = bits 0x3ff6_0000_0000_0000; release = Number.zero; channels = 1; weights = one ∷ []; look = 11; coeff = one }
+
+-- 1.75 ms, 50 ms; 0.25, 0.5, 0.25 + 2^-50: the ends differ, so that reading them in reverse shows
+abbrev pub stereo : Start
+stereo = record {
+  lookahead = bits 0x3ffc_0000_0000_0000;
+  release = bits 0x4049_0000_0000_0000;
+  channels = 2;
+  weights = bits 0x3fd0_0000_0000_0000 ∷ bits 0x3fe0_0000_0000_0000 ∷ bits 0x3fd0_0000_0000_0010 ∷ [];
+  look = 14;
+  coeff = bits 0x3f64_7454_f4a4_0900;
+}
+
+mono-starts : Starts mono
+unfolding setting
+mono-starts = record { reply = refl; machine = refl; book = refl }
+
+stereo-starts : Starts stereo
+unfolding setting
+stereo-starts = record { reply = refl; machine = refl; book = refl }
+
+pub after-mono : (l : Limiting) → SetsUp mono l → Claim l → (calls : List Call) → Holds l 0 (bookIn mono) (machineIn mono) calls
+after-mono = from mono mono-starts
+
+pub after-stereo : (l : Limiting) → SetsUp stereo l → Claim l → (calls : List Call) → Holds l 0 (bookIn stereo) (machineIn stereo) calls
+after-stereo = from stereo stereo-starts
+
+-- any list of gains stepped after `mono`
+pub gains-after-mono : (step : GainStepping) → GainClaim step → (xs : List Float)
+    → GainsHold step (lookOf (mono .lookahead) 8000) (mono .weights) (coefficientOf (mono .release) 8000) 0 [] (machineIn mono) xs
+gains-after-mono step claim xs =
+    subst (λ (m : Machine). GainsHold step (lookOf (mono .lookahead) 8000) (mono .weights) (coefficientOf (mono .release) 8000) 0 [] m xs) (mono-starts .machine)
+    (claim .after-setup (settingsIn mono) (specIn mono) (storesIn mono) (mono-starts .reply) xs)

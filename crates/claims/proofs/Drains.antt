@@ -7,7 +7,7 @@ use native.Mathlib.Omega.{arith}
 use lib.Dec.{eqb, leb}
 use lib.ListN.{length, replicate, length-replicate, length-map}
 use lib.Ieee.{Float}
-use borrow.Author.Tests.{eqb-true, leb-true, le-leb, lt-ltb}
+use borrow.Author.Tests.{eqb-true, leb-true}
 use Rattle.arithmetic.specs.Number
 use Rattle.arithmetic.specs.Reply.{Reply, finished, count, must}
 use Rattle.arithmetic.proofs.Order.{and-true}
@@ -17,9 +17,6 @@ use Rattle.audio.specs.declared.format.Format.{Format}
 use Rattle.keeper.specs.InOrder.{mostFrames}
 use Rattle.frame.specs.Rules.{Rules, rulesOf}
 use Rattle.frame.specs.Frame.{Framed}
-use Rattle.limiter.specs.Stores.{Stores}
-use Rattle.limiter.specs.Order.{prepared, inOrder}
-use Rattle.limiter.specs.declared.state.Limiter.{Limiter}
 use Rattle.limiter.proofs.Frames.{order-is}
 use Rattle.turns.specs.Machine.{Machine, machineOf}
 use Rattle.turns.specs.Block.{Renderer, Rendered, rendered, Outcome, outputsOf, refusedAs}
@@ -30,9 +27,11 @@ use Rattle.claims.specs.Book.{Joined, Book, lookIn, coeffIn}
 use Rattle.claims.specs.BookCalls.{lastTarget, silentFrame, grown, Entry, drainJudged, drainEntered, enter}
 use Rattle.claims.specs.Claim.{Given}
 use Rattle.claims.proofs.Tied.{AllLong, joinedAt}
-use Rattle.claims.proofs.Turned.{Kernel, Holding, rendered-holds}
+use Rattle.turns.proofs.Kernel.{drained-kernel}
+use Rattle.claims.proofs.Each.{rendered-left}
+use Rattle.claims.proofs.Turned.{Holding, rendered-holds}
 use Rattle.claims.proofs.Given.{outputs-back, given}
-use Rattle.claims.proofs.Calls.{Tied, tied-whole, tied-look, tied-suited, tied-frames, tied-small, tied-renders, never-must, never-then, Done, finished-done, by-reply, grown-tied}
+use Rattle.claims.proofs.Calls.{Tied, CountedIn, tied-whole, tied-look, tied-suited, tied-frames, tied-small, tied-renders, never-must, never-then, Done, finished-done, by-reply, grown-tied}
 
 -- ---- silence
 silent-long : (channels n : ℕ) → AllLong channels (silence channels n)
@@ -49,19 +48,7 @@ unfolding lastTarget
 silent-target b zero = refl
 silent-target b (suc n) = silent-target b n
 
--- ---- another drained count, of at most look
-drained-kernel : (l : Limiter) (s : Stores) (drained : ℕ) → drained ≤ l .env .keeper .look → Kernel l s → Kernel (withDrained l drained) s
-unfolding prepared inOrder
-drained-kernel l s drained h k =
-    let o = order-is l (s .marks) (s .minima) (s .row) (k .order) in
-    let look = l .env .keeper .look in
-    record {
-      set-up = k .set-up;
-      lengths = k .lengths;
-      order = rw (o .ring-is, o .row-is, lt-ltb (l .«delay_pos») look (o .place), le-leb drained look h, o .gain-is, o .target-is) refl;
-    }
-
-module _ (b : Book) (m : Machine) (t : Tied b m) (format : Format) (frames : ℕ) (bytes : List ℕ) where
+module _ (drops : ℕ) (b : Book) (m : Machine) (t : Tied b m) (c : CountedIn drops b m) (format : Format) (frames : ℕ) (bytes : List ℕ) where
   abbrev rules : Rules
   rules = rulesOf (b .settings) format
 
@@ -98,14 +85,14 @@ module _ (b : Book) (m : Machine) (t : Tied b m) (format : Format) (frames : ℕ
   silent-is n = silent-joined (m .limiter .target) (m .limiter .channels) n ∙ rw (t .target, t .channels) refl
 
   module _ (n : ℕ) (room : length (b .frames) + n ≤ mostFrames) where
-    drain-holds : Holding rules (lookIn b) (b .spec .channels) (b .weights) (coeffIn b) (m .limiter) (m .stores) (b .frames) (replicate n (silentFrame b)) (shown n)
+    drain-holds : Holding rules (lookIn b) (b .spec .channels) (b .weights) (coeffIn b) drops (m .limiter) (m .stores) (b .frames) (replicate n (silentFrame b)) (shown n)
     drain-holds =
         let k = tied-whole b m t .kernel in
         let o = order-is (m .limiter) (m .stores .marks) (m .stores .minima) (m .stores .row) (k .order) in
         let many : length (silence (m .limiter .channels) n) ≡ n = length-replicate n (replicate (m .limiter .channels) Number.zero) in
-        subst (λ (js : List Joined). Holding rules (lookIn b) (b .spec .channels) (b .weights) (coeffIn b) (m .limiter) (m .stores) (b .frames) js (shown n)) (silent-is n)
-        (rendered-holds rules (lookIn b) (b .spec .channels) (b .weights) (coeffIn b) (silence (m .limiter .channels) n) (m .limiter .target) (m .limiter) (m .stores) (b .frames) (tied-suited b m t) k (t .moving)
-        (subst (λ (c : ℕ). AllLong c (silence (m .limiter .channels) n)) (t .channels) (silent-long (m .limiter .channels) n)) (o .target-is) (omega arith))
+        subst (λ (js : List Joined). Holding rules (lookIn b) (b .spec .channels) (b .weights) (coeffIn b) drops (m .limiter) (m .stores) (b .frames) js (shown n)) (silent-is n)
+        (rendered-holds rules (lookIn b) (b .spec .channels) (b .weights) (coeffIn b) (silence (m .limiter .channels) n) (m .limiter .target) drops (m .limiter) (m .stores) (b .frames) (tied-suited b m t) k (t .moving)
+        (subst (λ (c : ℕ). AllLong c (silence (m .limiter .channels) n)) (t .channels) (silent-long (m .limiter .channels) n)) (o .target-is) (omega arith) c)
 
     shown-many : length (outputsOf (shown n .frames)) ≡ n
     shown-many =
@@ -123,7 +110,7 @@ module _ (b : Book) (m : Machine) (t : Tied b m) (format : Format) (frames : ℕ
         subst (λ (k : ℕ). Given format (b .spec .channels) frames k (outputsOf (shown n .frames)) bytes (written (m .limiter .channels))) (sym (length-replicate n (silentFrame b)))
         (subst (λ (c : ℕ). Given format (b .spec .channels) frames n (outputsOf (shown n .frames)) bytes (written c)) (sym (t .channels))
         (given format frames (b .spec .channels) n bytes (outputsOf (shown n .frames)) shown-many few fit (tied-small b m t frames short)
-        (outputs-back (b .settings) format (lookIn b) (b .spec .channels) (b .weights) (coeffIn b) (b .frames) (replicate n (silentFrame b)) (shown n .frames) (drain-holds .frames))))
+        (outputs-back (b .settings) format (lookIn b) (b .spec .channels) (b .weights) (coeffIn b) drops (b .frames) (replicate n (silentFrame b)) (shown n .frames) (drain-holds .frames))))
 
     drain-tied : m .limiter .drained + n ≤ m .limiter .env .keeper .look → Tied (entryOf n .book) (drainLeft n .machine)
     unfolding rendered
@@ -145,16 +132,17 @@ module _ (b : Book) (m : Machine) (t : Tied b m) (format : Format) (frames : ℕ
           drained-is = rw (t .drained) refl;
         })
 
-    drain-left : n ≤ frames → frames ≤ longestDrain → m .limiter .drained + n ≤ m .limiter .env .keeper .look → sizeOf format bytes ≡ b .spec .channels * frames → Done b m (drain format frames bytes) (drainLeft n) (entryOf n)
+    drain-left : n ≤ frames → frames ≤ longestDrain → m .limiter .drained + n ≤ m .limiter .env .keeper .look → sizeOf format bytes ≡ b .spec .channels * frames → Done drops b m (drain format frames bytes) (drainLeft n) (entryOf n)
     drain-left few short most fit =
-        finished-done b m t (drain format frames bytes) (drainLeft n) (entryOf n) (rw (tied-look b m t, t .drained) refl) refl (drain-holds .frames) (drain-given few short fit) (drain-tied most)
+        finished-done drops b m t c (drain format frames bytes) (drainLeft n) (entryOf n) (rw (tied-look b m t, t .drained) refl) refl (drain-holds .frames)
+        (rendered-left rules (m .limiter .target) (silence (m .limiter .channels) n) (m .limiter) (m .stores)) (drain-given few short fit) (drain-tied most) (drain-holds .counted)
 
   -- ---- the call
   -- as many frames as the book says
   as-many : drainable (m .limiter) frames ≡ min frames (lookIn b - b .drained)
   as-many = rw (tied-look b m t, t .drained) refl
 
-  drain-finished : drainJudged b frames (sizeOf format bytes) .number ≡ 0 → Done b m (drain format frames bytes) (drainDone (rendered rules) format m frames bytes) (drainEntered b frames)
+  drain-finished : drainJudged b frames (sizeOf format bytes) .number ≡ 0 → Done drops b m (drain format frames bytes) (drainDone (rendered rules) format m frames bytes) (drainEntered b frames)
   unfolding drainEntered
   drain-finished z =
       let sizes = leb frames longestDrain && eqb (sizeOf format bytes) (b .spec .channels * frames) in
@@ -165,17 +153,17 @@ module _ (b : Book) (m : Machine) (t : Tied b m) (format : Format) (frames : ℕ
       let n = drainable (m .limiter) frames in
       let k = tied-whole b m t .kernel in
       let o = order-is (m .limiter) (m .stores .marks) (m .stores .minima) (m .stores .row) (k .order) in
-      subst (λ (j : ℕ). Done b m (drain format frames bytes) (drainLeft n) (entryOf j)) as-many
+      subst (λ (j : ℕ). Done drops b m (drain format frames bytes) (drainLeft n) (entryOf j)) as-many
       (drain-left n (omega arith) (omega arith) (leb-true frames longestDrain (q .0)) (omega (arith, o .drained-most)) (eqb-true (sizeOf format bytes) (b .spec .channels * frames) (q .1)))
 
-  pub drain-done : Done b m (drain format frames bytes) (called limiting m (drain format frames bytes)) (enter b (drain format frames bytes))
+  pub drain-done : Done drops b m (drain format frames bytes) (called limiting m (drain format frames bytes)) (enter b (drain format frames bytes))
   unfolding enter drainBy
   drain-done =
       let call = drain format frames bytes in
       let sizes = leb frames longestDrain && eqb (sizeOf format bytes) (b .spec .channels * frames) in
       let roomy = leb (length (b .frames) + frames) mostFrames in
       let doneBy : Renderer → Outcome = λ (render : Renderer). drainDone render format m frames bytes in
-      subst (λ (render : Renderer). Done b m call (drainBy render format m frames bytes) (enter b call)) (tied-renders b m t format)
-      (subst (λ (r : Reply). Done b m call (cond (eqb (r .number) 0) (doneBy (rendered rules)) (refusedAs r m bytes)) (enter b call)) (sym drain-reply)
-      (by-reply b m t call (drainJudged b frames (sizeOf format bytes)) (doneBy (rendered rules)) (drainEntered b frames)
+      subst (λ (render : Renderer). Done drops b m call (drainBy render format m frames bytes) (enter b call)) (tied-renders b m t format)
+      (subst (λ (r : Reply). Done drops b m call (cond (eqb (r .number) 0) (doneBy (rendered rules)) (refusedAs r m bytes)) (enter b call)) (sym drain-reply)
+      (by-reply drops b m t c call (drainJudged b frames (sizeOf format bytes)) (doneBy (rendered rules)) (drainEntered b frames)
       (never-then (must sizes 20) (must roomy 22) (never-must sizes 20 (omega arith)) (never-must roomy 22 (omega arith))) drain-finished))

@@ -14,6 +14,7 @@ use Rattle.limiter.specs.Run.{movingOf, envelopeOf, movedOn, storesOf}
 use Rattle.limiter.specs.declared.state.Limiter.{Limiter}
 use Rattle.turns.specs.Block.{Rendered, rendered}
 use Rattle.claims.specs.Book.{Joined}
+use Rattle.claims.specs.Claim.{movingAfter}
 
 -- what was rendered first, and then what the later frames came to
 abbrev pub andLater : Rendered → Rendered → Rendered
@@ -39,7 +40,27 @@ module _ (rules : Rules) (weights : List Float) (coeff : Float) (look : ℕ) (ta
   frames-look [] m = refl
   frames-look (xs ∷ fs) m = frames-look fs (frameOf rules weights coeff look target m xs .moving)
 
+  -- what they leave is what the last of them shows
+  pub frames-left : (fs : List (List Float)) (m : Moving)
+      → (let r = framesOf rules weights coeff look target m fs in r .moving ≡ movingAfter m (r .frames))
+  unfolding framesOf
+  frames-left [] m = refl
+  frames-left (xs ∷ fs) m = frames-left fs (frameOf rules weights coeff look target m xs .moving)
+
 module _ (rules : Rules) where
+  pub rendered-left : (target : Float) (fs : List (List Float)) (l : Limiter) (s : Stores)
+      → (let r = rendered rules l s target fs in movingOf (r .limiter) (r .stores) ≡ movingAfter (movingOf l s) (r .frames))
+  unfolding rendered
+  rendered-left target fs l s = frames-left rules (s .weights) (l .«release_coeff») (l .env .keeper .look) target fs (movingOf l s)
+
+  pub each-left : (fs : List Joined) (l : Limiter) (s : Stores)
+      → (let r = renderEach rules l s fs in movingOf (r .limiter) (r .stores) ≡ movingAfter (movingOf l s) (r .frames))
+  unfolding renderEach rendered framesOf
+  each-left [] l s = refl
+  each-left (f ∷ fs) l s =
+      let r = rendered rules l s (f .target) (f .samples ∷ []) in
+      each-left fs (r .limiter) (r .stores)
+
   -- frames in two lists, one after the other
   pub each-append : (fs gs : List Joined) (l : Limiter) (s : Stores)
       → renderEach rules l s (fs ++ gs) ≡ (let first = renderEach rules l s fs in andLater first (renderEach rules (first .limiter) (first .stores) gs))

@@ -1,4 +1,4 @@
--- The envelope over a history of required gains: its floors, its attack row, its tally, its mean and its gain are the book's.
+-- The envelope over a history of required gains: its floors, its entries kept, its attack row, its tally, its mean and its gain are the book's.
 use mathlib.Core.Path.{_≡_, refl, sym, ap, _∙_}
 use mathlib.Core.Bool.{Bool, true, false, cond, not}
 use mathlib.Core.List.{List, [], _∷_, _++_}
@@ -7,17 +7,15 @@ use native.Mathlib.Omega.{arith}
 use lib.ListN.{length, getD, take, replicate, getD-replicate, length-replicate, length-take}
 use lib.Seq.{take-take}
 use lib.Ieee.{Float, nan, eq, ne}
-use borrow.Author.Tests.{eq-eqb}
-use Rattle.arithmetic.specs.Number
 use Rattle.arithmetic.specs.Number.{one}
 use Rattle.arithmetic.specs.Sanitize.{unitGain}
 use Rattle.keeper.specs.InOrder.{mostFrames}
 use Rattle.keeper.specs.Keeper.{keepingAt, steppedOf}
 use Rattle.keeper.specs.Floor.{floorOf}
 use Rattle.keeper.proofs.Floor.{Follows, follows-start, follows-step, follows-floor, follows-ready}
-use Rattle.keeper.proofs.Step.{look-after}
+use Rattle.keeper.proofs.Step.{drops-after, look-after}
 use Rattle.envelope.specs.Row.{down, newestFirst, otherThanOne, tallyOf, rowInOrder}
-use Rattle.envelope.specs.Mean.{meanOf, weightedFrom}
+use Rattle.envelope.specs.Mean.{allOne, meanOf}
 use Rattle.envelope.specs.Step.{Enveloped, envelopedAt, gainStepOf, EnvReady}
 use Rattle.envelope.proofs.Newest.{newest-pushed}
 use Rattle.envelope.proofs.Tally.{ordered, tally-newest}
@@ -26,7 +24,8 @@ use Rattle.frame.proofs.Turns.{first-of}
 use Rattle.frame.proofs.Keeps.{EnvInOrder, step-in-order}
 use Rattle.limiter.specs.State.{freshEnvelope}
 use Rattle.limiter.proofs.Ready.{ones-in-order}
-use Rattle.claims.specs.Book.{floorsOf, attackRow, notOne, gainAfter}
+use Rattle.claims.specs.Book.{floorsOf, keptIn, attackRow, notOne, gainAfter}
+use Rattle.claims.proofs.Kept.{follows-kept}
 
 -- ---- the book's row
 -- the newest floor comes first, and the row goes on as it was, without its oldest
@@ -64,19 +63,14 @@ unfolding notOne ne
 count-is [] = refl
 count-is (f ∷ fs) = counted (eq f one) (notOne fs) ∙ ap (λ (n : ℕ). otherThanOne f + n) (count-is fs)
 
--- nothing but 1: none is other than 1
-none-other : (row : List Float) → ((i : ℕ) → i < length row → eq (getD row i nan) one ≡ true) → notOne row ≡ 0
-unfolding notOne
-none-other [] all = refl
-none-other (f ∷ fs) all = rw (all 0 (omega arith)) (none-other fs (λ i h. all (suc i) (omega arith)))
-
 -- a row of nothing but 1 has a mean of exactly 1
+all-are-one : (row : List Float) → ((i : ℕ) → i < length row → eq (getD row i nan) one ≡ true) → allOne row ≡ true
+all-are-one [] all = refl
+all-are-one (f ∷ fs) all = rw (all 0 (omega arith)) (all-are-one fs (λ i h. all (suc i) (omega arith)))
+
 pub quiet : (look : ℕ) (weights gains : List Float) → ((i : ℕ) → i < rowOf look → eq (getD (attackRow look gains) i nan) one ≡ true) → meanOf weights (attackRow look gains) ≡ one
 unfolding meanOf
-quiet look weights gains all =
-    let row = attackRow look gains in
-    let none : tallyOf row ≡ 0 = sym (count-is row) ∙ none-other row (λ i h. all i (omega (arith, row-most look gains))) in
-    ap (λ (b : Bool). cond b one (weightedFrom Number.zero weights row)) (eq-eqb (tallyOf row) 0 none)
+quiet look weights gains all = rw (all-are-one (attackRow look gains) (λ i h. all i (omega (arith, row-most look gains)))) refl
 
 -- ---- the envelope and its stores have taken these gains since the start, newest first
 pub record EnvTied (look : ℕ) (weights : List Float) (coeff : Float) (e : Enveloped) (gains : List Float) : Type 0 where
@@ -91,6 +85,9 @@ pub record EnvTied (look : ℕ) (weights : List Float) (coeff : Float) (e : Enve
 module _ (look : ℕ) (weights : List Float) (coeff : Float) (e : Enveloped) (gains : List Float) (t : EnvTied look weights coeff e gains) where
   pub env-ready : length gains < mostFrames → EnvReady weights e
   env-ready h = record { keeper = follows-ready (e .keeping) gains (t .follows) h; row = t .row; weighed = t .weights-fit ∙ sym (t .row-fit) }
+
+  pub env-kept : e .keeping .keeper .len ≡ keptIn look gains
+  env-kept = follows-kept (e .keeping) gains (t .follows) ∙ ap (λ (n : ℕ). keptIn n gains) (t .look-is)
 
 -- ---- the start
 down-ones : (n m : ℕ) → n ≤ m → down (replicate m one) 0 n ≡ replicate n one
@@ -120,6 +117,7 @@ env-start look n marks minima weights coeff m v w r = record {
 -- what it shows is the book's, and it takes one gain more
 pub record StepTied (look : ℕ) (weights : List Float) (coeff : Float) (e : Enveloped) (x : Float) (gains : List Float) : Type 0 where
   pub floor : gainStepOf weights coeff e x .floor ≡ floorOf look (unitGain x) gains
+  pub dropped : gainStepOf weights coeff e x .dropped + gainStepOf weights coeff e x .env .keeping .keeper .len ≡ e .keeping .keeper .len + 1
   pub tally : gainStepOf weights coeff e x .env .rowed .state .tally ≡ notOne (attackRow look (unitGain x ∷ gains))
   pub mean : gainStepOf weights coeff e x .mean ≡ meanOf weights (attackRow look (unitGain x ∷ gains))
   pub env : EnvTied look weights coeff (gainStepOf weights coeff e x .env) (unitGain x ∷ gains)
@@ -151,6 +149,7 @@ module _ (look : ℕ) (weights : List Float) (coeff : Float) (e : Enveloped) (x 
       let o = ordered (after .rowed .state) (after .rowed .row) (step-order .row) in
       record {
         floor = step-floor;
+        dropped = drops-after (e .keeping) x (follows-ready (e .keeping) gains (t .follows) room);
         tally = o .true-tally ∙ sym (tally-newest (after .rowed .row) (after .rowed .state .pos) (omega (arith, o .place))) ∙ ap tallyOf step-newest ∙ sym (count-is (attackRow look (unitGain x ∷ gains)));
         mean = ap (meanOf weights) step-newest;
         env = record {

@@ -60,10 +60,10 @@ module _ (s : LimiterSettings) (format : Format) (look channels : ℕ) where
   leaving-back gain fs first (suc k) (suc c) = leaving-back gain fs (first + 1) k c
 
   -- so is every output of frames of which the claim holds
-  pub outputs-back : (weights : List Float) (coeff : Float) (fs js : List Joined) (shown : List Framed) → FramesHold (rulesOf s format) look channels weights coeff fs js shown → AllBack format (outputsOf shown)
-  outputs-back weights coeff fs [] [] h i c = nan-back format
-  outputs-back weights coeff fs (j ∷ js) (f ∷ shown) h zero c = rw (h .0 .outputs) (leaving-back (f .gain) (j ∷ fs) 0 channels c)
-  outputs-back weights coeff fs (j ∷ js) (f ∷ shown) h (suc i) c = outputs-back weights coeff (j ∷ fs) js shown (h .1) i c
+  pub outputs-back : (weights : List Float) (coeff : Float) (drops : ℕ) (fs js : List Joined) (shown : List Framed) → FramesHold (rulesOf s format) look channels weights coeff drops fs js shown → AllBack format (outputsOf shown)
+  outputs-back weights coeff drops fs [] [] h i c = nan-back format
+  outputs-back weights coeff drops fs (j ∷ js) (f ∷ shown) h zero c = rw (h .0 .outputs) (leaving-back (f .gain) (j ∷ fs) 0 channels c)
+  outputs-back weights coeff drops fs (j ∷ js) (f ∷ shown) h (suc i) c = outputs-back weights coeff (drops + f .dropped) (j ∷ fs) js shown (h .1) i c
 
 -- ---- outputs in their samples' places
 module _ (format : Format) (width channels n : ℕ) (bytes : List ℕ) (outputs : List (List Float)) (m : length outputs ≡ n) (short : n ≤ width) (fit : sizeOf format bytes ≡ channels * width)

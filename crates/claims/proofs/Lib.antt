@@ -1,6 +1,7 @@
 -- The claim's proof, in the order in which it goes, the controls and the starred rows.
 pub mod Peaks
 pub mod Delays
+pub mod Kept
 pub mod Floors
 pub mod Leaving
 pub mod Tied
@@ -16,8 +17,14 @@ pub mod Starts
 pub mod Drains
 pub mod Blocks
 pub mod Setups
+pub mod Table
+pub mod TableEdges
+pub mod Refused
 pub mod Claimed
+pub mod GainSteps
 pub mod ControlsStart
 pub mod ControlsRight
 pub mod Controls
+pub mod SetupControls
+pub mod Lent
 pub mod Rows

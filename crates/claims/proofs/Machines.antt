@@ -29,7 +29,7 @@ use Rattle.bank.proofs.Prepared.{faultless}
 use Rattle.bank.proofs.Ramp.{range-of, stepped-is, true→T}
 use Rattle.turns.specs.Machine.{Machine, thresholdOf, declares, prepared, targetInRange, inOrder, fits, readyRefusal, resetRefusal}
 use Rattle.driver.proofs.Judged.{prepared-is}
-use Rattle.claims.proofs.Turned.{Kernel}
+use Rattle.turns.proofs.Kernel.{Kernel}
 
 -- ---- the threshold's smoother: what 18 and 19 ask of it
 pub record Declared (rate : ℕ) (settings : LimiterSettings) (t : Smoother) : Type 0 where

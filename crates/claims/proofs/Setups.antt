@@ -34,7 +34,8 @@ use Rattle.bank.proofs.Prepared.{set-up-prepared}
 use Rattle.turns.specs.Machine.{Machine, machineOf, lowest, fiveMs, thresholdParam, declares}
 use Rattle.driver.specs.Calls.{budgetReply, withRest, setupOf}
 use Rattle.claims.specs.BookCalls.{openedNew}
-use Rattle.claims.proofs.Turned.{Kernel, deep-enough}
+use Rattle.turns.proofs.Kernel.{Kernel}
+use Rattle.claims.proofs.Turned.{deep-enough}
 use Rattle.claims.proofs.Machines.{Declared, Sound, default-inside, OneParameter, one-prepared, whole-ready}
 use Rattle.claims.proofs.Calls.{Tied}
 use Rattle.claims.proofs.Starts.{fresh-tied}
@@ -159,3 +160,6 @@ module _ (s : LimiterSettings) (spec : ProcessSpec) (stores : Stores) (z : setup
 
   pub setup-tied : Tied (openedNew s spec (stores .weights)) (setupOf s spec stores .machine)
   setup-tied = subst (λ (m : Machine). Tied (openedNew s spec (stores .weights)) m) (sym setup-machine) start-tied
+
+  pub setup-filled : setupOf s spec stores .machine .stores ≡ filled stores
+  setup-filled = ap (λ (m : Machine). m .stores) setup-machine

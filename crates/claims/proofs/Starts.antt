@@ -22,6 +22,7 @@ use Rattle.limiter.specs.State.{freshEnvelope, specOf}
 use Rattle.limiter.specs.Stores.{lengthsOf, cleared}
 use Rattle.limiter.specs.Reset
 use Rattle.limiter.specs.Reset.{resetState}
+use Rattle.limiter.specs.Run.{movingOf}
 use Rattle.limiter.specs.Order.{inOrder}
 use Rattle.limiter.specs.declared.state.Limiter.{Limiter}
 use Rattle.limiter.proofs.Judge.{Fit, fit}
@@ -34,13 +35,15 @@ use Rattle.driver.specs.Calls.{settled, resetDone, resetOf}
 use Rattle.claims.specs.Session.{reset, silently, limiting, called}
 use Rattle.claims.specs.Book.{Book, requiredOf}
 use Rattle.claims.specs.BookCalls.{opened, reopened, enter}
+use Rattle.claims.specs.Claim.{movingAfresh}
 use Rattle.claims.proofs.Peaks.{detector-start}
 use Rattle.claims.proofs.Delays.{delay-start}
 use Rattle.claims.proofs.Floors.{env-start}
 use Rattle.claims.proofs.Tied.{MovingTied}
-use Rattle.claims.proofs.Turned.{Kernel, deep-enough}
+use Rattle.turns.proofs.Kernel.{Kernel}
+use Rattle.claims.proofs.Turned.{deep-enough}
 use Rattle.claims.proofs.Machines.{OneParameter, SetUp, reset-sound, first-slot, set-up-of, whole-ready, whole-resets}
-use Rattle.claims.proofs.Calls.{Tied, tied-whole, Done, finished-done, no-audio}
+use Rattle.claims.proofs.Calls.{Tied, tied-whole, CountedIn, Done, finished-done, no-audio}
 
 -- ---- nothing taken yet, whatever marks and minima hold
 module _ (linking : Linking) (look channels : ℕ) (marks : List ℕ) (minima weights : List Float) (coeff : Float) (d r k : ℕ) where
@@ -133,6 +136,10 @@ module _ (m : Machine) (passed : resetRefusal m ≡ 0) where
   reset-first : thresholdOf (allChanged resetOne (m .bank)) ≡ resetOne (thresholdOf (m .bank))
   reset-first = first-slot (resetOne (thresholdOf (m .bank))) (allChanged resetOne (m .bank)) (reset-one .slots)
 
+  pub reset-cleared : resetOf m .machine .stores ≡ cleared (m .stores)
+  unfolding resetOf Reset.resetOf
+  reset-cleared = rw passed refl
+
   pub reset-threshold : thresholdOf (resetOf m .machine .bank) ≡ resetOne (thresholdOf (m .bank))
   unfolding resetOf
   reset-threshold = rw passed reset-first
@@ -145,15 +152,25 @@ module _ (m : Machine) (passed : resetRefusal m ≡ 0) where
       (subst (λ (s : Smoother). Tied (opened (m .limiter .settings) (specOf (m .limiter)) (m .stores .weights) s) (resetDone m)) (sym reset-first) (reset-tied Cap.Unlimited))
 
 -- ---- the call, on state and stores that are tied to the book
-module _ (b : Book) (m : Machine) (t : Tied b m) where
+module _ (drops : ℕ) (b : Book) (m : Machine) (t : Tied b m) (n : CountedIn drops b m) where
   reset-passed : resetRefusal m ≡ 0
   reset-passed = whole-resets m (b .threshold) (tied-whole b m t)
 
   reset-reopened : opened (m .limiter .settings) (specWith (m .limiter) (b .spec .cap)) (m .stores .weights) (resetOne (thresholdOf (m .bank))) ≡ reopened b
   reset-reopened = rw (t .settings, t .rate, t .channels, t .largest, t .weights, first-slot (b .threshold) (m .bank) (t .slots)) refl
 
-  pub reset-done : Done b m reset (called limiting m reset) (enter b reset)
+  -- a start: no drop, no entry, no frame
+  reset-counted : CountedIn 0 (reopened b) (resetDone m)
+  unfolding Reset.resetOf
+  reset-counted = refl
+
+  -- starting values
+  reset-left : movingOf (resetDone m .limiter) (resetDone m .stores) ≡ movingAfresh b (m .stores)
+  unfolding Reset.resetOf
+  reset-left = rw (t .settings, t .rate) refl
+
+  pub reset-done : Done drops b m reset (called limiting m reset) (enter b reset)
   unfolding enter resetOf
   reset-done =
-      subst (λ (n : ℕ). Done b m reset (silently (settled (numbered n) (resetDone m) m)) (enter b reset)) (sym reset-passed)
-      (finished-done b m t reset _ (enter b reset) refl refl tt (no-audio b) (subst (λ (c : Book). Tied c (resetDone m)) reset-reopened (reset-tied m reset-passed (b .spec .cap))))
+      subst (λ (n : ℕ). Done drops b m reset (silently (settled (numbered n) (resetDone m) m)) (enter b reset)) (sym reset-passed)
+      (finished-done drops b m t n reset _ (enter b reset) refl refl tt reset-left (no-audio b) (subst (λ (c : Book). Tied c (resetDone m)) reset-reopened (reset-tied m reset-passed (b .spec .cap))) reset-counted)

@@ -17,10 +17,10 @@ use Rattle.frame.proofs.Keeps.{frame-gain}
 use Rattle.envelope.proofs.Gain.{next-inside}
 use Rattle.claims.specs.Book.{Joined, requiredOf, floorsOf, attackRow, notOne, gainAfter}
 use Rattle.claims.specs.BookCalls.{joinAll}
-use Rattle.claims.specs.Claim.{FrameHolds, FramesHold}
+use Rattle.claims.specs.Claim.{FrameHolds, FramesHold, droppedIn}
 use Rattle.claims.proofs.Peaks.{DetectorTied, detector-step}
 use Rattle.claims.proofs.Delays.{DelayTied, delay-step}
-use Rattle.claims.proofs.Floors.{EnvTied, StepTied, env-step, quiet, floors-first}
+use Rattle.claims.proofs.Floors.{EnvTied, StepTied, env-kept, env-step, quiet, floors-first}
 use Rattle.claims.proofs.Leaving.{required-length, frames-leaving}
 
 pub record MovingTied (linking : Linking) (look channels : ℕ) (weights : List Float) (coeff : Float) (mv : Moving) (fs : List Joined) : Type 0 where
@@ -28,6 +28,10 @@ pub record MovingTied (linking : Linking) (look channels : ℕ) (weights : List 
   pub detector : DetectorTied channels (mv .detector) fs
   pub delay : DelayTied look channels (mv .pos) (mv .delay) fs
   pub place : mv .pos < look
+
+-- drops since the start and entries kept are the frames taken
+abbrev pub Counted : ℕ → Moving → List Joined → Type 0
+Counted drops mv fs = drops + mv .env .keeping .keeper .len ≡ length fs
 
 -- the samples of a frame at a target
 abbrev pub joinedAt : Float → List Float → Joined
@@ -66,9 +70,14 @@ module _ (rules : Rules) (look channels : ℕ) (weights : List Float) (coeff tar
           place = next-inside look (mv .pos) (t .place);
         }
 
-    pub frame-holds : 11 ≤ look → length fs < mostFrames → FrameHolds rules look channels weights coeff (joinedAt target xs ∷ fs) stepped-to
+    -- each frame comes in once
+    pub frame-counted : (drops : ℕ) → length fs < mostFrames → Counted drops mv fs → Counted (drops + stepped-to .dropped) (stepped-to .moving) (joinedAt target xs ∷ fs)
     unfolding frameOf
-    frame-holds deep room =
+    frame-counted drops room c = omega (arith, frame-env room .dropped)
+
+    pub frame-holds : (drops : ℕ) → 11 ≤ look → length fs < mostFrames → Counted drops mv fs → FrameHolds rules look channels weights coeff drops (joinedAt target xs ∷ fs) stepped-to
+    unfolding frameOf
+    frame-holds drops deep room c =
         let j = joinedAt target xs in
         let s = frame-env room in
         let g = gainStepOf weights coeff (mv .env) asked in
@@ -76,6 +85,8 @@ module _ (rules : Rules) (look channels : ℕ) (weights : List Float) (coeff tar
         let mean : g .mean ≡ meanOf weights (attackRow look gains) = subst (λ (gs : List Float). g .mean ≡ meanOf weights (attackRow look gs)) required-is (s .mean) in
         record {
           floor = subst (λ (gs : List Float). g .floor ≡ getD (floorsOf look gs) 0 nan) required-is (s .floor ∙ sym (floors-first look (unitGain asked) (requiredOf (rules .linking) channels fs)));
+          kept = env-kept look weights coeff (g .env) gains (frame-tied room .env);
+          dropped = frame-counted drops room c;
           tally = subst (λ (gs : List Float). g .env .rowed .state .tally ≡ notOne (attackRow look gs)) required-is (s .tally);
           gain = frame-gain rules weights coeff look target mv xs;
           mean = mean;
@@ -96,11 +107,22 @@ module _ (rules : Rules) (look channels : ℕ) (weights : List Float) (coeff tar
   frames-tied (xs ∷ xss) mv fs long room t =
       frames-tied xss (frameOf rules weights coeff look target mv xs .moving) (joinedAt target xs ∷ fs) (long .1) (omega arith) (frame-tied mv fs xs (long .0) t (omega arith))
 
-  pub frames-hold : (xss : List (List Float)) (mv : Moving) (fs : List Joined) → 11 ≤ look → AllLong channels xss → length fs + length xss ≤ mostFrames → MovingTied (rules .linking) look channels weights coeff mv fs
-      → FramesHold rules look channels weights coeff fs (map (joinedAt target) xss) (later mv xss .frames)
+  pub frames-hold : (xss : List (List Float)) (drops : ℕ) (mv : Moving) (fs : List Joined) → 11 ≤ look → AllLong channels xss → length fs + length xss ≤ mostFrames → MovingTied (rules .linking) look channels weights coeff mv fs
+      → Counted drops mv fs → FramesHold rules look channels weights coeff drops fs (map (joinedAt target) xss) (later mv xss .frames)
   unfolding framesOf
-  frames-hold [] mv fs deep long room t = tt
-  frames-hold (xs ∷ xss) mv fs deep long room t = (
-    frame-holds mv fs xs (long .0) t deep (omega arith),
-    frames-hold xss (frameOf rules weights coeff look target mv xs .moving) (joinedAt target xs ∷ fs) deep (long .1) (omega arith) (frame-tied mv fs xs (long .0) t (omega arith)),
-  )
+  frames-hold [] drops mv fs deep long room t c = tt
+  frames-hold (xs ∷ xss) drops mv fs deep long room t c =
+      let f = frameOf rules weights coeff look target mv xs in (
+        frame-holds mv fs xs (long .0) t drops deep (omega arith) c,
+        frames-hold xss (drops + f .dropped) (f .moving) (joinedAt target xs ∷ fs) deep (long .1) (omega arith) (frame-tied mv fs xs (long .0) t (omega arith)) (frame-counted mv fs xs (long .0) t drops (omega arith) c),
+      )
+
+  -- and after them
+  pub frames-counted : (xss : List (List Float)) (drops : ℕ) (mv : Moving) (fs : List Joined) → AllLong channels xss → length fs + length xss ≤ mostFrames → MovingTied (rules .linking) look channels weights coeff mv fs
+      → Counted drops mv fs → Counted (drops + droppedIn (later mv xss .frames)) (later mv xss .moving) (joinAll fs (map (joinedAt target) xss))
+  unfolding framesOf joinAll
+  frames-counted [] drops mv fs long room t c = omega arith
+  frames-counted (xs ∷ xss) drops mv fs long room t c =
+      let f = frameOf rules weights coeff look target mv xs in
+      let onward = frames-counted xss (drops + f .dropped) (f .moving) (joinedAt target xs ∷ fs) (long .1) (omega arith) (frame-tied mv fs xs (long .0) t (omega arith)) (frame-counted mv fs xs (long .0) t drops (omega arith) c) in
+      omega (arith, onward)

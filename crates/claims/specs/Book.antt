@@ -1,16 +1,17 @@
--- The book: samples, threshold, kept target and drained count of its own, and what follows from them. It has no ring, no marks or minima, no tally, no position of a row or a delay line.
+-- The book: samples, threshold, kept target and drained count of its own, and what follows from them. It has no ring, no marks or minima, no tally, no position of a row or a delay line;
+-- how many entries a ring keeps it finds by plain scan (`keptIn`).
 --
 -- What it shares with the limiter are the rules of what was set up and of the call's sample type (`rulesOf`: taps, which channels count, output rule), formulas of document 01 on plain arguments, and the table:
 --   setup: lookOf, rowOf, coefficientOf, targetOf, thresholdParam
 --   a frame's peak and required gain: sumsOf and largestOf (the detector), heard, requiredGain, unitGain, finiteOrZero
---   mean and gain: meanOf (over the book's row and the lent weights; it tells a row of nothing but 1 by `tallyOf`, which equals `notOne`: `count-is`, proofs/Floors.antt), followed
+--   mean and gain: meanOf (over the book's row and the lent weights; it looks at the row's floors, at no tally), followed
 --   the threshold: smootherOf, targetSet, immediateSet, stepped, resetOne
 --   the table's refusals: eventsReply, reaches, the limits
 use Prim.Native.Nat.{ℕ, zero, suc, _+_}
 use mathlib.Core.Bool.{cond}
 use mathlib.Core.List.{List, [], _∷_, _++_, map}
 use lib.ListN.{take, getD, replicate}
-use lib.Ieee.{Float, binary64, mul, eq}
+use lib.Ieee.{Float, binary64, mul, eq, lt}
 use Rattle.arithmetic.specs.Number
 use Rattle.arithmetic.specs.Number.{one}
 use Rattle.arithmetic.specs.Sanitize.{finiteOrZero, unitGain}
@@ -65,7 +66,7 @@ unfoldable pub peakFrom : Linking → ℕ → ℕ → Float → List Joined → 
 peakFrom linking c zero peak fs = peak
 peakFrom linking c (suc k) peak fs = peakFrom linking (c + 1) k (heard (linking .counts c) peak (getD (channelOf c fs) 0 Number.zero) (between linking c fs)) fs
 
--- ---- required gains, floors, attack row
+-- ---- required gains, floors
 -- "the target divided by a frame's highest peak over all channels, kept within 0 and 1; in silence it is 1": of each frame
 unfoldable pub requiredOf : Linking → ℕ → List Joined → List Float
 requiredOf linking channels [] = []
@@ -76,6 +77,18 @@ unfoldable pub floorsOf : ℕ → List Float → List Float
 floorsOf look [] = []
 floorsOf look (g ∷ gs) = floorOf look g gs ∷ floorsOf look gs
 
+-- ---- entries kept, by plain scan: "From the ring's back drop each entry not below it; then from the front each entry whose frame is more than look back; append"
+-- of gains before m, newest first, those below m and below every later one; "of equal gains the later is kept"
+unfoldable pub keptFrom : Float → List Float → ℕ
+keptFrom m [] = 0
+keptFrom m (g ∷ gs) = cond (lt g m) (suc (keptFrom g gs)) (keptFrom m gs)
+
+-- after these gains: the newest, and among the look before it those below every later one
+unfoldable pub keptIn : ℕ → List Float → ℕ
+keptIn look [] = 0
+keptIn look (g ∷ gs) = suc (keptFrom g (take look gs))
+
+-- ---- the attack row
 -- "the latest look − 11 floors, but at least one, with 1 standing for any before the start"
 unfoldable pub attackRow : ℕ → List Float → List Float
 attackRow look gains = take (rowOf look) (floorsOf look gains ++ replicate (rowOf look) one)

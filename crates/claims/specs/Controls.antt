@@ -1,10 +1,10 @@
--- THE CONTROLS: eleven limiters of which the claim is false (proofs/Controls.antt). Each is `limiting` but for the one place that its comment names.
+-- THE CONTROLS: twenty limiters of which the claim is false, and three gain steps of which `GainClaim` is false (proofs/Controls.antt). Each is `limiting`, or `gainStep`, but for the one place that its comment names.
 use Prim.Native.Nat.{ℕ, _+_, _-_}
-use mathlib.Core.Bool.{false, cond}
-use mathlib.Core.List.{List, [], _∷_, _++_, map}
+use mathlib.Core.Bool.{false, cond, _&&_}
+use mathlib.Core.List.{List, [], _∷_, _++_, map, reverse}
 use lib.Dec.{eqb}
 use lib.ListN.{length, take, drop, getD, set}
-use lib.Ieee.{Float, nan, le}
+use lib.Ieee.{Float, nan, binary64, le, add, sub, mul}
 use Rattle.arithmetic.specs.Number
 use Rattle.arithmetic.specs.Number.{one}
 use Rattle.arithmetic.specs.Sanitize.{finiteOrZero, unitGain}
@@ -12,13 +12,15 @@ use Rattle.arithmetic.specs.Reply.{Reply, finished, numbered, count}
 use Rattle.audio.specs.Format.{sizeOf}
 use Rattle.audio.specs.declared.format.Format.{Format}
 use Rattle.keeper.specs.Ring.{Entry, wrap, dropBack, dropFront, frontOf}
-use Rattle.keeper.specs.Keeper.{Keeping, Stepped, entriesOf}
-use Rattle.envelope.specs.Row.{pushed, newestFirst, nextPos}
+use Rattle.keeper.specs.declared.FloorKeeper.{FloorKeeper}
+use Rattle.keeper.specs.Keeper.{Keeping, keepingAt, freshKeeper, Stepped, entriesOf}
+use Rattle.envelope.specs.Row.{Rowed, rowedAt, pushed, newestFirst, nextPos, otherThanOne}
+use Rattle.envelope.specs.declared.row.AttackRow.{AttackRow}
 use Rattle.envelope.specs.Mean.{meanOf}
 use Rattle.envelope.specs.Follow.{followed}
 use Rattle.envelope.specs.Step.{Enveloped, enveloped, GainStepped, gainStepped}
-use Rattle.frame.specs.Rules.{Rules, rulesOf}
-use Rattle.frame.specs.Frame.{linkedFrom, requiredGain, givenOut, Delayed, delayedFrom, Moving, Framed}
+use Rattle.frame.specs.Rules.{Linking, Rules, rulesOf}
+use Rattle.frame.specs.Frame.{Linked, linkedFrom, requiredGain, givenOut, Delayed, delayedFrom, Moving, Framed}
 use Rattle.frame.specs.Run.{Frames, frameFirst}
 use Rattle.limiter.specs.Stores.{storesAt}
 use Rattle.limiter.specs.Run.{movingOf, envelopeOf, movedOn, storesOf}
@@ -27,16 +29,25 @@ use Rattle.turns.specs.Machine.{Machine, machineOf}
 use Rattle.turns.specs.Events.{Event}
 use Rattle.turns.specs.Block.{Renderer, Outcome, rendered, renderedIn, blockReply, blockDone, blockBy, blockOf, refusedAs}
 use Rattle.turns.specs.Drain.{drainBy, drainOf, withDrained}
-use Rattle.driver.specs.Calls.{Left, left, setupOf, parameterOf, resetOf}
+use Rattle.driver.specs.Calls.{Left, left, setupOf, parameterOf, resetOf, gainReply, gainOf, gainDone}
 use Rattle.claims.specs.Session.{Limiting}
 use Rattle.claims.specs.BookCalls.{latchesAt}
+use Rattle.claims.specs.GainSteps.{GainStepping}
 
 -- ---- rendering with the steps of a frame given, so that one of them can be wrong
 pub record Steps : Type 0 where
+  -- the linked peak: linking, detector's store, samples
+  pub links : Linking → List Float → List Float → Linked
   -- what is left of the ring at a gain, from its back
   pub backs : Float → List Entry → List Entry
   -- then from its front: look, frame
   pub fronts : ℕ → ℕ → List Entry → List Entry
+  -- how many drops are told: of so many
+  pub tells : ℕ → ℕ
+  -- the floor into the row: its position and tally, the row, the floor
+  pub pushes : AttackRow → List Float → Float → Rowed
+  -- the mean: weights, floors newest first
+  pub means : List Float → List Float → Float
   -- how the gain follows the mean: gain, mean, coefficient
   pub follow : Float → Float → Float → Float
   -- the delay lines: output rule, look, position, gain, lines, samples
@@ -45,11 +56,40 @@ pub record Steps : Type 0 where
 -- the right ones: with them the limiter is `limiting` (proofs/ControlsRight.antt)
 abbrev pub rightSteps : Steps
 rightSteps = record {
+  links = λ linking detector xs. linkedFrom linking 0 Number.zero detector xs;
   backs = λ gain ring. dropBack gain ring;
   fronts = λ look frame ring. dropFront look frame ring;
+  tells = λ dropped. dropped;
+  pushes = λ s row floor. pushed s row floor;
+  means = λ weights floors. meanOf weights floors;
   follow = λ gain mean coeff. followed gain mean coeff;
   delays = λ leaves look pos gain delay xs. delayedFrom leaves look pos gain delay xs;
 }
+
+-- the right ones but for the one named
+abbrev pub withLinks : (Linking → List Float → List Float → Linked) → Steps
+withLinks links = record { links = links; backs = rightSteps .backs; fronts = rightSteps .fronts; tells = rightSteps .tells; pushes = rightSteps .pushes; means = rightSteps .means; follow = rightSteps .follow; delays = rightSteps .delays }
+
+abbrev pub withBacks : (Float → List Entry → List Entry) → Steps
+withBacks backs = record { links = rightSteps .links; backs = backs; fronts = rightSteps .fronts; tells = rightSteps .tells; pushes = rightSteps .pushes; means = rightSteps .means; follow = rightSteps .follow; delays = rightSteps .delays }
+
+abbrev pub withFronts : (ℕ → ℕ → List Entry → List Entry) → Steps
+withFronts fronts = record { links = rightSteps .links; backs = rightSteps .backs; fronts = fronts; tells = rightSteps .tells; pushes = rightSteps .pushes; means = rightSteps .means; follow = rightSteps .follow; delays = rightSteps .delays }
+
+abbrev pub withTells : (ℕ → ℕ) → Steps
+withTells tells = record { links = rightSteps .links; backs = rightSteps .backs; fronts = rightSteps .fronts; tells = tells; pushes = rightSteps .pushes; means = rightSteps .means; follow = rightSteps .follow; delays = rightSteps .delays }
+
+abbrev pub withPushes : (AttackRow → List Float → Float → Rowed) → Steps
+withPushes pushes = record { links = rightSteps .links; backs = rightSteps .backs; fronts = rightSteps .fronts; tells = rightSteps .tells; pushes = pushes; means = rightSteps .means; follow = rightSteps .follow; delays = rightSteps .delays }
+
+abbrev pub withMeans : (List Float → List Float → Float) → Steps
+withMeans means = record { links = rightSteps .links; backs = rightSteps .backs; fronts = rightSteps .fronts; tells = rightSteps .tells; pushes = rightSteps .pushes; means = means; follow = rightSteps .follow; delays = rightSteps .delays }
+
+abbrev pub withFollow : (Float → Float → Float → Float) → Steps
+withFollow follow = record { links = rightSteps .links; backs = rightSteps .backs; fronts = rightSteps .fronts; tells = rightSteps .tells; pushes = rightSteps .pushes; means = rightSteps .means; follow = follow; delays = rightSteps .delays }
+
+abbrev pub withDelays : ((Float → Float) → ℕ → ℕ → Float → List Float → List Float → Delayed) → Steps
+withDelays delays = record { links = rightSteps .links; backs = rightSteps .backs; fronts = rightSteps .fronts; tells = rightSteps .tells; pushes = rightSteps .pushes; means = rightSteps .means; follow = rightSteps .follow; delays = delays }
 
 -- keeper's `steppedOf`
 unfoldable pub steppedBy : Steps → Keeping → Float → Stepped
@@ -64,7 +104,7 @@ steppedBy steps k x =
     let place = wrap (look + 1) (head + length left) in
     record {
       floor = frontOf (record { mark = frame; minimum = gain }) left .minimum;
-      dropped = (length ring - length back) + (length back - length left);
+      dropped = steps .tells ((length ring - length back) + (length back - length left));
       keeping = record {
         keeper = record { look = look; head = head; len = length left + 1; frame = frame + 1 };
         marks = set (k .marks) place frame;
@@ -76,14 +116,14 @@ steppedBy steps k x =
 unfoldable pub gainStepBy : Steps → List Float → Float → Enveloped → Float → GainStepped
 gainStepBy steps weights coeff e x =
     let s = steppedBy steps (e .keeping) x in
-    let p = pushed (e .rowed .state) (e .rowed .row) (s .floor) in
-    let mean = meanOf weights (newestFirst (p .state .pos) (p .row)) in
+    let p = steps .pushes (e .rowed .state) (e .rowed .row) (s .floor) in
+    let mean = steps .means weights (newestFirst (p .state .pos) (p .row)) in
     gainStepped (s .floor) (s .dropped) mean (enveloped (s .keeping) p (steps .follow (e .gain) mean coeff))
 
 -- frame's `frameOf`
 unfoldable pub frameBy : Steps → Rules → List Float → Float → ℕ → Float → Moving → List Float → Framed
 frameBy steps rules weights coeff look target m xs =
-    let l = linkedFrom (rules .linking) 0 Number.zero (m .detector) xs in
+    let l = steps .links (rules .linking) (m .detector) xs in
     let g = gainStepBy steps weights coeff (m .env) (requiredGain target (l .peak)) in
     let d = steps .delays (rules .leaves) look (m .pos) (g .env .gain) (m .delay) xs in
     record {
@@ -156,12 +196,7 @@ replying o reply = record { reply = reply; machine = o .machine; bytes = o .byte
 
 -- ---- 1: the window has look frames, one too few: an entry goes where its frame is look back
 abbrev pub shortWindow : Limiting
-shortWindow = limitingBy (record {
-  backs = rightSteps .backs;
-  fronts = λ look frame ring. dropFront (look - 1) frame ring;
-  follow = rightSteps .follow;
-  delays = rightSteps .delays;
-})
+shortWindow = limitingBy (withFronts (λ look frame ring. dropFront (look - 1) frame ring))
 
 -- ---- 2: only a smaller gain pushes older ones out: an entry equal to the new gain stays
 abbrev pub dropAbove : Float → List Entry → List Entry
@@ -169,12 +204,7 @@ dropAbove gain [] = []
 dropAbove gain (e ∷ es) = cond (le (e .minimum) gain) (e ∷ es) (dropAbove gain es)
 
 abbrev pub equalsStay : Limiting
-equalsStay = limitingBy (record {
-  backs = λ gain ring. dropAbove gain ring;
-  fronts = rightSteps .fronts;
-  follow = rightSteps .follow;
-  delays = rightSteps .delays;
-})
+equalsStay = limitingBy (withBacks (λ gain ring. dropAbove gain ring))
 
 -- ---- 3: the detector stands still in a drain: its answer is not heard there, and its store is not shifted
 abbrev pub noneCounts : Rules → Rules
@@ -225,12 +255,7 @@ storedFirst leaves look pos gain delay (x ∷ xs) =
     record { outputs = givenOut leaves (getD line pos nan) gain ∷ later .outputs; delay = line ++ later .delay }
 
 abbrev pub noDelay : Limiting
-noDelay = limitingBy (record {
-  backs = rightSteps .backs;
-  fronts = rightSteps .fronts;
-  follow = rightSteps .follow;
-  delays = λ leaves look pos gain delay xs. storedFirst leaves look pos gain delay xs;
-})
+noDelay = limitingBy (withDelays (λ leaves look pos gain delay xs. storedFirst leaves look pos gain delay xs))
 
 -- ---- 8: an event latches one run late: as if it were stamped a frame after the one at which it should latch. What a block refuses is judged by the stamps as they are.
 abbrev pub runLater : ℕ → Event → Event
@@ -256,9 +281,99 @@ doneAtOnce = withDrains (λ format m frames bytes.
 
 -- ---- 11: the gain does not follow the mean: it is 1 always
 abbrev pub fullGain : Limiting
-fullGain = limitingBy (record {
-  backs = rightSteps .backs;
-  fronts = rightSteps .fronts;
-  follow = λ gain mean coeff. one;
-  delays = rightSteps .delays;
-})
+fullGain = limitingBy (withFollow (λ gain mean coeff. one))
+
+-- ---- 12: it does not follow the mean either: it is 0 always
+abbrev pub noGain : Limiting
+noGain = limitingBy (withFollow (λ gain mean coeff. Number.zero))
+
+-- ---- 13: silence is given out, whatever the delay lines hold and whatever the gain is
+abbrev pub silenced : Delayed → Delayed
+silenced d = record { outputs = map (λ (x : Float). Number.zero) (d .outputs); delay = d .delay }
+
+abbrev pub onlySilence : Limiting
+onlySilence = limitingBy (withDelays (λ leaves look pos gain delay xs. silenced (delayedFrom leaves look pos gain delay xs)))
+
+-- ---- 14: the weights are read in reverse: the last one meets the newest floor
+abbrev pub reversedWeights : Limiting
+reversedWeights = limitingBy (withMeans (λ weights floors. meanOf (reverse weights) floors))
+
+-- ---- 15: only the first channel counts in the linked peak
+abbrev pub firstAlone : Linking → Linking
+firstAlone linking = record { taps = linking .taps; counts = λ (c : ℕ). eqb c 0 && linking .counts c }
+
+abbrev pub firstLinked : Limiting
+firstLinked = limitingBy (withLinks (λ linking detector xs. linkedFrom (firstAlone linking) 0 Number.zero detector xs))
+
+-- ---- 16: the release's operands are exchanged: the gain grows by (gain − mean) × coefficient
+abbrev pub movedBack : Float → Float → Float → Float
+movedBack gain mean coeff = cond (le mean gain) mean (add binary64 gain (mul binary64 (sub binary64 gain mean) coeff))
+
+abbrev pub releaseExchanged : Limiting
+releaseExchanged = limitingBy (withFollow (λ gain mean coeff. unitGain (movedBack (unitGain gain) mean coeff)))
+
+-- ---- 17: the tally is not taken down: where a floor other than 1 leaves the row, it stays counted
+abbrev pub countedOn : AttackRow → List Float → Float → Rowed
+countedOn s row floor = rowedAt (record { pos = nextPos (length row) (s .pos); tally = s .tally + otherThanOne floor }) (set row (s .pos) floor)
+
+abbrev pub tallyKept : Limiting
+tallyKept = limitingBy (withPushes (λ s row floor. countedOn s row floor))
+
+-- ---- 18: one drop more is told than was made
+abbrev pub dropInvented : Limiting
+dropInvented = limitingBy (withTells (λ dropped. dropped + 1))
+
+-- ---- 19: the lone gain step tells one drop more than it made
+-- refused as it should be; what a finished step makes of it is given
+abbrev pub stepBy : (Machine → GainStepped → Left) → GainStepping
+stepBy done m x = cond (eqb (gainReply m) 0) (done m (gainOf m x)) (left (numbered (gainReply m)) m)
+
+abbrev pub stepInvents : GainStepping
+stepInvents = stepBy (λ m g. gainDone m (gainStepped (g .floor) (g .dropped + 1) (g .mean) (g .env)))
+
+-- ---- 20 and 21: replies, audio, and what is left of state and stores are right; the frames shown are not
+-- another keeper is shown, with no marks or minima
+abbrev pub ringShown : FloorKeeper → Moving → Moving
+ringShown k mv = record {
+  env = enveloped (keepingAt k [] []) (mv .env .rowed) (mv .env .gain);
+  delay = mv .delay;
+  pos = mv .pos;
+  detector = mv .detector;
+}
+
+abbrev pub framed : ℕ → Moving → Framed → Framed
+framed dropped mv f = record { floor = f .floor; dropped = dropped; mean = f .mean; gain = f .gain; outputs = f .outputs; moving = mv }
+
+abbrev pub shownAs : (Framed → Framed) → Outcome → Outcome
+shownAs shows o = record { reply = o .reply; machine = o .machine; bytes = o .bytes; frames = map shows (o .frames) }
+
+abbrev pub showing : (Framed → Framed) → Limiting
+showing shows =
+    limitingWith (λ format m position frames events bytes. shownAs shows (rightBlocks format m position frames events bytes))
+    (λ format m frames bytes. shownAs shows (rightDrains format m frames bytes)) (λ m. resetOf m)
+
+-- 20: every frame tells one drop and no entry, whatever the ring did: drops since the start and entries kept are the frames taken
+abbrev pub ringInvented : Limiting
+ringInvented = showing (λ f. framed 1 (ringShown (freshKeeper (f .moving .env .keeping .keeper .look)) (f .moving)) f)
+
+-- 21: every frame shows the right counts, but not the ring that is left
+abbrev pub ringHidden : Limiting
+ringHidden = showing (λ f. framed (f .dropped) (ringShown (f .moving .env .keeping .keeper) (f .moving)) f)
+
+-- ---- 22: the lone gain step throws the delay lines away
+abbrev pub withoutLines : Machine → Machine
+withoutLines m =
+    let s = m .stores in
+    machineOf (m .limiter) (m .bank) (storesAt [] (s .marks) (s .minima) (s .weights) (s .row) (s .detector))
+
+abbrev pub stepForgets : GainStepping
+stepForgets = stepBy (λ m g.
+    let l = gainDone m g in
+    left (l .reply) (withoutLines (l .machine)))
+
+-- ---- 23: the lone gain step tells one drop and no entry, whatever the ring did, and leaves a keeper that says so
+abbrev pub withoutEntry : Keeping → Keeping
+withoutEntry k = keepingAt (record { look = k .keeper .look; head = k .keeper .head; len = 0; frame = k .keeper .frame }) (k .marks) (k .minima)
+
+abbrev pub stepForges : GainStepping
+stepForges = stepBy (λ m g. gainDone m (gainStepped (g .floor) 1 (g .mean) (enveloped (withoutEntry (g .env .keeping)) (g .env .rowed) (g .env .gain))))

@@ -1,10 +1,10 @@
 -- Document 01's starred rows, one list, in its order. That all of them hold is one claim: `starred`, proofs/Rows.antt.
-use Prim.Native.Nat.{ℕ}
+use Prim.Native.Nat.{ℕ, _+_, _*_}
 use mathlib.Core.Path.{_≡_}
-use mathlib.Core.Bool.{false}
+use mathlib.Core.Bool.{true, false}
 use mathlib.Core.List.{List, [], _∷_, map}
 use lib.ListN.{replicate}
-use lib.Ieee.{Float, nan, inf, eq}
+use lib.Ieee.{Float, nan, inf, lt}
 use Rattle.arithmetic.specs.Number.{bits, zero, one}
 use Rattle.arithmetic.specs.Sanitize.{unitGain}
 use Rattle.arithmetic.specs.Reply.{Reply, finished, refused, numbered, count, float}
@@ -16,7 +16,7 @@ use Rattle.settings.specs.Derived.{lookOf, rowOf}
 use Rattle.settings.specs.Memory.{needed}
 use Rattle.settings.specs.declared.memory.Cap.{Cap}
 use Rattle.settings.specs.declared.ProcessSpec.{ProcessSpec}
-use Rattle.limiter.specs.Stores.{Stores, lengthsOf}
+use Rattle.limiter.specs.Stores.{Stores, storesAt, lengthsOf}
 use Rattle.limiter.specs.Prepare.{storesRefusal}
 use Rattle.bank.specs.Smoother.{stepped}
 use Rattle.bank.specs.Bank.{allChanged, setUpOf, setTargetOf, bankAfter, valueOf}
@@ -26,6 +26,7 @@ use Rattle.turns.specs.Drain.{drainOf}
 use Rattle.driver.specs.Calls
 use Rattle.floors_text.specs.Print.{ascii}
 use Rattle.floors_text.specs.Text.{textOf}
+use Rattle.claims.specs.RustWeights.{rustWeights}
 
 abbrev pub half : Float
 half = bits 0x3fe0_0000_0000_0000
@@ -45,6 +46,24 @@ cappedAt cap stores = Calls.setupOf defaults (stereo (Cap.Bytes cap)) stores .re
 abbrev pub lookingAt : Float → Stores → Reply
 lookingAt ms stores = Calls.setupOf (settingsOf (defaults .«threshold_db») (defaults .«true_peak_margin_db») ms (defaults .«release_ms»)) (stereo Cap.Unlimited) stores .reply
 
+-- stores of the right lengths with these weights, all else in them any one value and any one mark
+abbrev pub lent : ℕ → ℕ → List Float → Float → ℕ → Stores
+lent channels look weights x mark =
+    storesAt (replicate (channels * look) x) (replicate (look + 1) mark) (replicate (look + 1) x) weights (replicate (rowOf look) x) (replicate (channels * 12) x)
+
+-- for look 72 those with the Rust's weights; for look 11 the one weight 1.0, the Rust's too; for look 4,096 as many equal ones, each the f64 nearest to 1 / 4,085
+abbrev pub lent72 : Float → ℕ → Stores
+lent72 x mark = lent 2 72 rustWeights x mark
+
+abbrev pub lent11 : Float → ℕ → Stores
+lent11 x mark = lent 2 11 (one ∷ []) x mark
+
+abbrev pub share : Float
+share = bits 0x3f30_0b07_9536_9587
+
+abbrev pub lent4096 : Float → ℕ → Stores
+lent4096 x mark = lent 2 4096 (replicate 4085 share) x mark
+
 -- lookaheads in ms
 abbrev pub ms0·21 : Float
 ms0·21 = bits 0x3fca_e147_ae14_7ae1
@@ -62,6 +81,10 @@ ms85·36 = bits 0x4055_570a_3d70_a3d7
 abbrev pub minus4 : Float
 minus4 = bits 0xc010_0000_0000_0000
 
+-- the seventh of eight steps from −1 to it, as the roundings leave it
+abbrev pub aboveMinus4 : Float
+aboveMinus4 = bits 0xc00e_6666_6666_6665
+
 -- the value of the default threshold's parameter, −1 dB, at 48,000, after it was sent to −4 dB and so many updates
 abbrev pub ramped : ℕ → Reply
 ramped n = valueOf (bankAfter n (setTargetOf (setUpOf (replicate 8 (thresholdParam defaults)) 1 48000 .bank) 0 minus4 .bank)) 0
@@ -72,6 +95,12 @@ drained50 m = drainOf F64 m 50 (replicate 800 0) .machine
 
 abbrev pub reply50 : Machine → Reply
 reply50 m = drainOf F64 m 50 (replicate 800 0) .reply
+
+-- three such drains
+pub record Drains (m : Machine) : Type 0 where
+  pub first : reply50 m ≡ finished (count 50 ∷ count 0 ∷ [])
+  pub second : reply50 (drained50 m) ≡ finished (count 22 ∷ count 1 ∷ [])
+  pub third : reply50 (drained50 (drained50 m)) ≡ finished (count 0 ∷ count 1 ∷ [])
 
 pub record Starred : Type 0 where
   -- * Gains NaN, +infinity, −0.25, 1.5 count as 0, 0, 0, 1.
@@ -85,13 +114,15 @@ pub record Starred : Type 0 where
   pub default-look : lookOf (defaults .«lookahead_ms») 48000 ≡ 72
   pub default-row : rowOf 72 ≡ 61
   pub default-bytes : needed 2 72 ≡ 4256
-  -- * Cap 4,336 passes (what is left to judge are the stores: 16 and 17); 4,335 gives 15 (4,256, 4,255); 79 gives 7 (80, 79).
-  pub cap-passes : (stores : Stores) → cappedAt 4336 stores ≡ numbered (storesRefusal 2 72 (lengthsOf stores) (stores .weights))
+  -- * Cap 4,336 passes (on stores that fit, with the Rust's own weights; on any stores, what is left to judge are these: 16 and 17); 4,335 gives 15 (4,256, 4,255); 79 gives 7 (80, 79).
+  pub cap-passes : (x : Float) (mark : ℕ) → cappedAt 4336 (lent72 x mark) ≡ finished []
+  pub cap-judges : (stores : Stores) → cappedAt 4336 stores ≡ numbered (storesRefusal 2 72 (lengthsOf stores) (stores .weights))
   pub cap-15 : (stores : Stores) → cappedAt 4335 stores ≡ refused 15 (count 4256 ∷ count 4255 ∷ [])
   pub cap-7 : (stores : Stores) → cappedAt 79 stores ≡ refused 7 (count 80 ∷ count 79 ∷ [])
   -- * At 48,000: 0.22 ms gives look 11, 85.34 gives 4,096; 0.21 (10) and 85.36 (4,097) are refused.
   pub looks : map (λ (ms : Float). lookOf ms 48000) (ms0·22 ∷ ms85·34 ∷ ms0·21 ∷ ms85·36 ∷ []) ≡ 11 ∷ 4096 ∷ 10 ∷ 4097 ∷ []
-  pub looks-pass : (stores : Stores)
+  pub looks-pass : (x : Float) (mark : ℕ) → (lookingAt ms0·22 (lent11 x mark) ≡ finished []) × (lookingAt ms85·34 (lent4096 x mark) ≡ finished [])
+  pub looks-judge : (stores : Stores)
       → (lookingAt ms0·22 stores ≡ numbered (storesRefusal 2 11 (lengthsOf stores) (stores .weights))) × (lookingAt ms85·34 stores ≡ numbered (storesRefusal 2 4096 (lengthsOf stores) (stores .weights)))
   pub looks-12 : (stores : Stores) → (lookingAt ms0·21 stores ≡ refused 12 []) × (lookingAt ms85·36 stores ≡ refused 12 [])
   -- * Position 0, 64 frames: runs 32, 32, two bank steps. Position 33, 40 frames: runs 31, 9, one step.
@@ -101,14 +132,12 @@ pub record Starred : Type 0 where
   pub steps-33 : (render : Renderer) (fs : List (List Float)) (m : Machine) → runsThrough render 33 0 (runsOf 33 40) [] fs m .machine .bank ≡ allChanged stepped (m .bank)
   -- * −1 dB to −4 dB at 48,000: exactly −4 after 8 updates, not after 7.
   pub ramp-8 : ramped 8 ≡ finished (float minus4 ∷ [])
-  pub ramp-7 : (seven : Float) → ramped 7 ≡ finished (float seven ∷ []) → eq seven minus4 ≡ false
-  -- * Look 72, drains of 50: 50 not done, 22 done, 0 done.
-  pub drains : (cap : Cap) (stores : Stores)
+  pub ramp-7 : (ramped 7 ≡ finished (float aboveMinus4 ∷ [])) × (lt minus4 aboveMinus4 ≡ true)
+  -- * Look 72, drains of 50: 50 not done, 22 done, 0 done. (After the setup that passes above; and after any that is finished, whatever its cap and stores.)
+  pub drains : (x : Float) (mark : ℕ) → Drains (Calls.setupOf defaults (stereo (Cap.Bytes 4336)) (lent72 x mark) .machine)
+  pub drains-after : (cap : Cap) (stores : Stores)
       → (let start = Calls.setupOf defaults (stereo cap) stores in
-      start .reply .number ≡ 0
-      → (reply50 (start .machine) ≡ finished (count 50 ∷ count 0 ∷ []))
-      × (reply50 (drained50 (start .machine)) ≡ finished (count 22 ∷ count 1 ∷ []))
-      × (reply50 (drained50 (drained50 (start .machine))) ≡ finished (count 0 ∷ count 1 ∷ [])))
+      start .reply .number ≡ 0 → Drains (start .machine))
   -- * For look=11, gain=3ff0000000000000, gain=3fe0000000000000, gain=3fe8000000000000 `floors` writes
   pub floors : textOf (ascii "look=11\ngain=3ff0000000000000\ngain=3fe0000000000000\ngain=3fe8000000000000\n")
       ≡ ascii "frame=0 floor=3ff0000000000000 dropped=0 kept=1\nframe=1 floor=3fe0000000000000 dropped=1 kept=1\nframe=2 floor=3fe0000000000000 dropped=0 kept=2\n"

@@ -1,4 +1,4 @@
--- Calls as a session makes them, and a limiter as its answers to them. The claim is a predicate of such a limiter. `Machine` (crate driver) is the state and stores that calls hand on.
+-- Calls as a session makes them, and a limiter as its answers to them. The claim is a predicate of such a limiter. `Machine` (crate turns) is the state and stores that calls hand on.
 use Prim.Native.Nat.{ℕ}
 use mathlib.Core.List.{List, []}
 use lib.Ieee.{Float}

@@ -1,0 +1,86 @@
+-- The claim is false of each of the six limiters of specs/SetupControls.antt: a setup, in 4 to 6 a call after it, and the one place of the claim that two constants contradict.
+use Prim.Native.Nat.{ℕ}
+use mathlib.Core.Path.{refl, ap}
+use mathlib.Core.List.{[], _∷_}
+use native.Mathlib.Omega.{arith}
+use lib.ListN.{getD, replicate}
+use lib.Ieee.{nan, ofBits, lt, le, mul, ofInt}
+use borrow.Author.Tests.{eqb-false}
+use Rattle.arithmetic.specs.Number
+use Rattle.arithmetic.specs.Number.{bits, one}
+use Rattle.arithmetic.specs.Reply.{Value, count, float, Reply}
+use Rattle.audio.specs.declared.format.Format.the-variants.{F64}
+use Rattle.settings.specs.Settings.{settingsOf, processSpec, defaults}
+use Rattle.settings.specs.Weights.{accepted}
+use Rattle.settings.specs.declared.memory.Cap.{Cap}
+use Rattle.limiter.specs.Stores.{Stores, storesAt}
+use Rattle.limiter.specs.Prepare.{prepareOf}
+use Rattle.bank.specs.Param.{faultOf}
+use Rattle.bank.specs.Smoother.{smootherOf}
+use Rattle.bank.specs.Bank.{firstFault, declaredReply, slotsOf, setUpOf}
+use Rattle.driver.specs.Calls.{setupOf}
+use Rattle.claims.specs.Session.{block, parameter}
+use Rattle.claims.specs.Claim.{Claim}
+use Rattle.claims.specs.Table.{firstArising, parameterRows}
+use Rattle.claims.specs.Rows.{stereo}
+use Rattle.claims.specs.SetupControls.{marginFirst, wholeCapTold, zeroUncapped, staysSetUp, emptyUnjudged, valueFirst}
+use Rattle.claims.proofs.ControlsStart.{calling, settingsIn, specIn, mono}
+
+-- a value that is a count
+abbrev countOf : Value → ℕ
+countOf (count n) = n
+countOf (float x) = 0
+
+-- opened where setup replies
+unfoldable setting-up : Type 0
+unfolding setupOf prepareOf accepted setUpOf declaredReply firstFault faultOf slotsOf smootherOf ofBits lt le mul ofInt
+setting-up = ⊥
+
+-- opened where the table does
+unfoldable tabled : Type 0
+unfolding firstArising parameterRows
+tabled = ⊥
+
+abbrev no-stores : Stores
+no-stores = storesAt [] [] [] [] [] []
+
+-- 1: rate 0 and a margin of −1 dB
+pub no-margin-first : Claim marginFirst → ⊥
+unfolding setting-up tabled
+no-margin-first claim =
+    eqb-false 9 8 refl
+    (ap (λ (r : Reply). r .number) (claim .setup-answered (settingsOf Number.zero (bits 0xbff0_0000_0000_0000) one one) (processSpec 0 1 64 Cap.Unlimited) no-stores))
+
+-- 2: the starred row, a cap of 4,335: the cap left is 4,255
+pub no-whole-cap-told : Claim wholeCapTold → ⊥
+unfolding setting-up tabled
+no-whole-cap-told claim =
+    eqb-false 4335 4255 refl (ap (λ (r : Reply). countOf (getD (r .values) 1 (count 0))) (claim .setup-answered defaults (stereo (Cap.Bytes 4335)) no-stores))
+
+-- 3: a cap of 0 is over by the bank's bytes alone: 7, where the stores' lengths are the first that this limiter refuses
+pub no-zero-uncapped : Claim zeroUncapped → ⊥
+unfolding setting-up tabled
+no-zero-uncapped claim = eqb-false 16 7 refl (ap (λ (r : Reply). r .number) (claim .setup-answered defaults (stereo (Cap.Bytes 0)) no-stores))
+
+-- 4: a weight of 0 is refused, and then a parameter call is finished
+abbrev no-weight : Stores
+no-weight = storesAt (replicate 11 Number.zero) (replicate 12 0) (replicate 12 Number.zero) (Number.zero ∷ []) (one ∷ []) (replicate 12 Number.zero)
+
+pub no-stays-set-up : Claim staysSetUp → ⊥
+unfolding setting-up calling
+no-stays-set-up claim =
+    eqb-false 0 18 refl (ap (λ (r : Reply). r .number) (claim .refused-after (settingsIn mono) (specIn mono) no-weight (λ z. omega arith) (parameter 0 Number.zero ∷ []) .0 .reply))
+
+-- 5: rate 0 is refused, and then a block of no frames is finished
+pub no-empty-unjudged : Claim emptyUnjudged → ⊥
+unfolding setting-up
+no-empty-unjudged claim =
+    eqb-false 0 18 refl
+    (ap (λ (r : Reply). r .number) (claim .refused-after defaults (processSpec 0 1 64 Cap.Unlimited) no-stores (λ z. omega arith) (block F64 0 0 [] [] ∷ []) .0 .reply))
+
+-- 6: and then a NaN for the threshold is told
+pub no-value-first : Claim valueFirst → ⊥
+unfolding setting-up
+no-value-first claim =
+    eqb-false 23 18 refl
+    (ap (λ (r : Reply). r .number) (claim .refused-after defaults (processSpec 0 1 64 Cap.Unlimited) no-stores (λ z. omega arith) (parameter 0 nan ∷ []) .0 .reply))
