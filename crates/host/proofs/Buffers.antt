@@ -66,11 +66,15 @@ module _ (s : LimiterSettings) (spec : ProcessSpec) (stores : Stores) where
   abbrev pub bufferReply : Reply
   bufferReply = andThen (setUpOf (replicate 8 (thresholdParam s)) 1 (spec .rate) .reply) (andThen (budgetReply (spec .cap)) kernelReply)
 
+  -- which is never 0
+  pub buffer-refused : eqb (bufferReply .number) 0 ≡ false
+  buffer-refused =
+      let b = setUpOf (replicate 8 (thresholdParam s)) 1 (spec .rate) .reply in
+      not-finished b (andThen (budgetReply (spec .cap)) kernelReply) (not-finished (budgetReply (spec .cap)) kernelReply kernel-not)
+
   setup-none : setupOf s spec none ≡ left bufferReply (machineOf notSetUp unset none)
   unfolding setupOf
-  setup-none =
-      let b = setUpOf (replicate 8 (thresholdParam s)) 1 (spec .rate) .reply in
-      rw (kernel-none, not-finished b (andThen (budgetReply (spec .cap)) kernelReply) (not-finished (budgetReply (spec .cap)) kernelReply kernel-not)) refl
+  setup-none = rw (kernel-none, buffer-refused) refl
 
   pub wrong-buffer : (answer state : List ℕ) → eqb (length state) stateBytes ≡ false
       → setupBy s spec answer state stores ≡ returnedAt (bufferReply .number) (answeredBy answer bufferReply) state stores

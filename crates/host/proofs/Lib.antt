@@ -2,3 +2,5 @@
 pub mod Kept
 pub mod Through
 pub mod Buffers
+pub mod Few
+pub mod Wrong

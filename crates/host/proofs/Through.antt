@@ -18,10 +18,10 @@ use Rattle.turns.specs.Block.{Outcome}
 use Rattle.driver.specs.Calls.{Left, left, parameterOf, readOf, setupOf}
 use Rattle.driver.specs.Answers.{machineAt, Seen, seen}
 use Rattle.driver.specs.declared.state.KernelProcessor.{KernelProcessor}
-use Rattle.state_bytes.specs.State.{stateBytes, processorIn, stateOut}
+use Rattle.state_bytes.specs.State.{stateBytes, processorOf, processorIn, stateOut}
 use Rattle.state_bytes.proofs.Finished.{parameter-set-up, set-up-long}
 use Rattle.host.specs.Answer.{replyWords, wordsOf, answered, answeredBy}
-use Rattle.host.specs.Host.{Returned, returnedAt, processorOf, returned, calledBy, returnedWith, audioBy, parameterBy, readAt, valueBy, withWeights, setupBy}
+use Rattle.host.specs.Host.{Returned, returnedAt, returned, calledBy, returnedWith, audioBy, parameterBy, readAt, valueBy, withWeights, setupBy}
 use Rattle.host.specs.declared.answer.ReplyWords.{ReplyWords}
 
 module _ (answer state : List ℕ) (q : KernelProcessor) (e : q ≡ processorIn state) where

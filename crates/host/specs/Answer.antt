@@ -1,4 +1,4 @@
--- The answer buffer: a reply's values in their order (a count as itself, a float as its bits), then 0, eight words in all. No reply of document 01 has more than six values.
+-- The answer buffer: a reply's values in their order (a count as itself, a float as its bits), then 0, eight words in all. No reply has more than six values (proofs/Few.antt).
 use Prim.Native.Nat.{ℕ}
 use mathlib.Core.List.{List, [], _∷_, _++_, map}
 use lib.ListN.{length, getD, take, drop}

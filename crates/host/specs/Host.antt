@@ -16,8 +16,7 @@ use Rattle.turns.specs.Machine.{Machine}
 use Rattle.driver.specs.Answers.{machineAt}
 use Rattle.driver.specs.Calls.{Left, left, bankBytes, parameterOf, setupOf, readOf}
 use Rattle.turns.specs.Block.{Outcome}
-use Rattle.driver.specs.declared.state.KernelProcessor.{KernelProcessor}
-use Rattle.state_bytes.specs.State.{stateBytes, processorIn, stateOut}
+use Rattle.state_bytes.specs.State.{stateBytes, processorOf, processorIn, stateOut}
 use Rattle.host.specs.Answer.{answeredBy}
 
 -- ---- what a call leaves: its number, both buffers, and the stores
@@ -29,9 +28,6 @@ pub record Returned : Type 0 where
 
 abbrev pub returnedAt : ℕ → List ℕ → List ℕ → Stores → Returned
 returnedAt number answer state stores = record { number = number; answer = answer; state = state; stores = stores }
-
-abbrev pub processorOf : Machine → KernelProcessor
-processorOf m = record { limiter = m .limiter; bank = m .bank }
 
 -- after the driver's call: the state is written where the work is finished
 abbrev pub returned : List ℕ → List ℕ → Reply → Machine → Returned
@@ -49,11 +45,11 @@ calledBy call answer state stores =
 
 -- a block and a drain leave their audio too
 pub record ReturnedAudio : Type 0 where
-  pub call : Returned
+  pub result : Returned
   pub audio : List ℕ
 
 abbrev pub returnedWith : Returned → List ℕ → ReturnedAudio
-returnedWith call audio = record { call = call; audio = audio }
+returnedWith result audio = record { result = result; audio = audio }
 
 unfoldable pub audioBy : (Machine → List ℕ → Outcome) → List ℕ → List ℕ → Stores → List ℕ → ReturnedAudio
 audioBy call answer state stores bytes =
@@ -87,12 +83,15 @@ capOf capped cap = cond (eqb capped 0) Cap.Unlimited (Cap.Bytes cap)
 abbrev pub withWeights : List Float → Stores → Stores
 withWeights weights s = storesAt (s .delay) (s .marks) (s .minima) weights (s .row) (s .detector)
 
--- where the state's buffer has another length, setup goes as if no weights were lent: 16 in its place, and neither state nor store is written. Else the state is written, refused or not: a refused setup leaves the limiter that was never set up.
+-- where the state's buffer has another length, setup goes as if no weights were lent: 16 in its place, and neither state nor store is written
+abbrev pub lentTo : List ℕ → Stores → Stores
+lentTo state stores = withWeights (cond (eqb (length state) stateBytes) (stores .weights) []) stores
+
+-- else the state is written, refused or not: a refused setup leaves the limiter that was never set up
 unfoldable pub setupBy : LimiterSettings → ProcessSpec → List ℕ → List ℕ → Stores → Returned
 setupBy s spec answer state stores =
-    let fits = eqb (length state) stateBytes in
-    let o = setupOf s spec (withWeights (cond fits (stores .weights) []) stores) in
-    returnedAt (o .reply .number) (answeredBy answer (o .reply)) (cond fits (stateOut (processorOf (o .machine))) state) (withWeights (stores .weights) (o .machine .stores))
+    let o = setupOf s spec (lentTo state stores) in
+    returnedAt (o .reply .number) (answeredBy answer (o .reply)) (cond (eqb (length state) stateBytes) (stateOut (processorOf (o .machine))) state) (withWeights (stores .weights) (o .machine .stores))
 
 -- ---- the limiter's bytes and the bank's; the largest number where they are not counted
 abbrev pub wholeNeeded : ℕ → ℕ → ℕ

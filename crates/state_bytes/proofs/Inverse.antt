@@ -8,38 +8,25 @@ use native.Mathlib.Omega.{arith}
 use lib.Dec.{T, eqb, leb, ltb}
 use lib.ListN.{length, getD, drop, replicate, drop-of-length-le, length-map}
 use lib.Seq.{drop-cons}
-use lib.Ieee.{Float, nan, binary64, toBits, fits, isNan}
-use lib.Ieee.Bits.{ofBits-toBits, toBits-ofBits}
+use lib.Ieee.{Float, binary64, toBits, isNan}
+use lib.Ieee.Bits.{ofBits-toBits, toBits-ofBits, toBits-lt}
 use borrow.Author.Tests.{eqb-true, ltb-true, lt-ltb, leb-true}
 use Rattle.arithmetic.specs.Number.{bits}
 use Rattle.arithmetic.proofs.Order.{and-true}
-use Rattle.limiter.specs.declared.state.Limiter.{Limiter}
 use Rattle.bank.specs.Bank.{slotAt}
-use Rattle.bank.specs.declared.smoother.Smoother.{Smoother}
 use Rattle.driver.specs.declared.state.KernelProcessor.{KernelProcessor}
 use Rattle.audio.specs.Bytes.{wordOf, cut, wordsIn, bytesOut}
 use Rattle.audio.proofs.Numbers.{cut-length, out-length, words-of-bytes, bytes-of-words}
-use Rattle.bank.specs.Words.{smootherIn}
-use Rattle.state_bytes.specs.State.{layout, stateBytes, stateWords, zerosAt, holdsState, isState, limiterIn, slotsWith, bankIn, stateIn, wordsOut, processorIn, stateOut}
+use Rattle.bank.specs.Words.{smootherIn, shapeWord}
+use Rattle.bank.specs.declared.param.Smoothing.{Smoothing}
+use Rattle.bank.specs.declared.param.Smoothing.the-variants.{Step, Linear, OnePole}
+use Rattle.state_bytes.specs.State.{layout, stateBytes, stateWords, zerosAt, holdsState, isState, limiterIn, bankIn, stateIn, wordsOut, processorIn, stateOut}
 use Rattle.bank.proofs.Shapes.{shape-back, shape-small, shape-word}
 use Rattle.state_bytes.proofs.Stored.{read-held}
+use Rattle.state_bytes.proofs.Storable.{Fits, Storable}
 
 -- ---- from the limiter with its bank, and back
-abbrev floatsOf : Limiter → Smoother → List Float
-floatsOf l s =
-    l .settings .«threshold_db» ∷ l .settings .«true_peak_margin_db» ∷ l .settings .«lookahead_ms» ∷ l .settings .«release_ms» ∷ l .«release_coeff» ∷ l .env .gain ∷ l .target
-    ∷ s .cur ∷ s .target ∷ s .low ∷ s .high ∷ s .default ∷ s .steps ∷ s .«step_delta» ∷ s .coeff ∷ s .«smoothing_ms» ∷ []
-
--- what a program's values are: each float one of binary64, each number within its type; and the slots past the threshold's hold no parameter
-pub record Storable (p : KernelProcessor) : Type 0 where
-  pub floats : (i : ℕ) → T (fits binary64 (getD (floatsOf (p .limiter) (slotAt 0 (p .bank .smoothers))) i nan))
-  pub words : (i : ℕ) → getD (wordsOut p) i 0 < 2 ^ 64
-  pub rate : p .limiter .rate < 2 ^ 32
-  pub id : slotAt 0 (p .bank .smoothers) .id < 2 ^ 32
-  pub bankRate : p .bank .rate < 2 ^ 32
-  pub slots : p .bank .smoothers ≡ slotsWith (slotAt 0 (p .bank .smoothers))
-
-back : (x : Float) → T (fits binary64 x) → bits (toBits binary64 x) ≡ x
+back : (x : Float) → Fits x → bits (toBits binary64 x) ≡ x
 back x f = ofBits-toBits binary64 x f
 
 ready-back : (b : Bool) → not (eqb (cond b 1 0) 0) ≡ b
@@ -51,42 +38,102 @@ module _ (p : KernelProcessor) (h : Storable p) where
   unfolding wordsOut
   limiter-back =
       let l = p .limiter in
-      rw (
-        back (l .settings .«threshold_db») (h .floats 0),
-        back (l .settings .«true_peak_margin_db») (h .floats 1),
-        back (l .settings .«lookahead_ms») (h .floats 2),
-        back (l .settings .«release_ms») (h .floats 3),
-        back (l .«release_coeff») (h .floats 4),
-        back (l .env .gain) (h .floats 5),
-        back (l .target) (h .floats 6),
-        mod-eq-of-lt (h .rate),
-      ) refl
+      let f = h .floats in
+      λ i. record {
+        settings = record {
+          «threshold_db» = back (l .settings .«threshold_db») (f .threshold) i;
+          «true_peak_margin_db» = back (l .settings .«true_peak_margin_db») (f .margin) i;
+          «lookahead_ms» = back (l .settings .«lookahead_ms») (f .lookahead) i;
+          «release_ms» = back (l .settings .«release_ms») (f .release) i;
+        };
+        rate = mod-eq-of-lt (h .numbers .rate) i;
+        channels = l .channels;
+        «max_block» = l .«max_block»;
+        «release_coeff» = back (l .«release_coeff») (f .coeff) i;
+        env = record { keeper = l .env .keeper; attack = l .env .attack; gain = back (l .env .gain) (f .gain) i };
+        «delay_pos» = l .«delay_pos»;
+        target = back (l .target) (f .target) i;
+        drained = l .drained;
+      }
 
   smoother-back : smootherIn (wordsOut p) 19 ≡ slotAt 0 (p .bank .smoothers)
   unfolding wordsOut
   smoother-back =
       let s = slotAt 0 (p .bank .smoothers) in
-      rw (
-        back (s .cur) (h .floats 7),
-        back (s .target) (h .floats 8),
-        back (s .low) (h .floats 9),
-        back (s .high) (h .floats 10),
-        back (s .default) (h .floats 11),
-        back (s .steps) (h .floats 12),
-        back (s .«step_delta») (h .floats 13),
-        back (s .coeff) (h .floats 14),
-        back (s .«smoothing_ms») (h .floats 15),
-        mod-eq-of-lt (h .id),
-        shape-back (s .shape),
-      ) refl
+      let f = h .bank .first in
+      λ i. record {
+        id = mod-eq-of-lt (f .id) i;
+        cur = back (s .cur) (f .cur) i;
+        target = back (s .target) (f .target) i;
+        low = back (s .low) (f .low) i;
+        high = back (s .high) (f .high) i;
+        default = back (s .default) (f .default) i;
+        steps = back (s .steps) (f .steps) i;
+        «updates_remaining» = s .«updates_remaining»;
+        «step_delta» = back (s .«step_delta») (f .delta) i;
+        shape = shape-back (s .shape) i;
+        coeff = back (s .coeff) (f .coeff) i;
+        «smoothing_ms» = back (s .«smoothing_ms») (f .time) i;
+      }
 
   bank-back : bankIn (wordsOut p) ≡ p .bank
   unfolding wordsOut
-  bank-back = rw (smoother-back, ← h .slots, mod-eq-of-lt (h .bankRate), ready-back (p .bank .ready)) refl
+  bank-back = rw (smoother-back, ← h .bank .slots, mod-eq-of-lt (h .bank .rate), ready-back (p .bank .ready)) refl
 
   pub state-of-words : stateIn (wordsOut p) ≡ p
   unfolding stateIn
   state-of-words = rw (limiter-back, bank-back) refl
+
+-- ---- every word is one of 64 bits
+bits-small : (x : Float) → Fits x → toBits binary64 x < 2 ^ 64
+bits-small x h = toBits-lt binary64 x h
+
+half-small : {n : ℕ} → n < 2 ^ 32 → n < 2 ^ 64
+half-small h = omega arith
+
+layout-small : layout < 2 ^ 64
+layout-small = omega arith
+
+shape-word-small : (s : Smoothing) → shapeWord s < 2 ^ 64
+shape-word-small Step = omega arith
+shape-word-small Linear = omega arith
+shape-word-small OnePole = omega arith
+
+flag-small : (b : Bool) → cond b 1 0 < 2 ^ 64
+flag-small true = omega arith
+flag-small false = omega arith
+
+-- all of them
+infixr 67 _∷<_
+data AllSmall : List ℕ → Type 0 where
+  none : AllSmall []
+  _∷<_ : {w : ℕ} {ws : List ℕ} → w < 2 ^ 64 → AllSmall ws → AllSmall (w ∷ ws)
+
+small-at : {ws : List ℕ} → AllSmall ws → (i : ℕ) → getD ws i 0 < 2 ^ 64
+small-at none i = omega arith
+small-at (h ∷< k) zero = h
+small-at (h ∷< k) (suc i) = small-at k i
+
+zero-small : 0 < 2 ^ 64
+zero-small = omega arith
+
+zeros-small : (n : ℕ) → AllSmall (replicate n 0)
+zeros-small zero = none
+zeros-small (suc n) = zero-small ∷< zeros-small n
+
+words-small : (p : KernelProcessor) → Storable p → (i : ℕ) → getD (wordsOut p) i 0 < 2 ^ 64
+unfolding wordsOut
+words-small p h =
+    let f = h .floats in
+    let n = h .numbers in
+    let s = h .bank .first in
+    small-at
+    (layout-small ∷< bits-small _ (f .threshold) ∷< bits-small _ (f .margin) ∷< bits-small _ (f .lookahead) ∷< bits-small _ (f .release)
+    ∷< half-small (n .rate) ∷< n .channels ∷< n .largest ∷< bits-small _ (f .coeff) ∷< n .look ∷< n .head ∷< n .len ∷< n .frame
+    ∷< n .pos ∷< n .tally ∷< bits-small _ (f .gain) ∷< n .delay ∷< bits-small _ (f .target) ∷< n .drained
+    ∷< half-small (s .id) ∷< bits-small _ (s .cur) ∷< bits-small _ (s .target) ∷< bits-small _ (s .low) ∷< bits-small _ (s .high) ∷< bits-small _ (s .default) ∷< bits-small _ (s .steps)
+    ∷< s .left ∷< bits-small _ (s .delta) ∷< shape-word-small (slotAt 0 (p .bank .smoothers) .shape) ∷< bits-small _ (s .coeff) ∷< bits-small _ (s .time)
+    ∷< h .bank .count ∷< half-small (h .bank .rate) ∷< flag-small (p .bank .ready) ∷< zeros-small 30)
 
 -- ---- the same by bytes
 ready-small : (b : Bool) → leb (cond b 1 0) 1 ≡ true
@@ -100,15 +147,15 @@ module _ (p : KernelProcessor) (h : Storable p) where
 
   out-words : wordsIn 8 stateWords (stateOut p) ≡ wordsOut p
   unfolding stateOut wordsOut
-  out-words = words-of-bytes 8 (wordsOut p) (h .words)
+  out-words = words-of-bytes 8 (wordsOut p) (words-small p h)
 
   out-holds : holdsState (wordsOut p) ≡ true
   unfolding holdsState wordsOut zerosAt
   out-holds =
       rw (
-        lt-ltb (p .limiter .rate) (2 ^ 32) (h .rate),
-        lt-ltb (slotAt 0 (p .bank .smoothers) .id) (2 ^ 32) (h .id),
-        lt-ltb (p .bank .rate) (2 ^ 32) (h .bankRate),
+        lt-ltb (p .limiter .rate) (2 ^ 32) (h .numbers .rate),
+        lt-ltb (slotAt 0 (p .bank .smoothers) .id) (2 ^ 32) (h .bank .first .id),
+        lt-ltb (p .bank .rate) (2 ^ 32) (h .bank .rate),
         shape-small (slotAt 0 (p .bank .smoothers) .shape),
         ready-small (p .bank .ready),
       ) refl

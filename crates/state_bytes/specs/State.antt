@@ -14,6 +14,7 @@ use Rattle.bank.specs.Smoother.{vacant}
 use Rattle.bank.specs.Bank.{slotAt, unset}
 use Rattle.bank.specs.declared.smoother.Smoother.{Smoother}
 use Rattle.bank.specs.declared.smoother_bank.SmootherBank.{SmootherBank}
+use Rattle.turns.specs.Machine.{Machine}
 use Rattle.driver.specs.declared.state.KernelProcessor.{KernelProcessor}
 use Rattle.bank.specs.Words.{floatIn, halfIn, smootherIn, floatOut, smootherOut}
 
@@ -90,6 +91,10 @@ unfoldable pub wordsOut : KernelProcessor → List ℕ
 wordsOut p = layout ∷ limiterOut (p .limiter) ++ bankOut (p .bank) ++ replicate 30 0
 
 -- ---- read and written
+-- the part of a machine that the bytes hold; its stores are lent beside them
+abbrev pub processorOf : Machine → KernelProcessor
+processorOf m = record { limiter = m .limiter; bank = m .bank }
+
 -- the limiter that was never set up
 abbrev pub never : KernelProcessor
 never = record { limiter = notSetUp; bank = unset }
