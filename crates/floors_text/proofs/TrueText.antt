@@ -5,21 +5,21 @@ use mathlib.Core.List.{List, [], _∷_, _++_, append-assoc, reverse, reverseAux}
 use Prim.Native.Nat.{ℕ, _+_, _≤_, _<_}
 use native.Mathlib.Omega.{arith}
 use lib.Dec.{eqb}
-use lib.ListN.{length, replicate, length-replicate}
+use lib.ListN.{length, length-replicate}
 use lib.Ieee.{Float}
 use borrow.Author.Tests.{le-leb, eq-eqb}
 use Rattle.arithmetic.specs.Number
 use Rattle.arithmetic.specs.Number.{bits}
-use Rattle.arithmetic.specs.Reply.{Reply, Value, finished, count, float}
+use Rattle.arithmetic.specs.Reply.{Reply, finished, count, float}
 use Rattle.keeper.specs.InOrder.{mostFrames}
-use Rattle.keeper.specs.Keeper.{Keeping, KeeperLeft, lookTaken, setupOf, steppedOf, finishedStep, stepOf}
+use Rattle.keeper.specs.Keeper.{Keeping, KeeperLeft, steppedOf, finishedStep, stepOf}
 use Rattle.keeper.specs.History.{keepingAfter, dropsIn, dropsSince, Start}
 use Rattle.keeper.proofs.Calls.{step-0}
 use Rattle.keeper.proofs.Floor.{floor-true, never-refused, frames-taken, drops-kept}
-use Rattle.floors_text.specs.Print.{frameLine, refusalLine}
+use Rattle.floors_text.specs.Print.{refusalLine}
 use Rattle.floors_text.specs.Lines.{inFront, linesOf, lookOf, gainOf}
 use Rattle.floors_text.specs.Text.{opened, frameText, orElse, gainText, gainsIn, keptAfter, gainsLeft, textOf}
-use Rattle.floors_text.specs.TrueText.{floorAt, replyAt, keptIn, trueLine, trueLines, refusalIn, TrueText}
+use Rattle.floors_text.specs.TrueText.{floorAt, replyAt, keptTold, trueLine, trueLines, refusalIn, TrueText}
 use Rattle.floors_text.specs.declared.lines.Field.{Field}
 use Rattle.floors_text.specs.declared.lines.Field.the-variants.{Malformed, Number}
 use Rattle.floors_text.proofs.Length.{look-range}
@@ -54,8 +54,8 @@ module _ (look : ℕ) (least : 11 ≤ look) (most : look ≤ 4096) where
     dropped-is : dropsIn (replyAt look before x .values) ≡ steppedOf (kept before) x .dropped
     dropped-is = ap (λ (r : Reply). dropsIn (r .values)) replied
 
-    kept-is : keptIn (replyAt look before x .values) ≡ kept (x ∷ before) .keeper .len
-    kept-is = ap (λ (r : Reply). keptIn (r .values)) replied
+    kept-is : keptTold (replyAt look before x .values) ≡ kept (x ∷ before) .keeper .len
+    kept-is = ap (λ (r : Reply). keptTold (r .values)) replied
 
     goes-on : steppedOf (kept before) x .keeping ≡ kept (x ∷ before)
     goes-on = sym (ap (λ (o : KeeperLeft). o .keeping) finishes)

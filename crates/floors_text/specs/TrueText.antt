@@ -5,11 +5,10 @@ use Prim.Native.Nat.{ℕ, _+_, _≤_, _<_}
 use mathlib.Core.List.{List, [], _∷_, _++_, map, reverse}
 use lib.ListN.{length, getD}
 use lib.Ieee.{Float}
-use Rattle.arithmetic.specs.Number.{bits}
 use Rattle.arithmetic.specs.Sanitize.{unitGain}
 use Rattle.arithmetic.specs.Reply.{Reply, Value, finished, count, float}
 use Rattle.keeper.specs.InOrder.{mostFrames}
-use Rattle.keeper.specs.Keeper.{setupOf, stepOf, KeeperLeft}
+use Rattle.keeper.specs.Keeper.{setupOf, stepOf}
 use Rattle.keeper.specs.Floor.{floorOf}
 use Rattle.keeper.specs.History.{keepingAfter, dropsIn, dropsSince}
 use Rattle.floors_text.specs.Print.{frameLine, refusalLine}
@@ -31,12 +30,12 @@ abbrev pub countIn : Value → ℕ
 countIn (count n) = n
 countIn (float f) = 0
 
-abbrev pub keptIn : List Value → ℕ
-keptIn values = countIn (getD values 2 (count 0))
+abbrev pub keptTold : List Value → ℕ
+keptTold values = countIn (getD values 2 (count 0))
 
 -- its line: the frame's number from 0; the floor; the drops by this step; the entries kept
 abbrev pub trueLine : ℕ → List Float → Float → List ℕ
-trueLine look before x = let values = replyAt look before x .values in frameLine (length before) (floorAt look before x) (dropsIn values) (keptIn values)
+trueLine look before x = let values = replyAt look before x .values in frameLine (length before) (floorAt look before x) (dropsIn values) (keptTold values)
 
 -- a line for each gain, in their order
 abbrev pub trueLines : ℕ → List Float → List Float → List ℕ
@@ -54,10 +53,10 @@ pub record TrueText : Type 0 where
       → textOf input ≡ trueLines look [] (gainsIn lines) ++ refusalIn 2 lines
   -- at every look, and after any gains: the step is finished, and replies the three numbers of the line
   pub replied : (look : ℕ) → 11 ≤ look → look ≤ 4096 → (before : List Float) (x : Float) → length before < mostFrames
-      → replyAt look before x ≡ finished (float (floorAt look before x) ∷ count (dropsIn (replyAt look before x .values)) ∷ count (keptIn (replyAt look before x .values)) ∷ [])
+      → replyAt look before x ≡ finished (float (floorAt look before x) ∷ count (dropsIn (replyAt look before x .values)) ∷ count (keptTold (replyAt look before x .values)) ∷ [])
   -- the drops that the lines tell so far, this one's too, and the entries kept are the frames so far
   pub balanced : (look : ℕ) → 11 ≤ look → look ≤ 4096 → (before : List Float) (x : Float) → length before < mostFrames
-      → dropsSince (opened look) (x ∷ before) + keptIn (replyAt look before x .values) ≡ length before + 1
+      → dropsSince (opened look) (x ∷ before) + keptTold (replyAt look before x .values) ≡ length before + 1
   -- the keeper that the text starts with is what a setup leaves of any stores of the right length
   pub start : (look : ℕ) → 11 ≤ look → look ≤ 4096 → (marks : List ℕ) (minima : List Float) → length marks ≡ look + 1 → length minima ≡ look + 1
       → setupOf look marks minima ≡ record { reply = finished []; keeping = opened look }
