@@ -24,7 +24,7 @@ use Rattle.envelope.specs.Step.{Enveloped, envelopedAt, gainStepOf}
 use Rattle.envelope.specs.declared.env.Envelope.{Envelope}
 use Rattle.envelope.proofs.Tally.{bounded}
 use Rattle.envelope.proofs.Tally
-use Rattle.settings.specs.Derived.{lookOf, rowOf}
+use Rattle.settings.specs.Derived.{rowOf}
 use Rattle.settings.specs.declared.LimiterSettings.{LimiterSettings}
 use Rattle.settings.specs.declared.ProcessSpec.{ProcessSpec}
 use Rattle.frame.specs.Rules.{Rules, rulesOf}
@@ -38,7 +38,7 @@ use Rattle.limiter.specs.Prepare.{prepareRefusal, LimiterLeft, limiterLeft, pre
 use Rattle.limiter.specs.Reset
 use Rattle.limiter.specs.Run.{movingOf, movedOn}
 use Rattle.limiter.specs.declared.state.Limiter.{Limiter}
-use Rattle.limiter.proofs.Frames.{order-is}
+use Rattle.limiter.proofs.Frames.{order-is, Bounds, bounds-of}
 use Rattle.limiter.proofs.Judge.{fit}
 use Rattle.limiter.proofs.Ready.{prepared-is, reset-prepared, not-prepared}
 use Rattle.limiter.proofs.Setup.{setup-ready}
@@ -63,19 +63,16 @@ use Rattle.state_bytes.proofs.Banks.{chosen, AllFit, parameter-bank, re
 -- ---- numbers: what 18 and 19 accept is far below 2^64
 record Bounded (l : Limiter) : Type 0 where
   rate : l .rate ≤ 192000
-  channels : l .channels ≤ 8
   largest : l .«max_block» ≤ 65536
-  look : l .env .keeper .look ≤ 4096
+  more : Bounds l
 
 bounded-of : (l : Limiter) → Order.prepared l ≡ true → Bounded l
 bounded-of l h =
     let p = prepared-is l h in
-    let look = lookOf (l .settings .«lookahead_ms») (l .rate) in
     record {
       rate = leb-true (l .rate) 192000 (and-true (leb 8000 (l .rate)) (leb (l .rate) 192000) (p .rules .rate-is) .1);
-      channels = leb-true (l .channels) 8 (and-true (leb 1 (l .channels)) (leb (l .channels) 8) (p .rules .channels-is) .1);
       largest = leb-true (l .«max_block») 65536 (p .rules .block-is);
-      look = rw (p .look-is) (leb-true look 4096 (and-true (leb 11 look) (leb look 4096) (p .rules .look-is) .1));
+      more = bounds-of l h;
     }
 
 -- ring, row and positions in order
@@ -88,16 +85,16 @@ order-small l marks minima row set-up ring rowed long place drained =
     let r = Tally.ordered (l .env .attack) row rowed in
     record {
       rate = omega (arith, b .rate);
-      channels = omega (arith, b .channels);
+      channels = omega (arith, b .more .most);
       largest = omega (arith, b .largest);
-      look = omega (arith, b .look);
-      head = omega (arith, b .look, o .inside);
-      len = omega (arith, b .look, o .few);
+      look = omega (arith, b .more .look-most);
+      head = omega (arith, b .more .look-most, o .inside);
+      len = omega (arith, b .more .look-most, o .few);
       frame = omega (arith, o .frames);
-      pos = omega (arith, b .look, r .place, long);
-      tally = omega (arith, b .look, r .true-tally, bounded row, long);
-      delay = omega (arith, b .look);
-      drained = omega (arith, b .look);
+      pos = omega (arith, b .more .look-most, r .place, long);
+      tally = omega (arith, b .more .look-most, r .true-tally, bounded row, long);
+      delay = omega (arith, b .more .look-most);
+      drained = omega (arith, b .more .look-most);
     }
 
 kernel-small : (l : Limiter) (s : Stores) → Kernel l s → LimiterSmall l
@@ -110,9 +107,9 @@ started-small s spec h =
     let b = bounded-of (started s spec) h in
     record {
       rate = omega (arith, b .rate);
-      channels = omega (arith, b .channels);
+      channels = omega (arith, b .more .most);
       largest = omega (arith, b .largest);
-      look = omega (arith, b .look);
+      look = omega (arith, b .more .look-most);
       head = omega arith;
       len = omega arith;
       frame = omega arith;
