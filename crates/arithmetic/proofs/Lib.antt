@@ -18,3 +18,4 @@ pub mod UnitHigh
 pub mod UnitReduced
 pub mod Unit
 pub mod PowerExact
+pub mod InTurn

@@ -74,3 +74,6 @@ gain-within x = clamp-within zero one tt tt (finiteOrZero x) (sanitized-finite x
 
 pub unit→finite : (x : Float) → within zero one x ≡ true → T (finite x)
 unit→finite x h = within→finite zero one tt tt x h
+
+pub unit-same : (x : Float) → within zero one x ≡ true → unitGain x ≡ x
+unit-same x h = rw (sanitized-same x (unit→finite x h)) (clamp-inside zero one tt tt x h)

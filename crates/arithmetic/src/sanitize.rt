@@ -4,6 +4,7 @@ ghost use Rattle.arithmetic.specs.Sanitize.{finiteOrZero, flushDenormal,
 use crate::number::abs;
 use crate::number::clamp;
 use crate::number::is_finite;
+use crate::number::unit;
 
 // Outputs below this magnitude are flushed to zero.
 const DENORMAL_FLOOR: f64 = 1e-30;
@@ -23,9 +24,14 @@ pub fn flush_denormal(x: f64) -> f64
     if abs(y) < DENORMAL_FLOOR { 0.0 } else { y }
 }
 
-// A gain: what is not finite counts as 0.0, and the rest is kept within 0 and 1.
+// A gain: what is not finite counts as 0.0, and the rest is kept within 0 and 1. Nearly every gain
+// is there already, and a branch that is nearly never taken keeps the clamping off the chain from
+// gain to gain.
 pub fn unit_gain(x: f64) -> f64
     ensures { λ r. ⌜ r ≡ unitGain x ⌝ }
 {
+    if unit(x) {
+        return x;
+    }
     clamp(finite_or_zero(x), 0.0, 1.0)
 }
