@@ -4,6 +4,7 @@ pub mod Drops
 pub mod Loops
 pub mod Step
 pub mod Calls
+pub mod Run
 pub mod Scan
 pub mod Window
 pub mod Floor

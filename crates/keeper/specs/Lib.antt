@@ -2,5 +2,6 @@
 pub mod Ring
 pub mod InOrder
 pub mod Keeper
+pub mod Run
 pub mod Floor
 pub mod History

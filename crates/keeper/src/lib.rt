@@ -2,9 +2,11 @@
 // the latest look + 1 gains in a ring of entries that rise from front to back; the front is the
 // floor. The state goes in and comes back by value, and the entries lie in two lent stores.
 ghost use mathlib.Core.Path.{_≡_};
-ghost use Prim.Native.Nat.{_+_};
+ghost use Prim.Native.Nat.{_+_, _≤_};
 ghost use lib.ListN.{length};
+ghost use Rattle.keeper.specs.InOrder.{mostFrames};
 ghost use Rattle.keeper.specs.Keeper.{freshKeeper, keepingAt, ordered, setupAt, setupOf, Ready, innerAt, steppedOf, stepAt, stepOf};
+ghost use Rattle.keeper.specs.Run.{floorsAt, floorsOf};
 
 mod order;
 mod ring;
@@ -150,6 +152,28 @@ impl FloorKeeper {
                 frame: frame + 1,
             },
         }
+    }
+
+    // A run of gain steps: each gain gives way to its floor.
+    pub fn floors_in_order(
+        self,
+        marks: &mut [u64],
+        minima: &mut [f64],
+        gains: &mut [f64],
+    ) -> FloorKeeper
+        requires { ⌜ Ready (keepingAt self (now marks) (now minima)) ⌝ }
+        requires { ⌜ self .frame + length (now gains) ≤ mostFrames ⌝ }
+        ensures { λ r. ⌜ floorsAt r (now (marks .exit)) (now (minima .exit)) (now (gains .exit))
+            ≡ floorsOf (keepingAt self (now (marks .entry)) (now (minima .entry))) (now (gains .entry)) ⌝ }
+    {
+        let n = gains.len();
+        let mut k = self;
+        for i in 0..n {
+            let step = k.step_in_order(marks, minima, gains[i]);
+            gains[i] = step.floor;
+            k = step.keeper;
+        }
+        k
     }
 
     // One gain step of any keeper on any stores.
