@@ -3,5 +3,9 @@ pub mod Weighted
 pub mod Tally
 pub mod Scan
 pub mod Gain
+pub mod Following
+pub mod Position
+pub mod Along
+pub mod RunMeans
 pub mod Newest
 pub mod Wrong

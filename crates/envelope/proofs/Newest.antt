@@ -20,7 +20,7 @@ down-set row i f from (suc n) h =
     rw (getD-set-other row i (from + n) f nan (h n (omega arith)), down-set row i f from n (λ k l e. h k (omega arith) e)) refl
 
 -- without the lowest place
-down-take : (row : List Float) (from n : ℕ) → take n (down row from (suc n)) ≡ down row (suc from) n
+pub down-take : (row : List Float) (from n : ℕ) → take n (down row from (suc n)) ≡ down row (suc from) n
 down-take row from zero = refl
 down-take row from (suc n) =
     let e : from + suc n ≡ suc from + n = omega arith in

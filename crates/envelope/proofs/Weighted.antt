@@ -37,7 +37,7 @@ joined acc (w ∷ ws) (x ∷ xs) ys h = joined (add binary64 acc (mul binary64 w
 
 -- ---- the mean
 -- the tally tells a row of nothing but 1, read newest first too
-newest-all-one : (row : List Float) (pos : ℕ) → pos ≤ length row → allOne (newestFirst pos row) ≡ eqb (tallyOf row) 0
+pub newest-all-one : (row : List Float) (pos : ℕ) → pos ≤ length row → allOne (newestFirst pos row) ≡ eqb (tallyOf row) 0
 newest-all-one row pos h = all-one (newestFirst pos row) ∙ ap (λ (n : ℕ). eqb n 0) (tally-newest row pos h)
 
 pub mean-one : (weights row : List Float) (pos : ℕ) → pos ≤ length row → tallyOf row ≡ 0 → one ≡ meanOf weights (newestFirst pos row)

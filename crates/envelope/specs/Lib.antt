@@ -3,3 +3,4 @@ pub mod Row
 pub mod Mean
 pub mod Follow
 pub mod Step
+pub mod Run

@@ -31,6 +31,11 @@ tallyOf (f ∷ fs) = otherThanOne f + tallyOf fs
 abbrev pub nextPos : ℕ → ℕ → ℕ
 nextPos l pos = cond (eqb (pos + 1) l) 0 (pos + 1)
 
+-- the position n places on
+unfoldable pub posAfter : ℕ → ℕ → ℕ → ℕ
+posAfter l pos zero = pos
+posAfter l pos (suc n) = posAfter l (nextPos l pos) n
+
 -- the floor replaces the oldest in the row
 pub record Rowed : Type 0 where
   pub state : AttackRow

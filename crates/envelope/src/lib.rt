@@ -3,6 +3,8 @@
 
 // The attack row and its mean.
 pub mod row;
+// The attack row over a run.
+pub mod means;
 // The gain's attack and release.
 pub mod follow;
 // One gain step.

@@ -6,8 +6,10 @@ use native.Mathlib.Omega.{arith}
 use denote.Ref.{now}
 use borrow.Author.Needs.{needs}
 use lib.ListN.{length, drop}
+use Rattle.arithmetic.specs.Number
+use Rattle.arithmetic.specs.Number.{one, within}
 use Rattle.envelope.specs.Row.{allUnit}
-use Rattle.envelope.proofs.Scan.{unit-next, unit-end}
+use Rattle.envelope.proofs.Scan.{all-next, all-end}
 use Rattle.envelope.proofs.row.all_unit.Statement.{statement}
 use Rattle.envelope.proofs.row.all_unit.Tie as tie
 
@@ -39,10 +41,10 @@ loop-again : tie.Need-loop-again Inv-loop μ-loop
 loop-again c =
     let l = c .before .before .before in
     let u = c .unit in
-    (omega arith, unit-next (now (l .before .before .args .row)) (l .loop .i) (omega arith) (l .loop .ok) (u .result) (l .loop .inv .1) (u .ensures))
+    (omega arith, all-next allUnit (within Number.zero one) refl (λ x xs. refl) (now (l .before .before .args .row)) (l .loop .i) (omega arith) (l .loop .ok) (u .result) (l .loop .inv .1) (u .ensures))
 
 returns : tie.Need-returns Inv-loop μ-loop
-returns c = unit-end (now (c .before .before .before .args .row)) (c .before .loop .i) (c .loop-test .left) (c .before .loop .ok) (c .before .loop .inv .1)
+returns c = all-end allUnit (within Number.zero one) refl (λ x xs. refl) (now (c .before .before .before .args .row)) (c .before .loop .i) (c .loop-test .left) (c .before .loop .ok) (c .before .loop .inv .1)
 
 pub all-unit-spec : {M : Type 1} → statement M
 all-unit-spec =
