@@ -1,5 +1,6 @@
 -- Laws of frames and runs that belong to no one function.
 pub mod Turns
+pub mod Steps
 pub mod Channels
 pub mod Exchange
 pub mod Keeps

@@ -1,7 +1,7 @@
 // The gain applied to each frame of a run.
 ghost use mathlib.Core.Path.{_≡_};
 ghost use mathlib.Core.List.{[], _∷_, map};
-ghost use Prim.Native.Nat.{_+_, _≤_};
+ghost use Prim.Native.Nat.{ℕ, _+_, _≤_, _<_};
 ghost use lib.ListN.{length};
 ghost use lib.Ieee.{Float};
 ghost use Rattle.keeper.specs.InOrder.{mostFrames};
@@ -11,6 +11,7 @@ ghost use Rattle.frame.specs.Passes.{gainsAt, gainsOf};
 use arithmetic::number::min;
 use envelope::env::Envelope;
 use envelope::env::GainStep;
+use envelope::follow::follow_all;
 
 // Below the target the ratio exceeds one and becomes unity, so there is no case of its own for it.
 fn required_gain(target: f64, peak: f64) -> f64
@@ -29,8 +30,28 @@ pub fn required_gains(target: f64, peaks: &mut [f64])
     }
 }
 
-// A gain step for each frame: the gain to apply takes the required gain's place. The envelope afterwards is
-// handed back in a step; of one gain, all that its step tells is promised, of more the envelope alone.
+// The value of a list that has but one.
+fn lone(xs: &[f64]) -> f64
+    ensures { λ r. ⌜ ((x : Float) → now (xs .entry) ≡ x ∷ [] → r ≡ x) ⌝ }
+{
+    if xs.len() == 1 { xs[0] } else { 1.0 }
+}
+
+// How many entries a step dropped that found so many and left so many, its own among them.
+fn dropped_by(before: usize, after: usize) -> usize
+    ensures { λ r. ⌜ ((d : ℕ) → 0 < after → d + after ≡ before + 1 → r ≡ d) ⌝ }
+{
+    if after == 0 {
+        return 0;
+    }
+    let left = after - 1;
+    if left <= before { before - left } else { 0 }
+}
+
+// A gain step for each frame, in three passes: the floors of all frames, which need no gain; the means
+// of the row; the gains that follow them. The gain to apply takes the required gain's place. The
+// envelope afterwards is handed back in a step; of one gain, all that its step tells is promised, of
+// more the envelope alone.
 pub fn gain_steps(
     env: Envelope,
     marks: &mut [u64],
@@ -47,17 +68,21 @@ pub fn gain_steps(
     ensures { λ r. ⌜ ((x : Float) → now (gains .entry) ≡ x ∷ [] → gainStepAt r (now (marks .exit)) (now (minima .exit)) (now (row .exit))
         ≡ gainStepOf (now (weights .entry)) coeff (envelopedAt env (now (marks .entry)) (now (minima .entry)) (now (row .entry))) x) ⌝ }
 {
-    let n = gains.len();
-    let mut last = GainStep {
-        floor: 1.0,
-        dropped: 0,
-        mean: 1.0,
-        env,
-    };
-    for i in 0..n {
-        let e = last.env;
-        last = e.step_env(marks, minima, weights, row, coeff, gains[i]);
-        gains[i] = last.env.gain;
+    let keeper = env.keeper;
+    let attack = env.attack;
+    let kept = keeper.floors_in_order(marks, minima, gains);
+    let floor = lone(gains);
+    let pushed = attack.means(weights, row, gains);
+    let mean = lone(gains);
+    let gain = follow_all(env.gain, coeff, gains);
+    GainStep {
+        floor,
+        dropped: dropped_by(keeper.len, kept.len),
+        mean,
+        env: Envelope {
+            keeper: kept,
+            attack: pushed,
+            gain,
+        },
     }
-    last
 }

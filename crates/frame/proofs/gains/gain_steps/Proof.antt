@@ -1,110 +1,69 @@
--- `gain_steps`: the gains passed, and what the rest comes to; of one gain, its step.
-use mathlib.Core.Path.{_≡_, refl, _∙_}
-use Prim.Native.Nat.{_+_, _-_, _≤_, _<_}
+-- `gain_steps`: floors, means and gains, from what each pass gives.
+use mathlib.Core.Path.{_≡_, refl, sym, ap, _∙_}
 use native.Mathlib.Omega.{arith}
 use borrow.Author.Needs.{needs}
-use lib.ListN.{length, length-set}
 use denote.Ref.{now}
-use Rattle.keeper.specs.InOrder.{mostFrames}
-use Rattle.envelope.specs.Step.{envelopedAt, gainStepAt, EnvReady}
-use Rattle.frame.specs.Passes.{gainsOf}
-use Rattle.frame.proofs.Turns.{gainsFrom, gains-turn, gains-done, Lone, lone-start, lone-turn, lone-done}
+use Prim.Native.Nat.{_+_}
+use lib.ListN.{length}
+use Rattle.keeper.specs.Keeper.{keepingAt}
+use Rattle.keeper.specs.Run.{Floors, floorsAt}
+use Rattle.envelope.specs.Step.{envelopedAt}
+use Rattle.envelope.specs.Run.{meansAt, followsAt}
+use Rattle.frame.proofs.Steps.{floors-unit, passes-done, lone-done}
 use Rattle.frame.proofs.gains.gain_steps.Statement.{statement}
 use Rattle.frame.proofs.gains.gain_steps.Tie as tie
 
-abbrev Inv-loop : tie.InvT-loop
-Inv-loop marks₀ minima₀ weights row₀ coeff gains₀ n last₀ i₀ marks minima row gains last i =
-    (i ≤ n) × (length gains ≡ n) × (last .env .keeper .frame + (n - i) ≤ mostFrames) × (i < n → EnvReady weights (envelopedAt (last .env) marks minima row))
-    × (gainsFrom weights coeff (envelopedAt (last .env) marks minima row) i gains ≡ gainsOf weights coeff (envelopedAt (last₀ .env) marks₀ minima₀ row₀) gains₀)
-    × (length marks ≡ length marks₀) × (length minima ≡ length minima₀) × (length row ≡ length row₀)
-    × Lone weights coeff (envelopedAt (last₀ .env) marks₀ minima₀ row₀) gains₀ i (gainStepAt last marks minima row) gains
+floors-in-order-requires : tie.Need-floors-in-order-requires
+floors-in-order-requires c κs = (c .before .before .before .before .before .before .before .before .before .before .pre .0 .keeper, c .before .before .before .before .before .before .before .before .before .before .pre .1)
 
-abbrev μ-loop : tie.MeasureT-loop
-μ-loop marks₀ minima₀ weights row₀ coeff gains₀ n last₀ i₀ marks minima row gains last i = n - i
+lone-requires : tie.Need-lone-requires
+lone-requires c κs = search needs
 
-loop-holds : tie.Need-loop-holds Inv-loop μ-loop
-loop-holds c = (search needs, refl, omega arith, λ k. c .before .before .before .before .before .pre .0, refl, refl, refl, refl, lone-start _ _ _ _ _ refl)
+means-requires : tie.Need-means-requires
+means-requires c κs =
+    let s = c .before .before .before .before .before .before .before .before .before .before .before .before .before .before .before .before .before .before .before .before .before in
+    let a = s .args in
+    let r = s .pre .0 in
+    let f = c .before .before .before .before .before .before .before .before .before .before in
+    (r .row, (r .weighed, rw (ap (λ (k : Floors). k .floors) (f .floors-in-order .ensures)) (floors-unit (keepingAt (a .env .keeper) (now (a .marks)) (now (a .minima))) (now (a .gains)) (λ h. r .keeper) (s .pre .1))))
 
-mul-step-env : tie.Need-mul-step-env Inv-loop μ-loop
-mul-step-env c = search needs
+lone-requires-2 : tie.Need-lone-requires-2
+lone-requires-2 c κs = search needs
 
-slice-read-step-env : tie.Need-slice-read-step-env Inv-loop μ-loop
-slice-read-step-env c = search needs
+follow-all-requires : tie.Need-follow-all-requires
+follow-all-requires c κs = search needs
 
-step-env-requires : tie.Need-step-env-requires Inv-loop μ-loop
-step-env-requires c κs = let l = c .before .before .before .before .before .before in l .loop .inv .3 (c .before .before .before .before .before .loop-test .taken)
+dropped-by-requires : tie.Need-dropped-by-requires
+dropped-by-requires c κs = search needs
 
-mul-gains : tie.Need-mul-gains Inv-loop μ-loop
-mul-gains c = search needs
-
-slice-write-gains : tie.Need-slice-write-gains Inv-loop μ-loop
-slice-write-gains c = search needs
-
-add-i : tie.Need-add-i Inv-loop μ-loop
-add-i c = search needs
-
-loop-less : tie.Need-loop-less Inv-loop μ-loop
-loop-less c = search needs
-
-loop-again : tie.Need-loop-again Inv-loop μ-loop
-loop-again c =
-    let s = c .before .before .before .before .before .before in
-    let l = s .before .before .before .before .before .before .before in
-    let test = s .before .before .before .before .before .before .loop-test .taken in
-    let a = l .before .before .before .before .before .before .args in
-    let was = gainStepAt (l .loop .last) (l .loop .marks) (l .loop .minima) (l .loop .row) in
-    let next = gainStepAt (s .step-env .result) (s .step-env .last .1 .0) (s .step-env .last .1 .1 .0) (s .step-env .last .1 .1 .1 .1 .0) in
-    let turn = gains-turn (now (a .weights)) (a .coeff) (was .env) (l .loop .i) (l .loop .gains) (length (now (a .gains))) next
-    test (l .loop .inv .1) (l .loop .inv .2) (l .loop .inv .3 test) (s .step-env .ensures) in (
-      omega arith,
-      simp length-set (l .loop .inv .1),
-      turn .0,
-      turn .1,
-      turn .2 ∙ l .loop .inv .4,
-      s .step-env .kept .1 .0 ∙ l .loop .inv .5,
-      s .step-env .kept .1 .1 .0 ∙ l .loop .inv .6,
-      s .step-env .kept .1 .1 .1 .1 .0 ∙ l .loop .inv .7,
-      lone-turn (now (a .weights)) (a .coeff) _ (now (a .gains)) (l .loop .i) was (l .loop .gains) (l .loop .inv .8) next _ (s .step-env .ensures),
-    )
-
-same-length : tie.Need-same-length Inv-loop μ-loop
+same-length : tie.Need-same-length
 same-length c = search needs
 
-same-length-2 : tie.Need-same-length-2 Inv-loop μ-loop
+same-length-2 : tie.Need-same-length-2
 same-length-2 c = search needs
 
-same-length-3 : tie.Need-same-length-3 Inv-loop μ-loop
+same-length-3 : tie.Need-same-length-3
 same-length-3 c = search needs
 
-same-length-4 : tie.Need-same-length-4 Inv-loop μ-loop
+same-length-4 : tie.Need-same-length-4
 same-length-4 c = search needs
 
-returns : tie.Need-returns Inv-loop μ-loop
+returns : tie.Need-returns
 returns c =
-    let l = c .before in
-    let a = l .before .before .before .before .before .before .args in
-    let last = gainStepAt (l .loop .last) (l .loop .marks) (l .loop .minima) (l .loop .row) in (
-      gains-done (now (a .weights)) (a .coeff) (last .env) (l .loop .i) (l .loop .gains) (omega arith) ∙ l .loop .inv .4,
-      lone-done (now (a .weights)) (a .coeff) _ (now (a .gains)) (l .loop .i) last (l .loop .gains) (l .loop .inv .8) (omega arith) (omega arith),
+    let s = c .before .before .before .before .before .before .before .before .before .before .before .before .before .before .before .before .before .before .before .before .before .before .before .before .before .before .before .before .before .before .before .before .before in
+    let a = s .args in
+    let f = c .before .before .before .before .before .before .before .before .before .before .before .before .before .before .before .before .before .before .before .before .before .before in
+    let m = c .before .before .before .before .before .before .before .before .before .before .before in
+    let g = c .before .before .before in
+    let e = envelopedAt (a .env) (now (a .marks)) (now (a .minima)) (now (a .row)) in
+    let floors = floorsAt (f .floors-in-order .result) (f .floors-in-order .last .1 .0) (f .floors-in-order .last .1 .1 .0) (f .floors-in-order .last .1 .1 .1 .0) in
+    let means = meansAt (m .means .result) (m .means .last .1 .1 .0) (m .means .last .1 .1 .1 .0) in
+    let gains = followsAt (g .follow-all .last .1 .1 .0) (g .follow-all .result) in (
+      passes-done (now (a .weights)) (a .coeff) e (now (a .gains)) floors means gains (f .floors-in-order .ensures) (m .means .ensures) (g .follow-all .ensures),
+      λ x one.
+          lone-done (now (a .weights)) (a .coeff) e (now (a .gains)) floors means gains (f .floors-in-order .ensures) (m .means .ensures) (g .follow-all .ensures) x (c .before .before .before .before .before .before .before .before .before .before .before .before .before .before .lone .result) (c .before .before .before .before .before .lone2 .result)
+          (c .dropped-by .result) one (s .pre .0 .keeper) (c .before .before .before .before .before .before .before .before .before .before .before .before .before .before .lone .ensures) (c .before .before .before .before .before .lone2 .ensures) (c .dropped-by .ensures),
     )
 
 pub gain-steps-spec : {M : Type 1} → statement M
-gain-steps-spec =
-    tie.close
-    (tie.spec
-    Inv-loop
-    μ-loop
-    loop-holds
-    mul-step-env
-    slice-read-step-env
-    step-env-requires
-    mul-gains
-    slice-write-gains
-    add-i
-    loop-less
-    loop-again
-    same-length
-    same-length-2
-    same-length-3
-    same-length-4
-    returns)
+gain-steps-spec = tie.close (tie.spec floors-in-order-requires lone-requires means-requires lone-requires-2 follow-all-requires dropped-by-requires same-length same-length-2 same-length-3 same-length-4 returns)
