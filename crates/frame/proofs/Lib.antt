@@ -1,4 +1,5 @@
 -- Laws of frames and runs that belong to no one function.
+pub mod Heard
 pub mod Turns
 pub mod Channels
 pub mod Exchange

@@ -1,9 +1,10 @@
 -- How the code goes about a run: in passes over all its frames, each channel by itself. That the passes add up to the frames in turn is proved in proofs/.
 use Prim.Native.Nat.{ℕ, zero, suc, _+_}
-use mathlib.Core.Bool.{Bool}
+use mathlib.Core.Bool.{Bool, true, _&&_}
 use mathlib.Core.List.{List, [], _∷_, _++_}
 use lib.ListN.{getD, set, take, drop}
-use lib.Ieee.{Float, nan}
+use lib.Ieee.{Float, nan, le}
+use Rattle.arithmetic.specs.Number
 use Rattle.arithmetic.specs.Sanitize.{finiteOrZero}
 use Rattle.detector.specs.Oversample.{remembered}
 use Rattle.detector.specs.Run.{runLength, pushesOf}
@@ -14,6 +15,11 @@ use Rattle.frame.specs.Rules.{Linking}
 use Rattle.frame.specs.Frame.{heard, givenOut}
 
 -- ---- peaks
+-- each is 0 or more, so that none is a NaN
+unfoldable pub allFromZero : List Float → Bool
+allFromZero [] = true
+allFromZero (p ∷ ps) = le Number.zero p && allFromZero ps
+
 -- a channel's share in the peak of each frame
 unfoldable pub heardAll : Bool → List Float → List Float → List Float → List Float
 heardAll counts [] xs answers = []
