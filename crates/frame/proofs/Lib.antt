@@ -2,6 +2,7 @@
 pub mod Heard
 pub mod Turns
 pub mod Channels
+pub mod Stretch
 pub mod Exchange
 pub mod Keeps
 pub mod Place

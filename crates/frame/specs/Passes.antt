@@ -69,6 +69,27 @@ unfoldable pub posAfter : ℕ → ℕ → ℕ → ℕ
 posAfter look pos zero = pos
 posAfter look pos (suc n) = posAfter look (nextPos look pos) n
 
+-- what lay in a line, frame by frame, and the line afterwards
+pub record Exchanged : Type 0 where
+  pub delayed : List Float
+  pub line : List Float
+
+abbrev pub exchangedAt : List Float → List Float → Exchanged
+exchangedAt delayed line = record { delayed = delayed; line = line }
+
+-- samples go into a line, sanitized, and what lay there comes out
+unfoldable pub exchangeOf : ℕ → ℕ → List Float → List Float → Exchanged
+exchangeOf look pos line [] = exchangedAt [] line
+exchangeOf look pos line (x ∷ xs) =
+    let later = exchangeOf look (nextPos look pos) (set line pos (finiteOrZero x)) xs in
+    exchangedAt (getD line pos nan ∷ later .delayed) (later .line)
+
+-- what the frames of these gains give out for what lay in the line
+unfoldable pub productsOf : (Float → Float) → List Float → List Float → List Float
+productsOf leaves [] ds = []
+productsOf leaves (g ∷ gs) [] = []
+productsOf leaves (g ∷ gs) (d ∷ ds) = givenOut leaves d g ∷ productsOf leaves gs ds
+
 pub record Outputs : Type 0 where
   pub outputs : List Float
   pub line : List Float
