@@ -93,8 +93,8 @@ pub exchange-done : (look pos : ℕ) (line : List Float) (i : ℕ) (l : List Flo
 unfolding exchangeOf
 exchange-done look pos line i l h = rw (none-left l i h, all-stored l i h) refl
 
--- a stretch of k: the line from p on and the samples from i on have changed places
-module _ (look p i k k1 k2 : ℕ) (line l ls ss : List Float) (n : length line ≡ look) (h : p + k ≤ look) (m : i + k ≤ length l) (e1 : k1 ≡ k) (e2 : k2 ≡ k) (L : ls ≡ map finiteOrZero (take k2 (drop i l))) (S : ss ≡ take k1 (drop p line)) (q : ℕ) (Q : q ≡ posAfter look p k) where
+-- a stretch of k: the line from p on and the samples from i on have changed places. The code counts k as end less start
+module _ (look p i k : ℕ) (line l ls ss : List Float) (n : length line ≡ look) (h : p + k ≤ look) (m : i + k ≤ length l) (L : ls ≡ map finiteOrZero (take (i + k - i) (drop i l))) (S : ss ≡ take (p + k - p) (drop p line)) (q : ℕ) (Q : q ≡ posAfter look p k) where
   abbrev xs : List Float
   xs = take k (drop i l)
 
@@ -112,12 +112,14 @@ module _ (look p i k k1 k2 : ℕ) (line l ls ss : List Float) (n : length line �
       ∙ exchange-append look p line xs ys
       ∙ rw (straight look p line xs n (rw xn h), xn) refl
 
-  pub exchange-turn : exchangeFrom look q (pasted line p ls k1) (i + k) (pasted l i ss k2) ≡ exchangeFrom look p line i l
+  pub exchange-turn : exchangeFrom look q (pasted line p ls (p + k - p)) (i + k) (pasted l i ss (i + k - i)) ≡ exchangeFrom look p line i l
   exchange-turn =
-      let many : length ss ≡ k = ap (λ (z : List Float). length z) S ∙ part-length line p k k1 (omega arith) e1 in
-      let passed : take (i + k) (pasted l i ss k2) ≡ take i l ++ ss = rw e2 (put-whole l ss i k m many) in
-      let ahead : drop (i + k) (pasted l i ss k2) ≡ ys = rw e2 (put-ahead l ss i k k m (omega arith) many) in
-      let came : exchangeOf look q (pasted line p ls k1) (drop (i + k) (pasted l i ss k2)) ≡ later = rw (ahead, Q, L, e1, e2) refl in
+      let e1 : p + k - p ≡ k = omega arith in
+      let e2 : i + k - i ≡ k = omega arith in
+      let many : length ss ≡ k = ap (λ (z : List Float). length z) S ∙ part-length line p k (p + k - p) (omega arith) e1 in
+      let passed : take (i + k) (pasted l i ss (i + k - i)) ≡ take i l ++ ss = rw e2 (put-whole l ss i k m many) in
+      let ahead : drop (i + k) (pasted l i ss (i + k - i)) ≡ ys = rw e2 (put-ahead l ss i k k m (omega arith) many) in
+      let came : exchangeOf look q (pasted line p ls (p + k - p)) (drop (i + k) (pasted l i ss (i + k - i))) ≡ later = rw (ahead, Q, L, e1, e2) refl in
       rw (passed, came, S, e1) (ap (λ (z : List Float). exchangedAt z (later .line)) (append-assoc (take i l) (take k (drop p line)) (later .delayed)))
       ∙ sym (ap (joined (take i l)) whole)
 

@@ -84,15 +84,17 @@ loop-again c =
     let look = length (now (a .line)) in
     let n = length (now (a .samples)) in
     let k = h .shorter .result in
-    let next = pos-after-stretch look (l .loop .p) k (c .next-pos .result) (omega arith) (omega arith) (c .next-pos .ensures .0) in (
-      omega arith,
+    let line-fits : l .loop .p + k ≤ look = omega arith in
+    let run-fits : l .loop .i + k ≤ n = omega arith in
+    let next = pos-after-stretch look (l .loop .p) k (c .next-pos .result) (omega arith) line-fits (c .next-pos .ensures .0) in (
+      run-fits,
       c .next-pos .ensures .1,
       search needs,
       search needs,
-      exchange-turn look (l .loop .p) (l .loop .i) k (l .loop .p + k - l .loop .p) (l .loop .i + k - l .loop .i) (l .loop .line) (l .loop .samples) (w .swap-stretch .last .0) (w .swap-stretch .last .1 .0)
-          (l .loop .inv .2) (omega arith) (omega arith) (omega arith) (omega arith) (w .swap-stretch .ensures .0) (w .swap-stretch .ensures .1) (c .next-pos .result) next
+      exchange-turn look (l .loop .p) (l .loop .i) k (l .loop .line) (l .loop .samples) (w .swap-stretch .last .0) (w .swap-stretch .last .1 .0) (l .loop .inv .2) line-fits (rw (l .loop .inv .3) run-fits)
+          (w .swap-stretch .ensures .0) (w .swap-stretch .ensures .1) (c .next-pos .result) next
           ∙ l .loop .inv .4,
-      pos-next look (l .loop .p) k n (l .loop .i) (c .next-pos .result) (omega arith) next ∙ l .loop .inv .5,
+      pos-next look (l .loop .p) k n (l .loop .i) (c .next-pos .result) run-fits next ∙ l .loop .inv .5,
     )
 
 same-length : tie.Need-same-length Inv-loop μ-loop
