@@ -1,13 +1,13 @@
 -- What the branches of the leaf functions come to, case by case, on plain values.
 use mathlib.Core.Path.{_≡_, refl, sym, ap, _∙_, subst}
-use mathlib.Core.Bool.{Bool, true, false, not, Bool·beq}
+use mathlib.Core.Bool.{Bool, true, false, not, Bool·beq, _&&_}
 use Prim.Native.Nat.{ℕ, zero, suc, _+_, _*_, _^_, _<_}
 use native.Mathlib.Nat.{zero-mul, sub-self, mul-pos, pow-suc, eq-zero-or-pos, le-refl}
 use native.Mathlib.Omega.{arith}
 use mathlib.Core.Logic.{inl, inr}
 use lib.Dec.{T, ltb, eqb, lit<}
 use lib.IntN.{ℤ, pos, negsuc}
-use lib.Ieee.{Float, nan, inf, fin, binary64, up, down, lt, eq, ne, neg, sub, div, sum, round, fits, isNan}
+use lib.Ieee.{Float, nan, inf, fin, binary64, up, down, lt, le, eq, ne, neg, sub, div, sum, round, fits, isNan, ofBits}
 use lib.Ieee.Scale.{finite}
 use lib.Ieee.Fits.{up-pos, down-pos}
 use lib.Ieee.Exact.{HasValue, round-exact}
@@ -15,7 +15,7 @@ use borrow.Author.Tests.{ltb-true, ltb-false, eqb-true, eqb-false, eq-eqb, le-lt
 use Rattle.arithmetic.specs.Number.{absOf, signOf, withSign, copysignOf, clampOf}
 use Rattle.arithmetic.specs.Number
 use Rattle.arithmetic.specs.Sanitize.{finiteOrZero, denormalFloor, flushDenormal, unitGain}
-use Rattle.arithmetic.proofs.Order.{left, right, plus, minus, den, lt-is, eq-is, clash}
+use Rattle.arithmetic.proofs.Order.{left, right, plus, minus, den, lt-is, eq-is, clash, and-yes, not-lt→le, lt-then-le, le-then-lt}
 
 -- ---- against zero
 -- a finite value is below zero where its minus part is not 0
@@ -170,12 +170,40 @@ ne-nan (inf false) = refl
 ne-nan (fin s m e) = rw (eq-self s m e) refl
 
 -- ---- flush_denormal and unit_gain
-module _ (x y a : Float) (f : y ≡ finiteOrZero x) (g : a ≡ absOf y) where
-  pub flushed : lt a denormalFloor ≡ true → Number.zero ≡ flushDenormal x
-  flushed h = rw (← f, ← g, h) refl
+plus-from-zero : (m : ℕ) (e : ℤ) → le Number.zero (fin false m e) ≡ true
+plus-from-zero m e = not-lt→le (fin false m e) Number.zero tt tt (lt-zero (fin false m e) tt ∙ le-ltb (m * up e) 0 (omega arith))
 
-  pub kept-loud : lt a denormalFloor ≡ false → y ≡ flushDenormal x
-  kept-loud h = rw (← f, ← g, h) refl
+minus-to-zero : (m : ℕ) (e : ℤ) → le (fin true m e) Number.zero ≡ true
+unfolding lt
+minus-to-zero m e = not-lt→le Number.zero (fin true m e) tt tt refl
+
+mirrored : (m n : ℕ) (e d : ℤ) → lt (fin true n d) (fin true m e) ≡ lt (fin false m e) (fin false n d)
+unfolding lt
+mirrored m n e d = refl
+
+-- a magnitude is below a bound above 0 where the value lies between the bound and its negative
+between : (n : ℕ) (d : ℤ) → lt Number.zero (fin false n d) ≡ true → lt (fin true n d) Number.zero ≡ true → (y : Float) → lt y (fin false n d) && lt (fin true n d) y ≡ lt (absOf y) (fin false n d)
+unfolding lt
+between n d h k nan = refl
+between n d h k (inf true) = refl
+between n d h k (inf false) = refl
+between n d h k (fin false m e) =
+    ap (λ (b : Bool). lt (fin false m e) (fin false n d) && b) (lt-then-le (fin true n d) Number.zero (fin false m e) tt tt tt k (plus-from-zero m e))
+    ∙ and-yes (lt (fin false m e) (fin false n d))
+between n d h k (fin true m e) =
+    ap (λ (b : Bool). b && lt (fin true n d) (fin true m e)) (le-then-lt (fin true m e) Number.zero (fin false n d) tt tt tt (minus-to-zero m e) h)
+    ∙ mirrored m n e d
+
+floor-between : (y : Float) → lt y denormalFloor && lt (neg denormalFloor) y ≡ lt (absOf y) denormalFloor
+unfolding ofBits neg lt
+floor-between y = between _ _ refl refl y
+
+module _ (x y : Float) (f : y ≡ finiteOrZero x) where
+  pub flushed : lt y denormalFloor && lt (neg denormalFloor) y ≡ true → Number.zero ≡ flushDenormal x
+  flushed h = rw (← f, sym (floor-between y) ∙ h) refl
+
+  pub kept-loud : lt y denormalFloor && lt (neg denormalFloor) y ≡ false → y ≡ flushDenormal x
+  kept-loud h = rw (← f, sym (floor-between y) ∙ h) refl
 
 pub gain-of : (x y r : Float) → y ≡ finiteOrZero x → r ≡ clampOf y Number.zero Number.one → r ≡ unitGain x
 gain-of x y r f h = rw (← f) h

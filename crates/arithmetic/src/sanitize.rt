@@ -1,7 +1,6 @@
 // Sample sanitization at the limiter's boundaries (sanitize.rs).
 ghost use mathlib.Core.Path.{_≡_};
 ghost use Rattle.arithmetic.specs.Sanitize.{finiteOrZero, flushDenormal, unitGain};
-use crate::number::abs;
 use crate::number::clamp;
 use crate::number::is_finite;
 use crate::number::unit;
@@ -16,12 +15,17 @@ pub fn finite_or_zero(x: f64) -> f64
     if is_finite(x) { x } else { 0.0 }
 }
 
-// The output rule: a finite number, or +0.0 where its magnitude is below 1e-30.
+// The output rule: a finite number, or +0.0 where its magnitude is below 1e-30. Two tests with no branch
+// between them are faster than a magnitude and one test.
 pub fn flush_denormal(x: f64) -> f64
     ensures { λ r. ⌜ r ≡ flushDenormal x ⌝ }
 {
     let y = finite_or_zero(x);
-    if abs(y) < DENORMAL_FLOOR { 0.0 } else { y }
+    if (y < DENORMAL_FLOOR) & (-DENORMAL_FLOOR < y) {
+        0.0
+    } else {
+        y
+    }
 }
 
 // A gain: what is not finite counts as 0.0, and the rest is kept within 0 and 1. Nearly every gain

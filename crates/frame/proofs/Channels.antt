@@ -65,6 +65,10 @@ module _ (l ys : List Float) (a w m : ℕ) (h : a + w ≤ length l) (fits : m �
   pub put-ahead : drop (a + w) (take a l ++ (ys ++ drop m rest)) ≡ drop w (drop a l)
   put-ahead = ap (drop (a + w)) put ∙ drop-at passed (drop w rest) (a + w) passed-length
 
+-- the same with all of its places replaced
+pub put-whole : (l ys : List Float) (a w : ℕ) → a + w ≤ length l → length ys ≡ w → take (a + w) (take a l ++ (ys ++ drop w (drop a l))) ≡ take a l ++ ys
+put-whole l ys a w h n = put-passed l ys a w w h (omega arith) n ∙ rw (past l a w h) (ap (λ (z : List Float). take a l ++ z) (append-nil ys))
+
 -- ---- peaks
 -- the stores of the channels passed, and what the rest comes to
 abbrev pub peaksSince : Linking → ℕ → ℕ → ℕ → List Float → List Float → List Float → Peaks
@@ -107,9 +111,7 @@ peaks-more linking channels n c k1 k2 peaks l audio peaks' ys h f e1 e2 m o =
     let within : a + remembered ≤ length l = rw f (places-end c channels remembered h) in
     let many : length ys ≡ remembered = m ∙ part-length l a remembered k1 within e1 in
     let l' = take a l ++ (ys ++ drop k1 (drop a l)) in
-    let t : take ((c + 1) * remembered) l' ≡ take a l ++ ys =
-    rw (one-more c remembered, e1) (put-passed l ys a remembered remembered within (omega arith) many ∙ rw (past l a remembered within) (ap (λ (z : List Float). take a l ++ z) (append-nil ys)))
-    in
+    let t : take ((c + 1) * remembered) l' ≡ take a l ++ ys = rw (one-more c remembered, e1) (put-whole l ys a remembered within many) in
     let d : drop ((c + 1) * remembered) l' ≡ drop remembered (drop a l) = rw (one-more c remembered, e1) (put-ahead l ys a remembered remembered within (omega arith) many) in
     let s : drop ((c + 1) * runLength) audio ≡ drop runLength (drop (c * runLength) audio) = rw (one-more c runLength) (sym (drop-drop runLength (c * runLength) audio)) in
     peaks-next linking channels n c peaks l audio (peaksAt peaks' ys) l' h (rw (e1, e2) at o) t d s
@@ -165,9 +167,7 @@ module _ (leaves : Float → Float) (look pos : ℕ) (gains : List Float) (chann
       let few : length ys ≡ n = m2 ∙ part-length audio b n k2 (omega arith) e2 in
       let d' = take a delay ++ (line ++ drop k1 (drop a delay)) in
       let a' = take b audio ++ (ys ++ drop k2 (drop b audio)) in
-      let dt : take ((c + 1) * look) d' ≡ take a delay ++ line =
-      rw (one-more c look, e1) (put-passed delay line a look look within (omega arith) many ∙ rw (past delay a look within) (ap (λ (z : List Float). take a delay ++ z) (append-nil line)))
-      in
+      let dt : take ((c + 1) * look) d' ≡ take a delay ++ line = rw (one-more c look, e1) (put-whole delay line a look within many) in
       let dd : drop ((c + 1) * look) d' ≡ drop look (drop a delay) = rw (one-more c look, e1) (put-ahead delay line a look look within (omega arith) many) in
       let at : take ((c + 1) * runLength) a' ≡ take b audio ++ (ys ++ drop n (take runLength (drop b audio))) = rw (one-more c runLength, e2) (put-passed audio ys b runLength n g p few) in
       let ad : drop ((c + 1) * runLength) a' ≡ drop runLength (drop b audio) = rw (one-more c runLength, e2) (put-ahead audio ys b runLength n g p few) in

@@ -1,7 +1,9 @@
 -- Laws of frames and runs that belong to no one function.
+pub mod Heard
 pub mod Turns
 pub mod Steps
 pub mod Channels
+pub mod Stretch
 pub mod Exchange
 pub mod Keeps
 pub mod Place

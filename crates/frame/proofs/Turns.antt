@@ -8,14 +8,12 @@ use native.Mathlib.Omega.{arith}
 use lib.ListN.{length, getD, set, take, drop, replicate, drop-of-length-le}
 use lib.Seq.{take-suc-set, append-snoc, drop-cons, drop-set-lt, take-all}
 use lib.Ieee.{Float, nan}
-use Rattle.arithmetic.specs.Sanitize.{finiteOrZero}
 use Rattle.keeper.specs.InOrder.{mostFrames}
 use Rattle.keeper.specs.Keeper.{steppedOf}
-use Rattle.envelope.specs.Row.{nextPos}
 use Rattle.envelope.specs.Step.{Enveloped, GainStepped, gainStepOf, EnvReady}
 use Rattle.envelope.proofs.Gain.{env-after}
 use Rattle.frame.specs.Frame.{heard, givenOut}
-use Rattle.frame.specs.Passes.{heardAll, Gains, gainsOf, posAfter, Outputs, outputsAt, channelOutputs}
+use Rattle.frame.specs.Passes.{heardAll, Gains, gainsOf, productsOf}
 
 -- ---- a list whose elements are replaced in turn
 module _ (l : List Float) (i : ℕ) (h : i < length l) where
@@ -35,13 +33,21 @@ none-left l i h = drop-of-length-le l {i = i} h
 pub all-stored : (l : List Float) (i : ℕ) → length l ≤ i → take i l ++ [] ≡ l
 all-stored l i h = append-nil (take i l) ∙ take-all i l h
 
+-- ---- a list that gets what another comes to, and the other something else
+module _ (f : Float → Float) (l m : List Float) (i : ℕ) where
+  pub laid-more : (x y : Float) → i < length l → i < length m → x ≡ f (getD m i nan) → take (i + 1) (set l i x) ++ map f (drop (i + 1) (set m i y)) ≡ take i l ++ map f (drop i m)
+  laid-more x y h k e = rw (stored l i h x (map f (drop (i + 1) (set m i y))), kept m i k y, split m i k, e) refl
+
+  pub laid-done : length l ≤ i → length m ≤ i → l ≡ take i l ++ map f (drop i m)
+  laid-done h k = rw (none-left m i k) (sym (all-stored l i h))
+
 -- ---- required gains
 module _ (f : Float → Float) (l : List Float) (i : ℕ) where
   pub map-more : (y : Float) → i < length l → y ≡ f (getD l i nan) → take (i + 1) (set l i y) ++ map f (drop (i + 1) (set l i y)) ≡ take i l ++ map f (drop i l)
-  map-more y h e = rw (stored l i h y (map f (drop (i + 1) (set l i y))), kept l i h y, split l i h, e) refl
+  map-more y h e = laid-more f l l i y y h h e
 
   pub map-done : length l ≤ i → l ≡ take i l ++ map f (drop i l)
-  map-done h = rw (none-left l i h) (sym (all-stored l i h))
+  map-done h = laid-done f l l i h h
 
 -- ---- a channel's share in the peaks
 module _ (counts : Bool) (l xs answers : List Float) (i : ℕ) where
@@ -110,36 +116,26 @@ module _ (weights : List Float) (coeff : Float) (e : Enveloped) (l : List Float)
     pub lone-done : i ≤ length l → length l ≤ i → (x : Float) → l ≡ x ∷ [] → s ≡ gainStepOf weights coeff e x
     lone-done most least x one = let n : length l ≡ 1 = ap (λ (k : List Float). length k) one in was .stepped (omega arith) x one
 
+-- ---- what comes out of a line, into the samples' places
+module _ (l line : List Float) (i : ℕ) where
+  pub lifted-more : (x : Float) → i < length l → i < length line → take (i + 1) (set l i (getD line i nan)) ++ drop (i + 1) (set line i x) ≡ take i l ++ drop i line
+  lifted-more x h k = rw (kept line i k x, stored l i h (getD line i nan) (drop (i + 1) line), split line i k) refl
+
+  pub lifted-done : length l ≤ i → length line ≤ i → l ≡ take i l ++ drop i line
+  lifted-done h k = rw (none-left line i k) (sym (all-stored l i h))
+
 -- ---- outputs
--- the outputs passed, and what the rest comes to
-abbrev pub outputsFrom : (Float → Float) → ℕ → ℕ → List Float → List Float → ℕ → List Float → Outputs
-outputsFrom leaves look pos gains line i l =
-    let later = channelOutputs leaves look pos (drop i gains) line (drop i l) in
-    outputsAt (take i l ++ later .outputs) (later .line)
+module _ (leaves : Float → Float) (gains l : List Float) (i : ℕ) where
+  pub products-more : (y : Float) → i < length l → i < length gains → y ≡ givenOut leaves (getD l i nan) (getD gains i nan)
+      → take (i + 1) (set l i y) ++ productsOf leaves (drop (i + 1) gains) (drop (i + 1) (set l i y)) ≡ take i l ++ productsOf leaves (drop i gains) (drop i l)
+  unfolding productsOf
+  products-more y h k e =
+      stored l i h y (productsOf leaves (drop (i + 1) gains) (drop (i + 1) (set l i y)))
+      ∙ rw (kept l i h y, split l i h, split gains i k, e) refl
 
-module _ (leaves : Float → Float) (look : ℕ) (pos : ℕ) (gains line : List Float) (i : ℕ) (l : List Float) where
-  pub outputs-more : (x y : Float) (next : ℕ) → i < length l → i < length gains → x ≡ finiteOrZero (getD l i nan) → y ≡ givenOut leaves (getD line pos nan) (getD gains i nan) → next ≡ nextPos look pos
-      → outputsFrom leaves look next gains (set line pos x) (i + 1) (set l i y) ≡ outputsFrom leaves look pos gains line i l
-  unfolding channelOutputs
-  outputs-more x y next h k e f n =
-      let later = channelOutputs leaves look next (drop (i + 1) gains) (set line pos x) (drop (i + 1) l) in
-      let a : outputsFrom leaves look next gains (set line pos x) (i + 1) (set l i y) ≡ outputsAt (take i l ++ (y ∷ later .outputs)) (later .line) =
-      rw (kept l i h y, stored l i h y (later .outputs)) refl
-      in
-      a ∙ rw (split l i h, split gains i k, e, f, n) refl
-
-  pub outputs-done : length l ≤ i → length gains ≡ length l → outputsAt l line ≡ outputsFrom leaves look pos gains line i l
-  unfolding channelOutputs
-  outputs-done h k = rw (none-left l i h, none-left gains i (omega arith), all-stored l i h) refl
-
--- ---- the delay position
-pub pos-more : (look p n i : ℕ) → i < n → posAfter look (nextPos look p) (n - (i + 1)) ≡ posAfter look p (n - i)
-unfolding posAfter
-pos-more look p n i h = let e : n - i ≡ suc (n - (i + 1)) = omega arith in rw e refl
-
-pub pos-done : (look p n i : ℕ) → n ≤ i → p ≡ posAfter look p (n - i)
-unfolding posAfter
-pos-done look p n i h = let e : n - i ≡ 0 = omega arith in rw e refl
+  pub products-done : length l ≤ i → length gains ≤ i → l ≡ take i l ++ productsOf leaves (drop i gains) (drop i l)
+  unfolding productsOf
+  products-done h k = rw (none-left gains i k) (sym (all-stored l i h))
 
 -- ---- the first n of a fresh array
 pub first-of : (n k : ℕ) (x : Float) → n ≤ k → take n (replicate k x) ≡ replicate n x

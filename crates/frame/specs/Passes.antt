@@ -1,9 +1,10 @@
 -- How the code goes about a run: in passes over all its frames, each channel by itself. That the passes add up to the frames in turn is proved in proofs/.
 use Prim.Native.Nat.{ℕ, zero, suc, _+_}
-use mathlib.Core.Bool.{Bool}
+use mathlib.Core.Bool.{Bool, true, _&&_}
 use mathlib.Core.List.{List, [], _∷_, _++_}
 use lib.ListN.{getD, set, take, drop}
-use lib.Ieee.{Float, nan}
+use lib.Ieee.{Float, nan, le}
+use Rattle.arithmetic.specs.Number
 use Rattle.arithmetic.specs.Sanitize.{finiteOrZero}
 use Rattle.detector.specs.Oversample.{remembered}
 use Rattle.detector.specs.Run.{runLength, pushesOf}
@@ -14,6 +15,11 @@ use Rattle.frame.specs.Rules.{Linking}
 use Rattle.frame.specs.Frame.{heard, givenOut}
 
 -- ---- peaks
+-- each is 0 or more, so that none is a NaN
+unfoldable pub allFromZero : List Float → Bool
+allFromZero [] = true
+allFromZero (p ∷ ps) = le Number.zero p && allFromZero ps
+
 -- a channel's share in the peak of each frame
 unfoldable pub heardAll : Bool → List Float → List Float → List Float → List Float
 heardAll counts [] xs answers = []
@@ -62,6 +68,27 @@ gainsOf weights coeff e (x ∷ xs) =
 unfoldable pub posAfter : ℕ → ℕ → ℕ → ℕ
 posAfter look pos zero = pos
 posAfter look pos (suc n) = posAfter look (nextPos look pos) n
+
+-- what lay in a line, frame by frame, and the line afterwards
+pub record Exchanged : Type 0 where
+  pub delayed : List Float
+  pub line : List Float
+
+abbrev pub exchangedAt : List Float → List Float → Exchanged
+exchangedAt delayed line = record { delayed = delayed; line = line }
+
+-- samples go into a line, sanitized, and what lay there comes out
+unfoldable pub exchangeOf : ℕ → ℕ → List Float → List Float → Exchanged
+exchangeOf look pos line [] = exchangedAt [] line
+exchangeOf look pos line (x ∷ xs) =
+    let later = exchangeOf look (nextPos look pos) (set line pos (finiteOrZero x)) xs in
+    exchangedAt (getD line pos nan ∷ later .delayed) (later .line)
+
+-- what the frames of these gains give out for what lay in the line
+unfoldable pub productsOf : (Float → Float) → List Float → List Float → List Float
+productsOf leaves [] ds = []
+productsOf leaves (g ∷ gs) [] = []
+productsOf leaves (g ∷ gs) (d ∷ ds) = givenOut leaves d g ∷ productsOf leaves gs ds
 
 pub record Outputs : Type 0 where
   pub outputs : List Float

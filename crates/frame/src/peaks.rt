@@ -3,29 +3,45 @@ ghost use mathlib.Core.Path.{_≡_};
 ghost use mathlib.Core.Bool.{true};
 ghost use Prim.Native.Nat.{_+_, _*_, _≤_};
 ghost use lib.ListN.{length};
+ghost use lib.Ieee.{le};
+ghost use Rattle.arithmetic.specs.Number.{zero};
 ghost use Rattle.detector.specs.Oversample.{remembered};
 ghost use Rattle.detector.specs.Run.{runLength, pushesOf};
 ghost use Rattle.frame.specs.Rules.{tapsOf, linkingOf};
 ghost use Rattle.frame.specs.Frame.{heard};
-ghost use Rattle.frame.specs.Passes.{heardAll, peaksAt, channelPeaks, peaksPass};
-use arithmetic::number::abs;
-use arithmetic::number::max;
+ghost use Rattle.frame.specs.Passes.{allFromZero, heardAll, peaksAt, channelPeaks, peaksPass};
 use arithmetic::sanitize::finite_or_zero;
 use detector::oversample::peaks_abs;
 use settings::LimiterSettings;
 
-// One channel's share in the peak of a frame.
+// One channel's share in the peak of a frame. From a peak of 0 or more, three plain tests find it with
+// no magnitude and no question about a NaN.
 fn heard_in(peak: f64, x: f64, answer: f64) -> f64
+    requires { ⌜ le zero peak ≡ true ⌝ }
     ensures { λ r. ⌜ r ≡ heard true peak x answer ⌝ }
+    ensures { λ r. ⌜ le zero r ≡ true ⌝ }
 {
-    max(max(peak, abs(finite_or_zero(x))), answer)
+    let y = finite_or_zero(x);
+    let mut top = peak;
+    if y > top {
+        top = y;
+    }
+    if -y > top {
+        top = -y;
+    }
+    if answer > top {
+        top = answer;
+    }
+    top
 }
 
 // A channel's share in the peak of each frame.
 fn hear_run(peaks: &mut [f64], samples: &[f64], answers: &[f64])
     requires { ⌜ length (now samples) ≡ length (now peaks) ⌝ }
     requires { ⌜ length (now answers) ≡ length (now peaks) ⌝ }
+    requires { ⌜ allFromZero (now peaks) ≡ true ⌝ }
     ensures { λ _. ⌜ now (peaks .exit) ≡ heardAll true (now (peaks .entry)) (now (samples .entry)) (now (answers .entry)) ⌝ }
+    ensures { λ _. ⌜ allFromZero (now (peaks .exit)) ≡ true ⌝ }
 {
     let n = samples.len();
     for i in 0..n {
@@ -47,9 +63,11 @@ fn hear_channel(
     requires { ⌜ length (now samples) ≡ length (now peaks) ⌝ }
     requires { ⌜ length (now answers) ≡ length (now samples) ⌝ }
     requires { ⌜ length (now samples) ≤ runLength ⌝ }
+    requires { ⌜ allFromZero (now peaks) ≡ true ⌝ }
     ensures { λ _. ⌜ peaksAt (now (peaks .exit)) (now (store .exit))
         ≡ channelPeaks (linkingOf settings) c (now (peaks .entry)) (now (store .entry)) (now (samples .entry)) ⌝ }
     ensures { λ _. ⌜ now (answers .exit) ≡ pushesOf (tapsOf settings) (now (store .entry)) (now (samples .entry)) .peaks ⌝ }
+    ensures { λ _. ⌜ allFromZero (now (peaks .exit)) ≡ true ⌝ }
 {
     peaks_abs(store, samples, answers);
     hear_run(peaks, samples, answers);
@@ -66,8 +84,10 @@ fn channel_peaks(
     requires { ⌜ length (now store) ≡ remembered ⌝ }
     requires { ⌜ length (now samples) ≡ length (now peaks) ⌝ }
     requires { ⌜ length (now samples) ≤ runLength ⌝ }
+    requires { ⌜ allFromZero (now peaks) ≡ true ⌝ }
     ensures { λ _. ⌜ peaksAt (now (peaks .exit)) (now (store .exit))
         ≡ channelPeaks (linkingOf settings) c (now (peaks .entry)) (now (store .entry)) (now (samples .entry)) ⌝ }
+    ensures { λ _. ⌜ allFromZero (now (peaks .exit)) ≡ true ⌝ }
 {
     let n = samples.len();
     let mut answers = [0.0; 32];
@@ -88,6 +108,7 @@ pub fn all_peaks(
     requires { ⌜ length (now audio) ≡ 8 * runLength ⌝ }
     requires { ⌜ length (now detector) ≡ channels * remembered ⌝ }
     requires { ⌜ length (now peaks) ≡ n ⌝ }
+    requires { ⌜ allFromZero (now peaks) ≡ true ⌝ }
     ensures { λ _. ⌜ peaksAt (now (peaks .exit)) (now (detector .exit))
         ≡ peaksPass (linkingOf settings) 0 channels n (now (peaks .entry)) (now (detector .entry)) (now (audio .entry)) ⌝ }
 {

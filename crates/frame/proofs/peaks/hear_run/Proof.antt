@@ -7,19 +7,20 @@ use native.Mathlib.Omega.{arith}
 use borrow.Author.Needs.{needs}
 use lib.ListN.{length, take, drop, length-set}
 use denote.Ref.{now}
-use Rattle.frame.specs.Passes.{heardAll}
+use Rattle.frame.specs.Passes.{allFromZero, heardAll}
+use Rattle.frame.proofs.Heard.{peak-from-zero, set-from-zero}
 use Rattle.frame.proofs.Turns.{heard-more, heard-done}
 use Rattle.frame.proofs.peaks.hear_run.Statement.{statement}
 use Rattle.frame.proofs.peaks.hear_run.Tie as tie
 
 abbrev Inv-loop : tie.InvT-loop
-Inv-loop peaks₀ samples answers n i₀ peaks i = (i ≤ n) × (length peaks ≡ n) × (take i peaks ++ heardAll true (drop i peaks) (drop i samples) (drop i answers) ≡ heardAll true peaks₀ samples answers)
+Inv-loop peaks₀ samples answers n i₀ peaks i = (i ≤ n) × (length peaks ≡ n) × (take i peaks ++ heardAll true (drop i peaks) (drop i samples) (drop i answers) ≡ heardAll true peaks₀ samples answers) × (allFromZero peaks ≡ true)
 
 abbrev μ-loop : tie.MeasureT-loop
 μ-loop peaks₀ samples answers n i₀ peaks i = n - i
 
 loop-holds : tie.Need-loop-holds Inv-loop μ-loop
-loop-holds c = (search needs, omega arith, refl)
+loop-holds c = (search needs, omega arith, refl, c .before .before .before .pre .1 .1)
 
 mul-heard-in : tie.Need-mul-heard-in Inv-loop μ-loop
 mul-heard-in c = search needs
@@ -40,7 +41,9 @@ shared-slice-read-heard-in-2 : tie.Need-shared-slice-read-heard-in-2 Inv-loop μ
 shared-slice-read-heard-in-2 c = search needs
 
 heard-in-requires : tie.Need-heard-in-requires Inv-loop μ-loop
-heard-in-requires c κs = search needs
+heard-in-requires c κs =
+    let l = c .before .before .before .before in
+    peak-from-zero (l .loop .peaks) (l .loop .i) (l .loop .inv .3) (omega arith)
 
 mul-peaks : tie.Need-mul-peaks Inv-loop μ-loop
 mul-peaks c = search needs
@@ -60,7 +63,8 @@ loop-again c =
     let a = l .before .before .before .before .args in (
       search needs,
       simp length-set (l .loop .inv .1),
-      heard-more true (l .loop .peaks) (now (a .samples)) (now (a .answers)) (l .loop .i) (c .heard-in .result) (omega arith) (omega arith) (omega arith) (c .heard-in .ensures) ∙ l .loop .inv .2,
+      heard-more true (l .loop .peaks) (now (a .samples)) (now (a .answers)) (l .loop .i) (c .heard-in .result) (omega arith) (omega arith) (omega arith) (c .heard-in .ensures .0) ∙ l .loop .inv .2,
+      set-from-zero (l .loop .peaks) (l .loop .i) (c .heard-in .result) (l .loop .inv .3) (c .heard-in .ensures .1),
     )
 
 same-length : tie.Need-same-length Inv-loop μ-loop
@@ -70,7 +74,7 @@ returns : tie.Need-returns Inv-loop μ-loop
 returns c =
     let l = c .before in
     let a = l .before .before .before .before .args in
-    heard-done true (l .loop .peaks) (now (a .samples)) (now (a .answers)) (l .loop .i) (omega arith) ∙ l .loop .inv .2
+    (heard-done true (l .loop .peaks) (now (a .samples)) (now (a .answers)) (l .loop .i) (omega arith) ∙ l .loop .inv .2, l .loop .inv .3)
 
 pub hear-run-spec : {M : Type 1} → statement M
 hear-run-spec =

@@ -12,6 +12,7 @@ use Rattle.detector.specs.Run.{runLength}
 use Rattle.frame.specs.Rules.{rulesOf}
 use Rattle.frame.specs.Run.{movingAt}
 use Rattle.frame.specs.Passes.{peaksAt, gainsAt, writtenAt}
+use Rattle.frame.proofs.Heard.{zeros-from-zero}
 use Rattle.frame.proofs.Exchange.{run-done}
 use Rattle.frame.proofs.render.render_in.Statement.{statement}
 use Rattle.frame.proofs.render.render_in.Tie as tie
@@ -23,7 +24,7 @@ all-peaks-requires : tie.Need-all-peaks-requires
 all-peaks-requires c κs =
     let s = c .before .before .before .before .before .before .before .before .before .before .before in
     let r = s .pre .0 in
-    (r .most, (r .short, (r .audio-fit, (r .detector-fit, so-many s))))
+    (r .most, (r .short, (r .audio-fit, (r .detector-fit, (so-many s, rw (s .pre .1) (zeros-from-zero (s .args .n)))))))
 
 required-gains-requires : tie.Need-required-gains-requires
 required-gains-requires c κs = search needs
