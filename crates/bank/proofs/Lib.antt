@@ -1,6 +1,7 @@
 -- Laws that belong to no one function.
 pub mod Tests
 pub mod One
+pub mod Still
 pub mod Domain
 pub mod Slots
 pub mod Calls

@@ -15,6 +15,7 @@ use arithmetic::number::abs;
 use arithmetic::number::ceil;
 use arithmetic::number::clamp;
 use arithmetic::number::copysign;
+use arithmetic::number::is_finite;
 use arithmetic::number::max;
 use arithmetic::pattern::same_value;
 use arithmetic::sanitize::finite_or_zero;
@@ -235,6 +236,23 @@ impl Smoother {
         let mut s = self.moved();
         s.cur = clamp(finite_or_zero(s.cur), s.low, s.high);
         s
+    }
+
+    // Where it answers true, a step changes nothing: a Linear value at its target, finite and within
+    // its range. It may answer false of others.
+    pub fn is_still(self) -> bool
+        ensures { λ r. ⌜ (r ≡ true → stepped self ≡ self) ⌝ }
+    {
+        let shape = self.shape;
+        match shape {
+            Smoothing::Linear => {
+                let stands = (self.cur == self.target) & (self.updates_remaining == 0);
+                let inside = !(self.cur < self.low) & !(self.cur > self.high);
+                stands & (inside & is_finite(self.cur))
+            }
+            Smoothing::Step => false,
+            Smoothing::OnePole => false,
+        }
     }
 
     // What a call does to this smoother.

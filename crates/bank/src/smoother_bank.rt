@@ -1,8 +1,9 @@
 // The bank (driver.rs: SmootherBank), by value. A call that is refused hands back the bank as it was.
 ghost use mathlib.Core.Path.{_≡_};
+ghost use mathlib.Core.Bool.{true};
 ghost use Rattle.bank.specs.Answers.{setUpReply, paramSetReply, bankValueReply};
 ghost use lib.ListN.{take};
-ghost use Rattle.bank.specs.Smoother.{applied};
+ghost use Rattle.bank.specs.Smoother.{stepped, applied};
 ghost use Rattle.bank.specs.Bank.{declaredReply, slotsOf, unset, allPrepared, prepared, slotAt, firstMapped, slotMapped, allChanged, oneChanged};
 ghost use Rattle.bank.specs.Bank.{callReply, callOf, turnOf, setUpOf, setTargetOf, setImmediateOf, stepOf, resetOf, valueOf};
 ghost use Rattle.bank.specs.Bank.{setUpAt, paramSetAt, bankSteppedAt};
@@ -150,6 +151,14 @@ fn all_prepared(smoothers: [Smoother; 8], count: usize, rate: u32) -> bool
     true
 }
 
+// Where it answers true, a step of the first slot changes nothing.
+fn first_is_still(smoothers: [Smoother; 8]) -> bool
+    ensures { λ r. ⌜ (r ≡ true → firstMapped stepped 1 smoothers ≡ smoothers) ⌝ }
+{
+    let s = smoothers[0];
+    s.is_still()
+}
+
 impl SmootherBank {
     // The bank that was never set up.
     pub fn unset() -> SmootherBank
@@ -219,6 +228,15 @@ impl SmootherBank {
             rate: self.rate,
             ready: self.ready,
         }
+    }
+
+    // Where it answers true, a step changes nothing: a bank of one parameter at rest. It may answer
+    // false of others.
+    pub fn is_still(self) -> bool
+        ensures { λ r. ⌜ (r ≡ true → allChanged stepped self ≡ self) ⌝ }
+    {
+        let slots = self.smoothers;
+        (self.count == 1) & first_is_still(slots)
     }
 
     // A change of the parameter at an index, with no check.

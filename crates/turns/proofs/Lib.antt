@@ -4,5 +4,6 @@ pub mod Kernel
 pub mod Rendering
 pub mod Turning
 pub mod Driving
+pub mod Still
 pub mod Draining
 pub mod Wrong

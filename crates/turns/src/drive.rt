@@ -1,11 +1,17 @@
 // The turns of a block (driver.rs: `drive`).
 ghost use mathlib.Core.Path.{_≡_};
+ghost use mathlib.Core.List.{[]};
+ghost use Rattle.bank.specs.Smoother.{stepped};
+ghost use Rattle.bank.specs.Bank.{allChanged};
 ghost use Rattle.limiter.specs.Stores.{atEntry, atExit, atCall};
 ghost use Rattle.turns.specs.Machine.{machineOf};
 ghost use Rattle.turns.specs.Inner.{BlockAsked, driven};
 use crate::events::latch_rest;
 use crate::turn::Unfinished;
+use crate::turn::render_frames;
+use crate::turn::run_length;
 use crate::turn::run_room;
+use crate::turn::target_now;
 use crate::turn::turn;
 use audio::format::Format;
 use bank::smoother_bank::SmootherBank;
@@ -17,8 +23,60 @@ pub struct Driven {
     pub bank: SmootherBank,
 }
 
-// A block that nothing refuses.
-pub fn drive(
+// A block with no event and a bank that a step leaves alone: every run has the same target, found
+// once, and the bank is not copied from run to run.
+fn drive_still(
+    limiter: Limiter,
+    bank: SmootherBank,
+    format: Format,
+    position: u64,
+    frames: usize,
+    audio: &mut [u8],
+    delay: &mut [f64],
+    marks: &mut [u64],
+    minima: &mut [f64],
+    weights: &[f64],
+    row: &mut [f64],
+    detector: &mut [f64],
+) -> Driven
+    requires { ⌜ BlockAsked (machineOf limiter bank (atCall delay marks minima weights row detector)) format position frames (now audio) ⌝ }
+    requires { ⌜ allChanged stepped bank ≡ bank ⌝ }
+    ensures { λ r. ⌜ machineOf (r .limiter) (r .bank) (atExit delay marks minima weights row detector)
+        ≡ driven format (machineOf limiter bank (atEntry delay marks minima weights row detector)) position frames
+        [] (now (audio .entry)) .machine ⌝ }
+    ensures { λ _. ⌜ now (audio .exit)
+        ≡ driven format (machineOf limiter bank (atEntry delay marks minima weights row detector)) position frames
+        [] (now (audio .entry)) .bytes ⌝ }
+{
+    let target = target_now(limiter, bank);
+    let mut run = run_room();
+    let mut l = limiter;
+    let mut first: usize = 0;
+    while first < frames {
+        let n = run_length(position + first as u64, frames - first);
+        l = render_frames(
+            l,
+            format,
+            target,
+            frames,
+            first,
+            n,
+            audio,
+            &mut run,
+            delay,
+            marks,
+            minima,
+            weights,
+            row,
+            detector,
+        );
+        first += n;
+    }
+    Driven { limiter: l, bank }
+}
+
+// A block, turn by turn.
+fn drive_turns(
     limiter: Limiter,
     bank: SmootherBank,
     format: Format,
@@ -81,4 +139,62 @@ pub fn drive(
         limiter: l,
         bank: latch_rest(b, events, block.latched),
     }
+}
+
+// A block that nothing refuses.
+pub fn drive(
+    limiter: Limiter,
+    bank: SmootherBank,
+    format: Format,
+    position: u64,
+    frames: usize,
+    events: &[u64],
+    audio: &mut [u8],
+    delay: &mut [f64],
+    marks: &mut [u64],
+    minima: &mut [f64],
+    weights: &[f64],
+    row: &mut [f64],
+    detector: &mut [f64],
+) -> Driven
+    requires { ⌜ BlockAsked (machineOf limiter bank (atCall delay marks minima weights row detector)) format position frames (now audio) ⌝ }
+    ensures { λ r. ⌜ machineOf (r .limiter) (r .bank) (atExit delay marks minima weights row detector)
+        ≡ driven format (machineOf limiter bank (atEntry delay marks minima weights row detector)) position frames
+        (now (events .entry)) (now (audio .entry)) .machine ⌝ }
+    ensures { λ _. ⌜ now (audio .exit)
+        ≡ driven format (machineOf limiter bank (atEntry delay marks minima weights row detector)) position frames
+        (now (events .entry)) (now (audio .entry)) .bytes ⌝ }
+{
+    // most blocks: no whole event, and a bank at rest
+    if (events.len() < 3) & bank.is_still() {
+        return drive_still(
+            limiter,
+            bank,
+            format,
+            position,
+            frames,
+            audio,
+            delay,
+            marks,
+            minima,
+            weights,
+            row,
+            detector,
+        );
+    }
+    drive_turns(
+        limiter,
+        bank,
+        format,
+        position,
+        frames,
+        events,
+        audio,
+        delay,
+        marks,
+        minima,
+        weights,
+        row,
+        detector,
+    )
 }

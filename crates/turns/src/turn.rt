@@ -31,7 +31,7 @@ pub struct Turned {
 }
 
 // The frames up to the next multiple of 32 of the absolute position, or to the block's end.
-fn run_length(position: u64, left: usize) -> usize
+pub fn run_length(position: u64, left: usize) -> usize
     ensures { λ r. ⌜ r ≡ runAt position left ⌝ }
 {
     let rest = 32 - (position % 32) as usize;
@@ -46,7 +46,7 @@ pub fn run_room() -> [f64; 256]
 }
 
 // The target of the threshold as it stands.
-fn target_now(limiter: Limiter, bank: SmootherBank) -> f64
+pub fn target_now(limiter: Limiter, bank: SmootherBank) -> f64
     ensures { λ r. ⌜ r ≡ targetOf (thresholdOf bank .cur) (limiter .settings .«true_peak_margin_db») ⌝ }
 {
     let s = limiter.settings;
@@ -55,7 +55,7 @@ fn target_now(limiter: Limiter, bank: SmootherBank) -> f64
 
 // Renders n frames of a call's audio, from a frame on. `run` is where they are rendered, and holds
 // their outputs afterwards.
-fn render_frames(
+pub fn render_frames(
     limiter: Limiter,
     format: Format,
     target: f64,
