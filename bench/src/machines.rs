@@ -10,6 +10,8 @@ use crate::traits::Processor;
 /// What both are set up with.
 #[derive(Clone, Copy, Debug)]
 pub struct Setup {
+    /// Frames a second.
+    pub rate: u32,
     /// Lookahead in ms.
     pub lookahead_ms: f64,
     /// Channels.
@@ -28,7 +30,7 @@ impl Ours {
     pub fn new(setup: &Setup) -> Result<Self, String> {
         let settings = daggeryuzu::LimiterSettings::default().lookahead_ms(setup.lookahead_ms);
         let spec = daggeryuzu::ProcessSpec {
-            sample_rate: 48_000,
+            sample_rate: setup.rate,
             channels: setup.channels,
             max_block: setup.block,
             max_memory: None,
@@ -65,7 +67,7 @@ impl Theirs {
         let limiter = rust::Limiter::with_settings(settings);
         let mut limiter = <rust::Limiter as Kernel<f64>>::into_processor(limiter);
         let spec = ProcessSpec {
-            sample_rate: 48_000,
+            sample_rate: setup.rate,
             channels: setup.channels,
             max_block: setup.block,
             max_memory: None,

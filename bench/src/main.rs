@@ -1,5 +1,6 @@
 //! Times the proved limiter, through its safe wrapper, beside the Rust it is a
-//! translation of: the same audio, the same calls, in one process. See README.md.
+//! translation of: the same audio, the same calls, in one process; then beside
+//! FFmpeg's. See README.md.
 
 // `params!` of the Rust comes to our crate root through the generated tree,
 // and the Rust names it by its absolute path.
@@ -7,10 +8,13 @@
 
 mod audio;
 mod clock;
+mod ffmpeg;
 mod file;
+mod folder;
 mod machines;
 mod measure;
 mod table;
+mod tables;
 
 // The module tree of the Rust, as the oracle mounts it.
 include!(concat!(env!("OUT_DIR"), "/tree.rs"));
@@ -21,17 +25,28 @@ mod processor;
 
 use std::process::ExitCode;
 
-use audio::Level::{Loud, Quiet};
-use measure::{Case, Effort};
+use measure::Effort;
 
-const USAGE: &str = "bench [--seconds S] [--rounds N]   (of audio a round, 4; rounds, 9)
-       bench --file RATE CHANNELS   (raw f64 through the Rust, standard input to standard output)";
+const USAGE: &str = "bench [--seconds S] [--rounds N] [--only WORD]..
+           --seconds S   of audio a round, 4; 15 times as much beside FFmpeg, at most 600
+           --rounds N    that are counted, 9
+           --only WORD   the rows with WORD in TITLE: ROW, in letters of either case;
+                         given again, the rows with any of the words
+       bench --file RATE CHANNELS
+           raw f64 through the Rust, standard input to standard output";
+
+/// What the command line asks for.
+#[derive(Debug, PartialEq)]
+struct Options {
+    effort: Effort,
+    only: Vec<String>,
+}
 
 fn main() -> ExitCode {
     let words: Vec<String> = std::env::args().skip(1).collect();
     let done = match words.first().map(String::as_str) {
         Some("--file") => file(&words[1..]),
-        _ => effort(&words).and_then(|effort| run(&effort)),
+        _ => options(&words).and_then(|options| run(&options)),
     };
     done.map_or_else(
         |line| {
@@ -52,55 +67,70 @@ fn file(words: &[String]) -> Result<(), String> {
 }
 
 /// Reads the command line.
-fn effort(words: &[String]) -> Result<Effort, String> {
-    let mut effort = Effort {
-        seconds: 4.0,
-        rounds: 9,
+fn options(words: &[String]) -> Result<Options, String> {
+    let mut options = Options {
+        effort: Effort {
+            seconds: 4.0,
+            rounds: 9,
+        },
+        only: Vec::new(),
     };
     for pair in words.chunks(2) {
         let value = pair.get(1).map(String::as_str);
-        let bad = || format!("{USAGE}; not {}", pair.join(" "));
+        let bad = || format!("{USAGE}\nnot: {}", pair.join(" "));
         match pair[0].as_str() {
             "--seconds" => {
                 let read = value.and_then(|v| v.parse().ok());
                 let good = read.filter(|s| (0.01..=600.0).contains(s));
-                effort.seconds = good.ok_or_else(bad)?;
+                options.effort.seconds = good.ok_or_else(bad)?;
             }
             "--rounds" => {
                 let read = value.and_then(|v| v.parse().ok());
-                effort.rounds = read.filter(|n| *n > 0).ok_or_else(bad)?;
+                options.effort.rounds = read.filter(|n| *n > 0).ok_or_else(bad)?;
             }
+            "--only" => options.only.push(value.ok_or_else(bad)?.into()),
             _ => return Err(bad()),
         }
     }
-    Ok(effort)
+    Ok(options)
 }
 
-/// Every table.
-fn run(effort: &Effort) -> Result<(), String> {
-    let usual = Case::default();
-    let rows = [Loud, Quiet].map(|level| (level.name().to_string(), Case { level, ..usual }));
-    table::print(
-        "stereo at 48,000, default settings, blocks of 512",
-        &rows,
-        effort,
-    )?;
+/// The tables that are asked for.
+fn run(options: &Options) -> Result<(), String> {
+    for table in tables::chosen(&options.only)? {
+        table::print(&table, &options.effort)?;
+    }
+    Ok(())
+}
 
-    let looks = [11, 24, 72, 288, 1152, 4096];
-    let rows = looks.map(|look| (look.to_string(), Case { look, ..usual }));
-    table::print("look in frames, loud", &rows, effort)?;
-    let quiet = Case {
-        level: Quiet,
-        ..usual
-    };
-    let rows = [11, 72, 4096].map(|look| (look.to_string(), Case { look, ..quiet }));
-    table::print("look in frames, quiet", &rows, effort)?;
+#[cfg(test)]
+mod tests {
+    use super::*;
 
-    let counts = [1, 2, 4, 8];
-    let rows = counts.map(|channels| (channels.to_string(), Case { channels, ..usual }));
-    table::print("channels, loud", &rows, effort)?;
+    fn read(line: &str) -> Result<Options, String> {
+        let words: Vec<String> = line.split_whitespace().map(String::from).collect();
+        options(&words)
+    }
 
-    let sizes = [1, 16, 32, 64, 512, 4096, 65_536];
-    let rows = sizes.map(|block| (block.to_string(), Case { block, ..usual }));
-    table::print("frames in a block, loud", &rows, effort)
+    #[test]
+    fn without_options_all_is_measured() {
+        let options = read("").expect("read");
+        assert_eq!((options.effort.seconds, options.effort.rounds), (4.0, 9));
+        assert!(options.only.is_empty());
+    }
+
+    #[test]
+    fn options_are_read_and_words_add_up() {
+        let options = read("--only quiet --rounds 3 --seconds 0.5 --only 288").expect("read");
+        assert_eq!((options.effort.seconds, options.effort.rounds), (0.5, 3));
+        assert_eq!(options.only, ["quiet", "288"]);
+    }
+
+    #[test]
+    fn a_bad_option_is_told_with_the_usage() {
+        for line in ["--only", "--rounds 0", "--seconds x", "--seconds 601", "-h"] {
+            let said = read(line).expect_err(line);
+            assert!(said.starts_with(USAGE) && said.ends_with(line), "{said}");
+        }
+    }
 }

@@ -4,7 +4,7 @@ use crate::audio::{blocks, Level};
 use crate::machines::{Ours, Setup, Theirs};
 
 /// How much is measured.
-#[derive(Clone, Copy, Debug)]
+#[derive(Clone, Copy, Debug, PartialEq)]
 pub struct Effort {
     /// Seconds of audio a round.
     pub seconds: f64,
@@ -17,6 +17,8 @@ pub struct Effort {
 pub struct Case {
     /// Loud or quiet.
     pub level: Level,
+    /// Frames a second.
+    pub rate: u32,
     /// Frames that the limiter looks ahead.
     pub look: usize,
     /// Channels.
@@ -29,9 +31,27 @@ impl Default for Case {
     fn default() -> Self {
         Self {
             level: Level::Loud,
+            rate: 48_000,
             look: 72,
             channels: 2,
             block: 512,
+        }
+    }
+}
+
+impl Case {
+    /// The lookahead that comes to `look` frames.
+    pub fn lookahead_ms(&self) -> f64 {
+        self.look as f64 / (f64::from(self.rate) / 1000.0)
+    }
+
+    /// What the limiters are set up with.
+    pub fn setup(&self) -> Setup {
+        Setup {
+            rate: self.rate,
+            lookahead_ms: self.lookahead_ms(),
+            channels: self.channels,
+            block: self.block,
         }
     }
 }
@@ -63,27 +83,37 @@ impl Spread {
 pub struct Measured {
     /// ns a frame, the proved limiter.
     pub ours: Spread,
-    /// ns a frame, the Rust.
+    /// ns a frame, the Rust or FFmpeg.
     pub theirs: Spread,
     /// Ours over theirs, round by round.
     pub ratio: Spread,
 }
 
+impl Measured {
+    /// From the ns a frame of both, ours first, round by round.
+    pub fn of(rounds: &[(f64, f64)]) -> Self {
+        let spread = |f: fn(&(f64, f64)) -> f64| Spread::of(rounds.iter().map(f).collect());
+        Self {
+            ours: spread(|r| r.0),
+            theirs: spread(|r| r.1),
+            ratio: spread(|r| r.0 / r.1),
+        }
+    }
+}
+
 /// Frames that one limiter takes before it is the other's turn.
 const TURN: usize = 4096;
+
+/// Blocks of so many frames that make a turn.
+pub fn turn(block: usize) -> usize {
+    (TURN / block).max(1)
+}
 
 /// Times a case. The first round warms both up and is not counted; every round
 /// starts with buffers that are filled, and ends with the outputs compared.
 pub fn measure(case: &Case, effort: &Effort) -> Result<Measured, String> {
-    let setup = Setup {
-        lookahead_ms: case.look as f64 / 48.0,
-        channels: case.channels,
-        block: case.block,
-    };
-    // A long attack row costs much a frame: fewer frames do.
-    let share = (300.0 / case.look as f64).min(1.0);
-    let frames = (effort.seconds * share * 48_000.0) as usize;
-    let source = blocks(case.level, case.channels, case.block, frames);
+    let setup = case.setup();
+    let source = blocks(case.level, case.channels, case.block, frames(case, effort));
     let frames = (source.len() * case.block) as f64;
     let (mut ours, mut theirs) = (Ours::new(&setup)?, Theirs::new(&setup)?);
     let mut rounds = Vec::new();
@@ -91,7 +121,7 @@ pub fn measure(case: &Case, effort: &Effort) -> Result<Measured, String> {
         let (mut a, mut b) = (source.clone(), source.clone());
         let (mut our_time, mut their_time) = (0.0, 0.0);
         // By turns within a round, so that what disturbs one disturbs both.
-        let turn = (TURN / case.block).max(1);
+        let turn = turn(case.block);
         for (x, y) in a.chunks_mut(turn).zip(b.chunks_mut(turn)) {
             our_time += ours.run(x, case.channels)?;
             their_time += theirs.run(y, case.channels);
@@ -103,12 +133,17 @@ pub fn measure(case: &Case, effort: &Effort) -> Result<Measured, String> {
             rounds.push((our_time / frames, their_time / frames));
         }
     }
-    let spread = |f: fn(&(f64, f64)) -> f64| Spread::of(rounds.iter().map(f).collect());
-    Ok(Measured {
-        ours: spread(|r| r.0),
-        theirs: spread(|r| r.1),
-        ratio: spread(|r| r.0 / r.1),
-    })
+    Ok(Measured::of(&rounds))
+}
+
+/// Frames of a round. A long attack row costs much a frame while the gain moves:
+/// fewer frames do then.
+fn frames(case: &Case, effort: &Effort) -> usize {
+    let share = match case.level {
+        Level::Loud => (300.0 / case.look as f64).min(1.0),
+        Level::Quiet => 1.0,
+    };
+    (effort.seconds * share * f64::from(case.rate)) as usize
 }
 
 /// Bit for bit.
@@ -130,6 +165,39 @@ mod tests {
             high: 3.0,
         };
         assert_eq!(spread, expected);
+    }
+
+    #[test]
+    fn the_ratio_is_taken_round_by_round() {
+        let seen = Measured::of(&[(1.0, 2.0), (9.0, 3.0), (4.0, 4.0)]);
+        assert_eq!((seen.ours.median, seen.theirs.median), (4.0, 3.0));
+        assert_eq!((seen.ratio.low, seen.ratio.median), (0.5, 1.0));
+        assert_eq!(seen.ratio.high, 3.0);
+    }
+
+    #[test]
+    fn a_long_look_has_fewer_frames_where_it_costs_more() {
+        let effort = Effort {
+            seconds: 2.0,
+            rounds: 1,
+        };
+        let of = |level, look| {
+            let usual = Case::default();
+            let case = Case {
+                level,
+                look,
+                ..usual
+            };
+            frames(&case, &effort)
+        };
+        assert_eq!(of(Level::Loud, 72), 96_000);
+        assert_eq!(of(Level::Loud, 3000), 9_600);
+        assert_eq!(of(Level::Quiet, 3000), 96_000);
+    }
+
+    #[test]
+    fn a_turn_has_a_block_at_least() {
+        assert_eq!([1, 512, 65_536].map(turn), [4096, 8, 1]);
     }
 
     #[test]

@@ -1,0 +1,214 @@
+//! What is measured: the tables, and the choice of rows among them.
+
+use crate::audio::Level::{self, Loud, Quiet};
+use crate::measure::Case;
+
+/// Whom the proved limiter is timed beside.
+#[derive(Clone, Copy, Debug, PartialEq, Eq)]
+pub enum Beside {
+    /// The Rust that it is a translation of.
+    Rust,
+    /// FFmpeg's limiter at four times the rate.
+    Ffmpeg,
+}
+
+/// Rows under one title.
+#[derive(Debug)]
+pub struct Table {
+    /// What the rows have in common.
+    pub title: &'static str,
+    /// Whom they are timed beside.
+    pub beside: Beside,
+    /// In the order that they are measured in.
+    pub rows: Vec<Row>,
+}
+
+/// A row.
+#[derive(Debug)]
+pub struct Row {
+    /// What it has of its own.
+    pub name: String,
+    /// What is measured.
+    pub case: Case,
+}
+
+/// Every table.
+fn all() -> Vec<Table> {
+    let usual = Case::default();
+    let quiet = at(Quiet, usual);
+    let small = Case { block: 32, ..quiet };
+    vec![
+        beside_rust(
+            "stereo at 48,000, default settings, blocks of 512",
+            [Loud, Quiet].map(|level| row(level.name(), at(level, usual))),
+        ),
+        beside_rust(
+            "look in frames, loud",
+            [11, 24, 72, 288, 1152, 4096].map(|look| row(look, Case { look, ..usual })),
+        ),
+        beside_rust(
+            "look in frames, quiet",
+            [11, 72, 4096].map(|look| row(look, Case { look, ..quiet })),
+        ),
+        beside_rust(
+            "look in frames, quiet, blocks of 32",
+            [72, 4096].map(|look| row(look, Case { look, ..small })),
+        ),
+        beside_rust(
+            "channels, loud",
+            [1, 2, 4, 8].map(|channels| row(channels, Case { channels, ..usual })),
+        ),
+        beside_rust(
+            "frames in a block, loud",
+            [1, 16, 32, 64, 512, 4096, 65_536].map(|block| row(block, Case { block, ..usual })),
+        ),
+        beside_ffmpeg(),
+    ]
+}
+
+/// Stereo at the defaults, whose 1.5 ms are 72 frames at 48,000 and 66 at 44,100.
+fn beside_ffmpeg() -> Table {
+    let rates = [("48,000", 48_000, 72), ("44,100", 44_100, 66)];
+    let rows = rates.iter().flat_map(|&(name, rate, look)| {
+        let usual = Case::default();
+        let case = Case {
+            rate,
+            look,
+            ..usual
+        };
+        [Loud, Quiet].map(|level| row(format!("{} {name}", level.name()), at(level, case)))
+    });
+    Table {
+        title: "the same audio through FFmpeg",
+        beside: Beside::Ffmpeg,
+        rows: rows.collect(),
+    }
+}
+
+fn beside_rust<const N: usize>(title: &'static str, rows: [Row; N]) -> Table {
+    Table {
+        title,
+        beside: Beside::Rust,
+        rows: rows.into(),
+    }
+}
+
+fn row(name: impl ToString, case: Case) -> Row {
+    Row {
+        name: name.to_string(),
+        case,
+    }
+}
+
+fn at(level: Level, case: Case) -> Case {
+    Case { level, ..case }
+}
+
+/// The tables with the rows that one of the words is found in, as `TITLE: ROW`
+/// in letters of either case; with no word, all of them.
+pub fn chosen(words: &[String]) -> Result<Vec<Table>, String> {
+    let mut tables = all();
+    if words.is_empty() {
+        return Ok(tables);
+    }
+    for table in &mut tables {
+        let title = table.title;
+        let found = |row: &Row| words.iter().any(|word| has(title, &row.name, word));
+        table.rows.retain(found);
+    }
+    tables.retain(|table| !table.rows.is_empty());
+    if tables.is_empty() {
+        let titles: Vec<&str> = all().iter().map(|table| table.title).collect();
+        return Err(format!(
+            "no row has {} in TITLE: ROW; the titles:\n{}",
+            words.join(" or "),
+            titles.join("\n")
+        ));
+    }
+    Ok(tables)
+}
+
+fn has(title: &str, name: &str, word: &str) -> bool {
+    let row = format!("{title}: {name}").to_lowercase();
+    row.contains(&word.to_lowercase())
+}
+
+#[cfg(test)]
+mod tests {
+    use super::*;
+
+    /// The rows that the words choose, as `TITLE: ROW`.
+    fn labels(words: &[&str]) -> Vec<String> {
+        let words: Vec<String> = words.iter().map(ToString::to_string).collect();
+        let tables = chosen(&words).expect("rows");
+        let rows = tables.iter().flat_map(|table| {
+            let label = |row: &Row| format!("{}: {}", table.title, row.name);
+            table.rows.iter().map(label).collect::<Vec<_>>()
+        });
+        rows.collect()
+    }
+
+    #[test]
+    fn no_word_chooses_every_row() {
+        let count: usize = all().iter().map(|table| table.rows.len()).sum();
+        assert_eq!(labels(&[]).len(), count);
+    }
+
+    #[test]
+    fn no_two_rows_have_one_label() {
+        let mut seen = labels(&[]);
+        seen.sort();
+        let count = seen.len();
+        seen.dedup();
+        assert_eq!(seen.len(), count);
+    }
+
+    #[test]
+    fn a_word_of_a_title_chooses_its_rows() {
+        let seen = labels(&["blocks of 32"]);
+        let title = "look in frames, quiet, blocks of 32";
+        assert_eq!(seen, [format!("{title}: 72"), format!("{title}: 4096")]);
+    }
+
+    #[test]
+    fn a_word_of_a_row_chooses_it_wherever_it_is() {
+        let seen = labels(&["65536", "1152"]);
+        let expected = [
+            "look in frames, loud: 1152",
+            "frames in a block, loud: 65536",
+        ];
+        assert_eq!(seen, expected);
+    }
+
+    #[test]
+    fn a_word_may_span_title_and_row() {
+        assert_eq!(labels(&["channels, loud: 8"]), ["channels, loud: 8"]);
+    }
+
+    #[test]
+    fn either_case_will_do() {
+        assert_eq!(labels(&["ffmpeg"]).len(), 4);
+    }
+
+    #[test]
+    fn a_word_that_is_nowhere_is_an_error() {
+        let line = chosen(&["nowhere".into()]).expect_err("no row");
+        assert!(line.contains("nowhere") && line.contains("channels, loud"));
+    }
+
+    #[test]
+    fn each_row_is_what_its_name_says() {
+        for table in chosen(&["blocks of 32".into()]).expect("rows") {
+            for row in table.rows {
+                assert_eq!((row.case.level, row.case.block), (Quiet, 32));
+                assert_eq!(row.case.look.to_string(), row.name);
+            }
+        }
+        for table in chosen(&["FFmpeg".into()]).expect("rows") {
+            for row in table.rows {
+                assert_eq!(table.beside, Beside::Ffmpeg);
+                assert!((row.case.lookahead_ms() - 1.5).abs() < 0.01);
+            }
+        }
+    }
+}
