@@ -5,4 +5,5 @@ pub mod Sum
 pub mod Copy
 pub mod Push
 pub mod Line
+pub mod Bound
 pub mod Wrong

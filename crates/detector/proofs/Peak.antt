@@ -25,7 +25,7 @@ under (fin b m e) (fin t n d) h =
     le→not-lt (fin b m e) (fin true n d) tt tt
     (le-then-le (fin true n d) zero (fin b m e) tt tt tt (not-lt→le zero (fin true n d) tt tt refl) (not-lt→le (fin b m e) zero tt tt h))
 
-no-nan-above : (p : Float) → lt p nan ≡ false
+pub no-nan-above : (p : Float) → lt p nan ≡ false
 unfolding lt
 no-nan-above nan = refl
 no-nan-above (inf s) = refl
