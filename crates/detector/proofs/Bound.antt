@@ -6,15 +6,16 @@ use Prim.Native.Nat.{ℕ, zero, suc}
 use lib.Dec.{T, eqb}
 use lib.ListN.{length, take, replicate}
 use lib.Ieee.{Float, nan, inf, fin, binary64, add, mul, neg, lt, le, isNan, ofBits}
+use lib.Ieee.Bits.{is-true}
 use lib.Ieee.Scale.{finite}
-use borrow.Author.Tests.{eqb-true}
+use borrow.Author.Tests.{eqb-true, eq-eqb, ne-eqb}
 use Rattle.arithmetic.specs.Number
 use Rattle.arithmetic.specs.Number.{absOf, signOf, within}
 use Rattle.arithmetic.specs.Sanitize.{finiteOrZero}
 use Rattle.arithmetic.proofs.Order.{and-true, clash, not-lt→le, lt→le, le-self}
 use Rattle.arithmetic.proofs.Cases.{abs-sign}
 use Rattle.arithmetic.proofs.Magnitude.{Under, under→le, within-under, mul-under, add-under, le-through}
-use Rattle.arithmetic.proofs.Within.{within→finite, sanitized-same}
+use Rattle.arithmetic.proofs.Within.{within→finite, unit→finite, sanitized-same}
 use Rattle.detector.specs.Taps.{phase0, phase1, phase2, phase3, taps}
 use Rattle.detector.specs.Oversample.{remembered, shifted, sumFrom, sumOf, sumsOf, larger, largestFrom, largestOf, detected}
 use Rattle.detector.specs.Run.{pushesOf}
@@ -194,16 +195,50 @@ taps-finite = refl
 pub stays : (ceiling level : Float) (store samples : List Float) → (lt Number.zero level ≡ true → LevelBelow ceiling level) → liesWithin store samples level ≡ true → StaysBelow ceiling store samples
 unfolding liesWithin
 stays ceiling level store samples b h =
-    let h0 = and-true (eqb (length store) remembered) (lt Number.zero level && (allWithin level store && allWithin level samples)) h in
-    let h1 = and-true (lt Number.zero level) (allWithin level store && allWithin level samples) (h0 .1) in
-    let h2 = and-true (allWithin level store) (allWithin level samples) (h1 .1) in
+    let h0 = and-true (eqb (length store) remembered) ((lt Number.zero level && allWithin level store) && allWithin level samples) h in
+    let h1 = and-true (lt Number.zero level && allWithin level store) (allWithin level samples) (h0 .1) in
+    let h2 = and-true (lt Number.zero level) (allWithin level store) (h1 .0) in
     let n = eqb-true (length store) remembered (h0 .0) in
-    let l = b (h1 .0) in
+    let l = b (h2 .0) in
     let f = of-true (finite level) (l .finite-level) in
     record {
       twelve = n;
-      heard = below-through level ceiling (magnitudes samples) (l .samples) (magnitudes-below level f (l .no-sign) samples (h2 .1));
+      heard = below-through level ceiling (magnitudes samples) (l .samples) (magnitudes-below level f (l .no-sign) samples (h1 .1));
       answers =
           below-through (boundOf taps level) ceiling (pushesOf taps store samples .peaks) (l .answers)
-          (answers-bounded taps taps-finite level f (l .no-sign) store samples n (h2 .0) (rw (sanitized-within level f (l .no-sign) samples (h2 .1)) (h2 .1)));
+          (answers-bounded taps taps-finite level f (l .no-sign) store samples n (h2 .1) (rw (sanitized-within level f (l .no-sign) samples (h1 .1)) (h1 .1)));
     }
+
+-- ---- `level_below`
+above-zero : (x : Float) → lt Number.zero x ≡ true → signOf x ≡ false
+unfolding lt
+above-zero nan h = clash false h refl
+above-zero (inf true) h = clash false h refl
+above-zero (inf false) h = refl
+above-zero (fin true m e) h = clash false h refl
+above-zero (fin false m e) h = refl
+
+pub level-found : (ceiling level bound : Float) → (le level Number.one && le level ceiling) && le bound ceiling ≡ true → bound ≡ boundOf taps level → lt Number.zero level ≡ true → LevelBelow ceiling level
+level-found ceiling level bound h e z =
+    let h0 = and-true (le level Number.one && le level ceiling) (le bound ceiling) h in
+    let h1 = and-true (le level Number.one) (le level ceiling) (h0 .0) in
+    record {
+      finite-level = is-true (finite level) (unit→finite level (rw (lt→le Number.zero level z, h1 .0) refl));
+      no-sign = above-zero level z;
+      samples = h1 .1;
+      answers = rw (← e) (h0 .1);
+    }
+
+pub no-level : (ceiling : Float) → lt Number.zero Number.zero ≡ true → LevelBelow ceiling Number.zero
+unfolding lt
+no-level ceiling h = clash false h refl
+
+-- ---- `lies_within`
+pub lies-in : (store samples : List Float) (level : Float) (a b : Bool) → length store ≡ remembered → a ≡ allWithin level store → b ≡ allWithin level samples
+    → (lt Number.zero level && a) && b ≡ liesWithin store samples level
+unfolding liesWithin
+lies-in store samples level a b n e f = rw (eq-eqb (length store) remembered n, e, f) refl
+
+pub lies-out : (store samples : List Float) (level : Float) → (length store ≡ remembered → ⊥) → false ≡ liesWithin store samples level
+unfolding liesWithin
+lies-out store samples level n = rw (ne-eqb (length store) remembered n) refl

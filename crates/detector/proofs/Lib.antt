@@ -6,4 +6,5 @@ pub mod Copy
 pub mod Push
 pub mod Line
 pub mod Bound
+pub mod Scan
 pub mod Wrong

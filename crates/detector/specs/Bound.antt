@@ -40,7 +40,7 @@ pub record LevelBelow (ceiling m : Float) : Type 0 where
 
 -- twelve remembered samples and those of a run, all within −level and level, for a level above 0
 unfoldable pub liesWithin : List Float → List Float → Float → Bool
-liesWithin store samples level = eqb (length store) remembered && (lt zero level && (allWithin level store && allWithin level samples))
+liesWithin store samples level = eqb (length store) remembered && ((lt zero level && allWithin level store) && allWithin level samples)
 
 -- a run on a store of twelve: each sanitized magnitude and each answer of the detector is at most the ceiling
 pub record StaysBelow (ceiling : Float) (store samples : List Float) : Type 0 where
