@@ -6,18 +6,19 @@ use native.Mathlib.Nat.{mul-pos, eq-zero-or-pos}
 use native.Mathlib.Omega.{arith}
 use mathlib.Core.Logic.{inl, inr}
 use lib.Dec.{T, eqb, lit<}
-use lib.IntN.{ℤ}
+use lib.IntN.{ℤ, pos}
 use lib.Ieee.{Float, nan, inf, fin, binary64, up, down, round, div, lt, le, isNan, fits}
 use lib.Ieee.Back.{whole-unique}
 use lib.Ieee.Bits.{is-true}
 use lib.Ieee.Fits.{up-pos, down-pos, round-fits}
 use lib.Ieee.Order.{round-mono}
-use borrow.Author.Tests.{leb-true, eqb-true, eqb-false}
-use Rattle.arithmetic.specs.Number.{one, signOf, minOf}
-use Rattle.arithmetic.proofs.Order.{left, right, le-is, eq-is, clash, not-lt→le, le-both→eq}
+use borrow.Author.Tests.{eqb-true, eqb-false}
+use Rattle.arithmetic.specs.Number.{one, signOf, minOf, maxOf}
+use Rattle.arithmetic.proofs.Order.{left, right, eq-is, clash, lt→le, not-lt→le, le-both→eq}
 use Rattle.arithmetic.proofs.Cut.{sign-round}
 use Rattle.arithmetic.proofs.Within.{not-le-nan}
-use Rattle.arithmetic.proofs.Magnitude.{crossed}
+use Rattle.arithmetic.proofs.Magnitude.{le-through}
+use Rattle.arithmetic.proofs.UnitBound.{le→numbers}
 
 -- ---- a fraction that is not below 1, rounded
 one-fits : T (fits binary64 one)
@@ -55,7 +56,7 @@ none m e d h = elim (eq-zero-or-pos m) [ inl z ↦ z | inr g ↦ absurd (let k =
 -- a value with a plus sign that is at most one with a minus sign: both are zeros
 zeros : (n : ℕ) (d : ℤ) (m : ℕ) (e : ℤ) → le (fin false n d) (fin true m e) ≡ true → (n ≡ 0) × (m ≡ 0)
 zeros n d m e h =
-    let k = leb-true (left (fin false n d) (fin true m e)) (right (fin false n d) (fin true m e)) (sym (le-is (fin false n d) (fin true m e) tt tt) ∙ h) in
+    let k = le→numbers (fin false n d) (fin true m e) tt tt h in
     (none n d e (omega arith), none m e d (omega arith))
 
 -- "The larger over the smaller, or 1 where that is a NaN or above 1" is 1. The smaller one has no minus sign: one over minus zero would be below 1.
@@ -78,4 +79,29 @@ no-less-than-one (fin false m e) (fin false n d) s h = go (eqb n 0) refl (eqb m 
     go true k true = refl
     go true k false = refl
     go false k z =
-        ratio (m * up e * down d) (n * up d * down e) (elim (eq-zero-or-pos n) [ inl q ↦ absurd (eqb-false n 0 k q) | inr g ↦ mul-pos (mul-pos g (up-pos d)) (down-pos e) ]) (crossed n d m e h)
+        ratio (m * up e * down d) (n * up d * down e) (elim (eq-zero-or-pos n) [ inl q ↦ absurd (eqb-false n 0 k q) | inr g ↦ mul-pos (mul-pos g (up-pos d)) (down-pos e) ]) (omega (arith, le→numbers (fin false n d) (fin false m e) tt tt h))
+
+-- why the sign is asked: 1 over minus zero
+pub below-one : minOf (div binary64 one (fin true 0 (pos 0))) one ≡ inf true
+unfolding div lt isNan
+below-one = refl
+
+no-number : (target x : Float) → isNan x ≡ true → minOf (div binary64 target x) one ≡ one
+unfolding div lt isNan
+no-number nan x h = refl
+no-number (inf t) nan h = refl
+no-number (inf t) (inf u) h = clash false h refl
+no-number (inf t) (fin u n d) h = clash false h refl
+no-number (fin t m e) nan h = refl
+no-number (fin t m e) (inf u) h = clash false h refl
+no-number (fin t m e) (fin u n d) h = clash false h refl
+
+-- a peak that takes in another one, at most the target, needs the gain that it needed
+pub gain-unmoved : (target peak p : Float) → signOf peak ≡ false → signOf p ≡ false → le p target ≡ true
+    → minOf (div binary64 target (maxOf peak p)) one ≡ minOf (div binary64 target peak) one
+gain-unmoved target peak p s t h = go (lt peak p) refl (isNan peak) refl
+  where
+    go : (b : Bool) → lt peak p ≡ b → (c : Bool) → isNan peak ≡ c → minOf (div binary64 target (maxOf peak p)) one ≡ minOf (div binary64 target peak) one
+    go true e c f = rw (e, no-less-than-one target p t h, no-less-than-one target peak s (le-through peak p target (lt→le peak p e) h)) refl
+    go false e true f = rw (e, f, no-less-than-one target p t h) (sym (no-number target peak f))
+    go false e false f = rw (e, f) refl

@@ -1,13 +1,12 @@
 -- What the calls of a push add up to.
 use mathlib.Core.Path.{_≡_}
-use mathlib.Core.List.{List, map}
-use lib.ListN.{length, replicate}
+use mathlib.Core.List.{List}
+use lib.ListN.{length}
 use lib.Ieee.{Float}
 use borrow.Author.Tests.{eq-eqb, ne-eqb}
-use Rattle.arithmetic.specs.Number.{zero, absOf}
+use Rattle.arithmetic.specs.Number.{zero}
 use Rattle.detector.specs.Taps.{phase0, phase1, phase2, phase3, taps}
 use Rattle.detector.specs.Oversample.{remembered, shifted, sumOf, sumsOf, larger, largestFrom, largestOf, pushedAt, detected, peakAbsOf}
-use Rattle.detector.specs.Bound.{boundOf}
 
 -- four phases, and after each the larger of the peak so far and its sum
 pub four : (ds : List Float) (s0 s1 s2 s3 r0 r1 r2 r3 : Float)
@@ -15,14 +14,6 @@ pub four : (ds : List Float) (s0 s1 s2 s3 r0 r1 r2 r3 : Float)
     → r0 ≡ larger zero s0 → r1 ≡ larger r0 s1 → r2 ≡ larger r1 s2 → r3 ≡ larger r2 s3 → r3 ≡ largestOf (sumsOf taps ds)
 unfolding taps sumsOf largestOf largestFrom
 four ds s0 s1 s2 s3 r0 r1 r2 r3 e0 e1 e2 e3 f0 f1 f2 f3 = rw (f3, f2, f1, f0, e3, e2, e1, e0)
-
--- the same for the bound at m
-pub four-bounds : (m s0 s1 s2 s3 r0 r1 r2 r3 : Float)
-    → s0 ≡ sumOf (map absOf phase0) (replicate remembered m) → s1 ≡ sumOf (map absOf phase1) (replicate remembered m)
-    → s2 ≡ sumOf (map absOf phase2) (replicate remembered m) → s3 ≡ sumOf (map absOf phase3) (replicate remembered m)
-    → r0 ≡ larger zero s0 → r1 ≡ larger r0 s1 → r2 ≡ larger r1 s2 → r3 ≡ larger r2 s3 → r3 ≡ boundOf taps m
-unfolding taps sumsOf largestOf largestFrom boundOf
-four-bounds m s0 s1 s2 s3 r0 r1 r2 r3 e0 e1 e2 e3 f0 f1 f2 f3 = rw (f3, f2, f1, f0, e3, e2, e1, e0)
 
 module _ (phases : List (List Float)) (store : List Float) (x : Float) where
   pub pushed : (samples left : List Float) (p : Float) → length store ≡ remembered → samples ≡ shifted store x → left ≡ samples → p ≡ largestOf (sumsOf phases samples)

@@ -5,17 +5,16 @@ use mathlib.Core.List.{List, [], _∷_, _++_, map, reverse, reverseAux, reverseA
 use Prim.Native.Nat.{ℕ, zero, suc, _+_, _-_, _<_, _≤_}
 use native.Mathlib.Numerals.{add-one}
 use native.Mathlib.Omega.{arith}
-use lib.ListN.{length, getD, take, drop, set, replicate, length-map, length-reverse, length-reverseAux, length-replicate, getD-replicate, List·getD-map, drop-of-length-le}
+use lib.ListN.{length, getD, take, drop, set, length-map, length-reverse, length-reverseAux, List·getD-map, drop-of-length-le}
 use lib.Seq.{drop-cons, getD-at, take-all}
-use lib.Ieee.{Float, nan, binary64, add, mul, neg}
-use Rattle.arithmetic.specs.Number.{absOf, within}
+use lib.Ieee.{Float, nan, neg}
+use Rattle.arithmetic.specs.Number.{within}
 use Rattle.arithmetic.specs.Sanitize.{finiteOrZero}
-use Rattle.detector.specs.Oversample.{remembered, sumFrom}
+use Rattle.detector.specs.Oversample.{remembered}
 use Rattle.detector.specs.Run.{pushesOf}
-use Rattle.detector.specs.Bound.{allWithin}
+use Rattle.detector.specs.Level.{allWithin}
 use Rattle.detector.proofs.Copy.{copied-more}
 use Rattle.detector.proofs.Line.{store-pushes}
-use Rattle.detector.proofs.Sum.{sum-more}
 
 -- ---- `all_within`
 module _ (m : Float) (xs : List Float) (i : ℕ) where
@@ -29,17 +28,6 @@ module _ (m : Float) (xs : List Float) (i : ℕ) where
   unfolding allWithin
   within-all h true e = rw (drop-of-length-le xs h) at e
   within-all h false e = e
-
--- ---- `phase_bound`
-pub bound-more : (acc a m : Float) (phase : List Float) (k : ℕ) → k < length phase → length phase ≡ remembered → a ≡ absOf (getD phase k nan)
-    → sumFrom (add binary64 acc (mul binary64 a m)) (drop (k + 1) (map absOf phase)) (drop (k + 1) (replicate remembered m))
-    ≡ sumFrom acc (drop k (map absOf phase)) (drop k (replicate remembered m))
-bound-more acc a m phase k h n e =
-    let t : a ≡ getD (map absOf phase) k nan = e ∙ sym (List·getD-map absOf phase k nan) in
-    let d : m ≡ getD (replicate remembered m) k nan = sym (getD-replicate remembered k m nan (omega arith)) in
-    ap (λ (z : Float). sumFrom (add binary64 acc z) (drop (k + 1) (map absOf phase)) (drop (k + 1) (replicate remembered m)))
-    (ap (λ (z : Float). mul binary64 z m) t ∙ ap (mul binary64 (getD (map absOf phase) k nan)) d)
-    ∙ sum-more acc (map absOf phase) (replicate remembered m) k nan (rw (length-map phase absOf) h) (rw (length-replicate remembered m) (omega arith))
 
 -- ---- `remember_newest`
 -- a list laid in reverse before another, read from its end

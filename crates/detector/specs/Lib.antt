@@ -3,4 +3,4 @@ pub mod Taps
 pub mod Oversample
 pub mod History
 pub mod Run
-pub mod Bound
+pub mod Level

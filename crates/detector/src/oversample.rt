@@ -37,7 +37,7 @@ fn phase_sum(phase: &[f64; 12], samples: &[f64; 12]) -> f64
 
 // The larger of the peak so far and a sum's magnitude. Two tests with no branch between them are
 // faster than a magnitude and one test.
-pub fn larger_of(peak: f64, sum: f64) -> f64
+fn larger_of(peak: f64, sum: f64) -> f64
     requires { ⌜ lt peak zero ≡ false ⌝ }
     ensures { λ r. ⌜ r ≡ larger peak sum ⌝ }
     ensures { λ r. ⌜ lt r zero ≡ false ⌝ }

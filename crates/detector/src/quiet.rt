@@ -1,62 +1,35 @@
-// Quiet runs: where every sample lies within a level whose bound is at most a ceiling, no answer of the
-// detector is above the ceiling, and no sum need be computed.
+// Quiet runs: where every sample lies within the level for a ceiling, no answer of the detector is above
+// the ceiling, and no sum need be computed.
 ghost use mathlib.Core.Path.{_≡_};
 ghost use mathlib.Core.Bool.{true};
-ghost use mathlib.Core.List.{map};
 ghost use Prim.Native.Nat.{_≤_};
-ghost use lib.ListN.{length, replicate};
-ghost use lib.Ieee.{neg, lt};
-ghost use Rattle.arithmetic.specs.Number.{zero, absOf, within};
+ghost use lib.ListN.{length};
+ghost use lib.Ieee.{neg};
+ghost use Rattle.arithmetic.specs.Number.{within};
 ghost use Rattle.detector.specs.Taps.{taps};
-ghost use Rattle.detector.specs.Oversample.{remembered, sumOf};
+ghost use Rattle.detector.specs.Oversample.{remembered};
 ghost use Rattle.detector.specs.Run.{runLength, pushesOf};
-ghost use Rattle.detector.specs.Bound.{boundOf, allWithin, LevelBelow, liesWithin, StaysBelow};
-use crate::oversample::larger_of;
+ghost use Rattle.detector.specs.Level.{levelOf, allWithin, liesWithin, StaysBelow};
 use crate::oversample::lay_run;
 use crate::oversample::lay_store;
 use crate::oversample::window;
 use crate::oversample::write_back;
-use crate::taps::PHASE_0;
-use crate::taps::PHASE_1;
-use crate::taps::PHASE_2;
-use crate::taps::PHASE_3;
-use arithmetic::number::abs;
 use arithmetic::sanitize::finite_or_zero;
 
-// The share of a ceiling that samples may have: a little less than one by the largest sum of a phase's
-// magnitudes, 1.7914. The bound is computed all the same.
-const SHARE: f64 = 0.558;
+// The share of a ceiling that samples may have: the magnitudes of no phase's taps add up to more than
+// 1.7916, so their sums, roundings included, stay below the ceiling.
+const SHARE: f64 = 0.55;
 
-// The sum of one phase for samples of m, by its taps' magnitudes.
-fn phase_bound(phase: &[f64; 12], m: f64) -> f64
-    requires { ⌜ length (now phase) ≡ remembered ⌝ }
-    ensures { λ r. ⌜ r ≡ sumOf (map absOf (now (phase .entry))) (replicate remembered m) ⌝ }
-{
-    let mut acc = 0.0;
-    for k in 0..12 {
-        acc += abs(phase[k]) * m;
-    }
-    acc
-}
+// 2 to the −13, the least ceiling that has a level.
+const LEAST_CEILING: f64 = 0.0001220703125;
 
-// What no answer for samples within −m and m is above.
-fn bound_of(m: f64) -> f64
-    ensures { λ r. ⌜ r ≡ boundOf taps m ⌝ }
-{
-    let bound = larger_of(0.0, phase_bound(&PHASE_0, m));
-    let bound = larger_of(bound, phase_bound(&PHASE_1, m));
-    let bound = larger_of(bound, phase_bound(&PHASE_2, m));
-    larger_of(bound, phase_bound(&PHASE_3, m))
-}
-
-// A level for a ceiling, or 0.0 where none is found. One level serves all runs with that ceiling.
+// The level for a ceiling: where samples lie within it, neither they nor the detector's answers for them
+// are above the ceiling. 0.0 where the ceiling has none.
 pub fn level_below(ceiling: f64) -> f64
-    ensures { λ r. ⌜ (lt zero r ≡ true → LevelBelow ceiling r) ⌝ }
+    ensures { λ r. ⌜ r ≡ levelOf ceiling ⌝ }
 {
-    let level = ceiling * SHARE;
-    let bound = bound_of(level);
-    if (level <= 1.0) & (level <= ceiling) & (bound <= ceiling) {
-        level
+    if (LEAST_CEILING <= ceiling) & (ceiling <= 1.0) {
+        ceiling * SHARE
     } else {
         0.0
     }

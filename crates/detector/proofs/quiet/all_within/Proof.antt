@@ -5,7 +5,7 @@ use Prim.Native.Nat.{_-_, _≤_}
 use borrow.Author.Needs.{needs}
 use lib.ListN.{drop}
 use denote.Ref.{now}
-use Rattle.detector.specs.Bound.{allWithin}
+use Rattle.detector.specs.Level.{allWithin}
 use Rattle.detector.proofs.Scan.{within-more, within-all}
 use Rattle.detector.proofs.quiet.all_within.Statement.{statement}
 use Rattle.detector.proofs.quiet.all_within.Tie as tie

@@ -2,7 +2,7 @@
 use borrow.Author.Needs.{needs}
 use lib.Ieee.{ofBits}
 use denote.Ref.{now}
-use Rattle.detector.proofs.Bound.{lies-in, lies-out}
+use Rattle.detector.proofs.Level.{lies-in, lies-out}
 use Rattle.detector.proofs.quiet.lies_within.Statement.{statement}
 use Rattle.detector.proofs.quiet.lies_within.Tie as tie
 

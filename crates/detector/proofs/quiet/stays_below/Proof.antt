@@ -1,8 +1,11 @@
 -- `stays_below`: samples within a level for the ceiling.
 use borrow.Author.Needs.{needs}
-use mathlib.Core.Path.{sym, _∙_}
+use mathlib.Core.Path.{_≡_, sym, _∙_, subst}
+use mathlib.Core.Bool.{true}
+use lib.Ieee.{Float}
 use denote.Ref.{now}
-use Rattle.detector.proofs.Bound.{stays}
+use Rattle.detector.specs.Level.{liesWithin}
+use Rattle.detector.proofs.Level.{stays}
 use Rattle.detector.proofs.quiet.stays_below.Statement.{statement}
 use Rattle.detector.proofs.quiet.stays_below.Tie as tie
 
@@ -14,9 +17,9 @@ lies-within-requires c κs = search needs
 
 returns : tie.Need-returns
 returns c =
-    let l = c .before in
-    let a = l .before .before .before .args in
-    λ h. stays (a .ceiling) (l .level-below .result) (now (a .store)) (now (a .samples)) (l .level-below .ensures) (sym (c .lies-within .ensures) ∙ h)
+    let l = c .before .level-below in
+    let a = c .before .before .before .before .args in
+    λ h. stays (a .ceiling) (now (a .store)) (now (a .samples)) (subst (λ (z : Float). liesWithin (now (a .store)) (now (a .samples)) z ≡ true) (l .ensures) (sym (c .lies-within .ensures) ∙ h))
 
 pub stays-below-spec : {M : Type 1} → statement M
 stays-below-spec = tie.close (tie.spec level-below-requires lies-within-requires returns)
