@@ -3,6 +3,8 @@ pub mod Order
 pub mod Within
 pub mod Cases
 pub mod Values
+pub mod Magnitude
+pub mod Quotient
 pub mod Whole
 pub mod Power
 pub mod Cut

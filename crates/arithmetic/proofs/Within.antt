@@ -23,7 +23,7 @@ below-high (inf t) s p h = absurd p
 below-high (fin t m e) true p h = refl
 below-high (fin t m e) false p h = h
 
-not-le-nan : (x : Float) → le x nan ≡ false
+pub not-le-nan : (x : Float) → le x nan ≡ false
 unfolding le
 not-le-nan nan = refl
 not-le-nan (inf s) = refl

@@ -5,4 +5,6 @@ pub mod Sum
 pub mod Copy
 pub mod Push
 pub mod Line
+pub mod Level
+pub mod Scan
 pub mod Wrong

@@ -103,7 +103,7 @@ module _ (phases : List (List Float)) where
       rw (push-shifts phases store x n)
       (oldest-first xs s more (finiteOrZero x ∷ (store ++ rest)) (pushesOf phases s xs .peaks) k (sym (moved store rest x)) (answers-pushes xs s more k))
 
-  store-pushes : (run store rest : List Float) → length store ≡ remembered → take remembered (lined run (store ++ rest)) ≡ pushesOf phases store run .store
+  pub store-pushes : (run store rest : List Float) → length store ≡ remembered → take remembered (lined run (store ++ rest)) ≡ pushesOf phases store run .store
   unfolding pushesOf detected
   store-pushes [] store rest n = take-at store rest remembered n
   store-pushes (x ∷ xs) store rest n =
@@ -126,6 +126,14 @@ module _ (phases : List (List Float)) where
       ap (drop n) (append-assoc (take n z) (take remembered store) (drop (n + remembered) z))
       ∙ drop-at (take n z) (take remembered store ++ drop (n + remembered) z) n (length-take-le n z p)
       ∙ ap (λ (l : List Float). l ++ drop (n + remembered) z) (take-all remembered store (omega arith))
+
+  -- what the calls of `remember` add up to
+  pub ran-store : (store run z behind line newest left : List Float) → length run ≤ length z → length store ≡ remembered
+      → behind ≡ paste z (length run) store remembered → line ≡ reverseAux (map finiteOrZero run) (drop (length run) behind)
+      → newest ≡ take remembered line → left ≡ newest → left ≡ pushesOf phases store run .store
+  ran-store store run z behind line newest left p n e0 e1 e2 e3 =
+      let rest = drop (length run + remembered) z in
+      rw (e3, e2, e1, e0, laid z store (length run) p n) (store-pushes run store rest n)
 
   module _ (store run old : List Float) where
     -- what the calls of `peaks_abs` add up to

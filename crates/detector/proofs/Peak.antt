@@ -1,13 +1,17 @@
 -- The larger magnitude: two tests find it as well as a magnitude and one test, and it is not below 0.
 use mathlib.Core.Path.{_≡_, refl}
-use mathlib.Core.Bool.{Bool, true, false, cond}
+use mathlib.Core.Bool.{Bool, true, false, not, cond, _&&_}
+use mathlib.Core.List.{List, [], _∷_}
 use Prim.Native.Nat.{_*_}
 use native.Mathlib.Omega.{arith}
 use borrow.Author.Tests.{le-ltb}
+use lib.Dec.{eqb}
+use lib.ListN.{length}
 use lib.Ieee.{Float, nan, inf, fin, up, down, lt, neg}
-use Rattle.arithmetic.specs.Number.{zero, absOf, withSign}
+use Rattle.arithmetic.specs.Number.{zero, absOf, signOf, withSign}
 use Rattle.arithmetic.proofs.Order.{clash, not-lt→le, le→not-lt, le-then-le}
-use Rattle.detector.specs.Oversample.{larger}
+use Rattle.detector.specs.Oversample.{remembered, shifted, sumsOf, larger, largestFrom, largestOf, pushedAt, detected, peakAbsOf}
+use Rattle.detector.specs.Run.{pushesOf}
 
 -- ---- the two tests
 
@@ -82,3 +86,36 @@ larger-not-below p s h = go (lt p (absOf s)) refl
 -- what `larger_of` promises of a result that equals the larger one
 pub both-ways : {r : Float} (p s : Float) → lt p zero ≡ false → r ≡ larger p s → (r ≡ larger p s) × (lt r zero ≡ false)
 both-ways p s h e = (e, rw e (larger-not-below p s h))
+
+-- ---- no answer has a minus sign, not even a zero
+abbrev pub allUnsigned : List Float → Bool
+allUnsigned [] = true
+allUnsigned (x ∷ xs) = not (signOf x) && allUnsigned xs
+
+abs-unsigned : (s : Float) → signOf (absOf s) ≡ false
+abs-unsigned nan = refl
+abs-unsigned (inf t) = refl
+abs-unsigned (fin t m e) = refl
+
+largest-unsigned : (p : Float) (ss : List Float) → signOf p ≡ false → signOf (largestFrom p ss) ≡ false
+unfolding largestFrom larger
+largest-unsigned p [] h = h
+largest-unsigned p (s ∷ ss) h = largest-unsigned (larger p s) ss (go (lt p (absOf s)))
+  where
+    go : (b : Bool) → signOf (cond b (absOf s) p) ≡ false
+    go true = abs-unsigned s
+    go false = h
+
+module _ (phases : List (List Float)) where
+  pub push-unsigned : (store : List Float) (x : Float) → signOf (peakAbsOf phases store x .peak) ≡ false
+  unfolding peakAbsOf detected largestOf
+  push-unsigned store x = go (eqb (length store) remembered)
+    where
+      go : (b : Bool) → signOf (cond b (detected phases (shifted store x)) (pushedAt zero store) .peak) ≡ false
+      go true = largest-unsigned zero (sumsOf phases (shifted store x)) refl
+      go false = refl
+
+  pub answers-unsigned : (store run : List Float) → allUnsigned (pushesOf phases store run .peaks) ≡ true
+  unfolding pushesOf
+  answers-unsigned store [] = refl
+  answers-unsigned store (x ∷ xs) = rw (push-unsigned store x) (answers-unsigned (peakAbsOf phases store x .store) xs)

@@ -3,3 +3,4 @@ pub mod Taps
 pub mod Oversample
 pub mod History
 pub mod Run
+pub mod Level

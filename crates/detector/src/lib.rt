@@ -2,4 +2,5 @@
 // the store afterwards equal a definition of specs/.
 
 pub mod oversample;
+pub mod quiet;
 mod taps;

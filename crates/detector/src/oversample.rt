@@ -77,7 +77,7 @@ fn shift_in(store: &[f64], x: f64) -> [f64; 12]
 }
 
 // The local array back into the store.
-fn write_back(store: &mut [f64], samples: &[f64; 12])
+pub fn write_back(store: &mut [f64], samples: &[f64; 12])
     requires { ⌜ length (now store) ≡ remembered ⌝ }
     requires { ⌜ length (now samples) ≡ remembered ⌝ }
     ensures { λ _. ⌜ now (store .exit) ≡ now (samples .entry) ⌝ }
@@ -103,7 +103,7 @@ pub fn peak_abs(store: &mut [f64], x: f64) -> Peak
 }
 
 // Twelve samples of a line, from `at` on.
-fn window(line: &[f64; 44], at: usize) -> [f64; 12]
+pub fn window(line: &[f64; 44], at: usize) -> [f64; 12]
     requires { ⌜ length (now line) ≡ lineLength ⌝ }
     requires { ⌜ at ≤ runLength ⌝ }
     ensures { λ r. ⌜ r ≡ take remembered (drop at (now (line .entry))) ⌝ }
@@ -116,7 +116,7 @@ fn window(line: &[f64; 44], at: usize) -> [f64; 12]
 }
 
 // The remembered samples into a line, from `at` on.
-fn lay_store(store: &[f64], line: &mut [f64; 44], at: usize)
+pub fn lay_store(store: &[f64], line: &mut [f64; 44], at: usize)
     requires { ⌜ length (now store) ≡ remembered ⌝ }
     requires { ⌜ length (now line) ≡ lineLength ⌝ }
     requires { ⌜ at ≤ runLength ⌝ }
@@ -129,7 +129,7 @@ fn lay_store(store: &[f64], line: &mut [f64; 44], at: usize)
 }
 
 // A run's sanitized samples into the front of a line, the newest first.
-fn lay_run(run: &[f64], line: &mut [f64; 44])
+pub fn lay_run(run: &[f64], line: &mut [f64; 44])
     requires { ⌜ length (now run) ≤ runLength ⌝ }
     requires { ⌜ length (now line) ≡ lineLength ⌝ }
     ensures { λ _. ⌜ now (line .exit)

@@ -1,0 +1,28 @@
+-- `lies_within`: the two scans and the tests before them.
+use borrow.Author.Needs.{needs}
+use lib.Ieee.{ofBits}
+use denote.Ref.{now}
+use Rattle.detector.proofs.Level.{lies-in, lies-out}
+use Rattle.detector.proofs.quiet.lies_within.Statement.{statement}
+use Rattle.detector.proofs.quiet.lies_within.Tie as tie
+
+returns : tie.Need-returns
+returns c =
+    let a = c .before .before .before .args in
+    lies-out (now (a .store)) (now (a .samples)) (a .level) (c .if1 .taken)
+
+all-within-requires : tie.Need-all-within-requires
+all-within-requires c κs = search needs
+
+all-within-requires-2 : tie.Need-all-within-requires-2
+all-within-requires-2 c κs = search needs
+
+returns-2 : tie.Need-returns-2
+unfolding ofBits
+returns-2 c =
+    let w = c .before in
+    let a = w .before .before .before .before .args in
+    lies-in (now (a .store)) (now (a .samples)) (a .level) (w .all-within .result) (c .all-within2 .result) (w .before .if1 .left) (w .all-within .ensures) (c .all-within2 .ensures)
+
+pub lies-within-spec : {M : Type 1} → statement M
+lies-within-spec = tie.close (tie.spec returns all-within-requires all-within-requires-2 returns-2)
