@@ -25,10 +25,26 @@ none-left l i h = drop-of-length-le l {i = i} h
 pub all-stored : (l : List Float) (i : ℕ) → length l ≤ i → take i l ++ [] ≡ l
 all-stored l i h = append-nil (take i l) ∙ take-all i l h
 
+-- a list that gets what another comes to, and the other something else
+module _ (f : Float → Float) (l m : List Float) (i : ℕ) where
+  pub laid-more : (x y : Float) → i < length l → i < length m → x ≡ f (getD m i nan) → take (i + 1) (set l i x) ++ map f (drop (i + 1) (set m i y)) ≡ take i l ++ map f (drop i m)
+  laid-more x y h k e = rw (stored l i h x (map f (drop (i + 1) (set m i y))), kept m i k y, split m i k, e) refl
+
+  pub laid-done : length l ≤ i → length m ≤ i → l ≡ take i l ++ map f (drop i m)
+  laid-done h k = rw (none-left m i k) (sym (all-stored l i h))
+
 -- each element by a function
 module _ (f : Float → Float) (l : List Float) (i : ℕ) where
   pub map-more : (y : Float) → i < length l → y ≡ f (getD l i nan) → take (i + 1) (set l i y) ++ map f (drop (i + 1) (set l i y)) ≡ take i l ++ map f (drop i l)
-  map-more y h e = rw (stored l i h y (map f (drop (i + 1) (set l i y))), kept l i h y, split l i h, e) refl
+  map-more y h e = laid-more f l l i y y h h e
 
   pub map-done : length l ≤ i → l ≡ take i l ++ map f (drop i l)
-  map-done h = rw (none-left l i h) (sym (all-stored l i h))
+  map-done h = laid-done f l l i h h
+
+-- what another list holds
+module _ (l line : List Float) (i : ℕ) where
+  pub lifted-more : (x : Float) → i < length l → i < length line → take (i + 1) (set l i (getD line i nan)) ++ drop (i + 1) (set line i x) ≡ take i l ++ drop i line
+  lifted-more x h k = rw (kept line i k x, stored l i h (getD line i nan) (drop (i + 1) line), split line i k) refl
+
+  pub lifted-done : length l ≤ i → length line ≤ i → l ≡ take i l ++ drop i line
+  lifted-done h k = rw (none-left line i k) (sym (all-stored l i h))

@@ -9,7 +9,7 @@ use Rattle.envelope.specs.Row.{nextPos, posAfter}
 
 module _ (l : ℕ) where
   -- so many, and so many more
-  after-add : (p m n : ℕ) → posAfter l p (m + n) ≡ posAfter l (posAfter l p m) n
+  pub after-add : (p m n : ℕ) → posAfter l p (m + n) ≡ posAfter l (posAfter l p m) n
   unfolding posAfter
   after-add p zero n = let e : zero + n ≡ n = omega arith in rw e refl
   after-add p (suc m) n = let e : suc m + n ≡ suc (m + n) = omega arith in rw e (after-add (nextPos l p) m n)
@@ -23,18 +23,19 @@ module _ (l : ℕ) where
   after-up p zero h = omega arith
   after-up p (suc m) h = let e : p + 1 + m ≡ p + suc m = omega arith in rw (next-up p (omega arith)) (after-up (p + 1) m (omega arith) ∙ e)
 
+  -- a place, and m more, as far as the end
+  pub after-last : (p m : ℕ) → p + suc m ≤ l → posAfter l p (suc m) ≡ nextPos l (p + m)
+  unfolding posAfter
+  after-last p m h = let e : suc m ≡ m + 1 = omega arith in ap (posAfter l p) e ∙ after-add p m 1 ∙ ap (λ (q : ℕ). posAfter l q 1) (after-up p m (omega arith))
+
   -- from the last place to the first
   next-round : (p : ℕ) → p + 1 ≡ l → nextPos l p ≡ 0
   next-round p h = ap (λ (b : Bool). cond b 0 (p + 1)) (eq-eqb (p + 1) l h)
 
   -- as far as the end
   pub after-round : (p m : ℕ) → p < l → p + m ≡ l → posAfter l p m ≡ 0
-  unfolding posAfter
   after-round p zero h e = absurd (omega arith)
-  after-round p (suc m) h e =
-      let k : suc m ≡ m + 1 = omega arith in
-      let u : p + m + 1 ≡ l = omega arith in
-      ap (posAfter l p) k ∙ after-add p m 1 ∙ ap (λ (q : ℕ). posAfter l q 1) (after-up p m (omega arith)) ∙ next-round (p + m) u
+  after-round p (suc m) h e = after-last p m (omega arith) ∙ next-round (p + m) (omega arith)
 
   -- from the start
   pub after-start : (pos n : ℕ) → pos < l → posAfter l 0 (pos + n) ≡ posAfter l pos n

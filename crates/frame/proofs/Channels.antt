@@ -15,7 +15,8 @@ use Rattle.detector.specs.Taps.{taps}
 use Rattle.detector.proofs.Store.{run-pushes}
 use Rattle.settings.specs.declared.LimiterSettings.{LimiterSettings}
 use Rattle.frame.specs.Rules.{Linking, tapsOf, countsIn, linkingOf}
-use Rattle.frame.specs.Passes.{heardAll, Peaks, peaksAt, channelPeaks, peaksPass, Outputs, outputsAt, Written, writtenAt, posAfter, channelOutputs, outputsPass}
+use Rattle.envelope.specs.Row.{posAfter}
+use Rattle.frame.specs.Passes.{heardAll, Peaks, peaksAt, channelPeaks, peaksPass, Outputs, outputsAt, Written, writtenAt, channelOutputs, outputsPass}
 
 -- ---- one channel's places in a flat store: w of them, from c × w on
 pub one-more : (c w : ℕ) → (c + 1) * w ≡ c * w + w

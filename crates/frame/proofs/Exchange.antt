@@ -14,13 +14,13 @@ use Rattle.audio.specs.Planar.{frameAt, framesAt, firstOf, othersOf, written}
 use Rattle.detector.specs.Oversample.{remembered, peakAbsOf}
 use Rattle.detector.specs.Run.{runLength, pushesOf}
 use Rattle.detector.proofs.Store.{push-length, pushes-length}
-use Rattle.envelope.specs.Row.{nextPos}
+use Rattle.envelope.specs.Row.{nextPos, posAfter}
 use Rattle.envelope.specs.Step.{Enveloped, gainStepOf}
 use Rattle.frame.specs.Rules.{Linking, Rules}
 use Rattle.frame.specs.Frame.{heard, linkedFrom, requiredGain, delayedFrom, Moving, Framed, frameOf}
 use Rattle.frame.specs.Run.{Frames, framesOf, framesIn, writtenIn, RunDone, runOf, gainsOfFrames}
-use Rattle.frame.proofs.Turns.{split}
-use Rattle.frame.specs.Passes.{heardAll, Peaks, peaksAt, channelPeaks, peaksPass, Gains, gainsOf, posAfter, channelOutputs, Written, writtenAt, outputsPass}
+use Rattle.arithmetic.proofs.InTurn.{split}
+use Rattle.frame.specs.Passes.{heardAll, Peaks, peaksAt, channelPeaks, peaksPass, Gains, gainsOf, channelOutputs, Written, writtenAt, outputsPass}
 
 -- ---- the frames of a run, channel by channel
 pub frames-length : (k n i : ℕ) (audio : List Float) → length (framesAt nan runLength k i n audio) ≡ n

@@ -2,16 +2,16 @@
 use mathlib.Core.Path.{_≡_, refl, sym, ap, _∙_}
 use mathlib.Core.List.{List, [], _∷_, _++_, map, append-assoc}
 use Prim.Native.Nat.{ℕ, zero, suc, _+_, _-_, _≤_, _<_}
-use native.Mathlib.Nat.{suc-inj, zero-add, suc-add}
+use native.Mathlib.Nat.{suc-inj}
 use native.Mathlib.Omega.{arith}
-use borrow.Author.Tests.{ne-eqb}
 use lib.ListN.{length, getD, set, take, drop, length-set, take-append-drop}
 use lib.Ieee.{Float, nan}
 use Rattle.arithmetic.specs.Sanitize.{finiteOrZero}
-use Rattle.envelope.specs.Row.{nextPos}
+use Rattle.envelope.specs.Row.{nextPos, posAfter}
+use Rattle.envelope.proofs.Position.{after-add, after-last, next-up}
 use Rattle.frame.specs.Frame.{givenOut}
-use Rattle.frame.specs.Passes.{posAfter, Exchanged, exchangedAt, exchangeOf, productsOf, Outputs, outputsAt, channelOutputs}
-use Rattle.frame.proofs.Turns.{split, kept, stored, none-left, all-stored}
+use Rattle.frame.specs.Passes.{Exchanged, exchangedAt, exchangeOf, productsOf, Outputs, outputsAt, channelOutputs}
+use Rattle.arithmetic.proofs.InTurn.{split, kept, stored, none-left, all-stored}
 use Rattle.frame.proofs.Channels.{part-length, put-whole, put-ahead}
 
 -- ---- the exchange, and then the products
@@ -44,28 +44,12 @@ exchange-append look pos line [] ys = refl
 exchange-append look pos line (x ∷ xs) ys =
     ap (joined (getD line pos nan ∷ [])) (exchange-append look (nextPos look pos) (set line pos (finiteOrZero x)) xs ys)
 
-pos-append : (look pos n m : ℕ) → posAfter look pos (n + m) ≡ posAfter look (posAfter look pos n) m
-unfolding posAfter
-pos-append look pos zero m = rw (zero-add m) refl
-pos-append look pos (suc n) m = rw (suc-add n m) (pos-append look (nextPos look pos) n m)
-
 -- ---- a straight stretch: it ends where the line does, or before
-next-straight : (look pos : ℕ) → pos + 1 < look → nextPos look pos ≡ pos + 1
-next-straight look pos h = rw (ne-eqb (pos + 1) look (λ e. omega arith)) refl
-
--- the position after a frame and k more
-pos-straight : (look pos k : ℕ) → pos + suc k ≤ look → posAfter look pos (suc k) ≡ nextPos look (pos + k)
-unfolding posAfter
-pos-straight look pos zero h = let e : pos + 0 ≡ pos = omega arith in rw e refl
-pos-straight look pos (suc k) h =
-    let e : pos + suc k ≡ pos + 1 + k = omega arith in
-    rw (next-straight look pos (omega arith), e) (pos-straight look (pos + 1) k (omega arith))
-
 -- the samples after the first find the next place
 onward : (look pos : ℕ) (line xs : List Float) → pos + suc (length xs) ≤ look → exchangeOf look (nextPos look pos) line xs ≡ exchangeOf look (pos + 1) line xs
 unfolding exchangeOf
 onward look pos line [] h = refl
-onward look pos line (x ∷ xs) h = ap (λ (p : ℕ). exchangeOf look p line (x ∷ xs)) (next-straight look pos (omega arith))
+onward look pos line (x ∷ xs) h = ap (λ (p : ℕ). exchangeOf look p line (x ∷ xs)) (next-up look pos (omega arith))
 
 -- a list with ys in n places from one on
 abbrev pasted : List Float → ℕ → List Float → ℕ → List Float
@@ -128,12 +112,12 @@ pub pos-after-stretch : (look p k q : ℕ) → 1 ≤ k → p + k ≤ look → q 
 pos-after-stretch look p zero q some h e = absurd (omega arith)
 pos-after-stretch look p (suc k) q some h e =
     let last : p + suc k - 1 ≡ p + k = omega arith in
-    e ∙ rw last (sym (pos-straight look p k h))
+    e ∙ rw last (sym (after-last look p k h))
 
 pub pos-next : (look p k n i q : ℕ) → i + k ≤ n → q ≡ posAfter look p k → posAfter look q (n - (i + k)) ≡ posAfter look p (n - i)
 pos-next look p k n i q h e =
     let left : n - i ≡ k + (n - (i + k)) = omega arith in
-    rw (e, left) (sym (pos-append look p k (n - (i + k))))
+    rw (e, left) (sym (after-add look p k (n - (i + k))))
 
 pub pos-done : (look p n i : ℕ) → n ≤ i → p ≡ posAfter look p (n - i)
 unfolding posAfter

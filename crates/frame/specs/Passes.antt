@@ -64,11 +64,6 @@ gainsOf weights coeff e (x ∷ xs) =
     record { gains = next .gain ∷ later .gains; env = later .env }
 
 -- ---- outputs
--- the delay position after n frames
-unfoldable pub posAfter : ℕ → ℕ → ℕ → ℕ
-posAfter look pos zero = pos
-posAfter look pos (suc n) = posAfter look (nextPos look pos) n
-
 -- what lay in a line, frame by frame, and the line afterwards
 pub record Exchanged : Type 0 where
   pub delayed : List Float

@@ -7,7 +7,7 @@ use borrow.Author.Needs.{needs}
 use lib.ListN.{length, take, drop, length-set}
 use lib.Ieee.{Float}
 use Rattle.frame.specs.Frame.{requiredGain}
-use Rattle.frame.proofs.Turns.{map-more, map-done}
+use Rattle.arithmetic.proofs.InTurn.{map-more, map-done}
 use Rattle.frame.proofs.gains.required_gains.Statement.{statement}
 use Rattle.frame.proofs.gains.required_gains.Tie as tie
 

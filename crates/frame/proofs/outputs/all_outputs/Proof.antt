@@ -6,7 +6,8 @@ use borrow.Author.Needs.{needs}
 use lib.ListN.{length}
 use denote.Ref.{now}
 use Rattle.frame.specs.Rules.{leavesBy}
-use Rattle.frame.specs.Passes.{posAfter, outputsPass}
+use Rattle.envelope.specs.Row.{posAfter}
+use Rattle.frame.specs.Passes.{outputsPass}
 use Rattle.frame.proofs.Channels.{places-end, outputsSince, outputs-start, outputs-end, outputs-turn, pos-turn}
 use Rattle.frame.proofs.outputs.all_outputs.Statement.{statement}
 use Rattle.frame.proofs.outputs.all_outputs.Tie as tie

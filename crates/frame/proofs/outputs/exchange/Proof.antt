@@ -6,7 +6,8 @@ use native.Mathlib.Nat.{sub-zero}
 use borrow.Author.Needs.{needs}
 use lib.ListN.{length}
 use denote.Ref.{now}
-use Rattle.frame.specs.Passes.{posAfter, exchangeOf}
+use Rattle.envelope.specs.Row.{posAfter}
+use Rattle.frame.specs.Passes.{exchangeOf}
 use Rattle.frame.proofs.Stretch.{exchangeFrom, exchange-turn, exchange-done, pos-after-stretch, pos-next, pos-done}
 use Rattle.frame.proofs.outputs.exchange.Statement.{statement}
 use Rattle.frame.proofs.outputs.exchange.Tie as tie

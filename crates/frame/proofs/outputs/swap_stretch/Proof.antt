@@ -6,7 +6,7 @@ use native.Mathlib.Omega.{arith}
 use borrow.Author.Needs.{needs}
 use lib.ListN.{length, take, drop, length-set}
 use Rattle.arithmetic.specs.Sanitize.{finiteOrZero}
-use Rattle.frame.proofs.Turns.{laid-more, laid-done, lifted-more, lifted-done}
+use Rattle.arithmetic.proofs.InTurn.{laid-more, laid-done, lifted-more, lifted-done}
 use Rattle.frame.proofs.outputs.swap_stretch.Statement.{statement}
 use Rattle.frame.proofs.outputs.swap_stretch.Tie as tie
 
