@@ -1,13 +1,15 @@
 -- Inputs at which the wrong programs of ARCHITECTURE.md's table would answer otherwise: each row computes what the definition answers there, and its comment names the wrong program.
 use mathlib.Core.Path.{_≡_, refl}
+use mathlib.Core.Bool.{true, false}
 use mathlib.Core.List.{List, [], _∷_, map, reverse}
 use lib.ListN.{replicate}
-use lib.Ieee.{Float, nan, binary64, add, mul, lt, ofBits, toBits}
-use Rattle.arithmetic.specs.Number.{zero, one}
+use lib.Ieee.{Float, nan, binary64, add, mul, neg, lt, le, eq, ofBits, toBits}
+use Rattle.arithmetic.specs.Number.{bits, zero, one}
 use Rattle.detector.specs.Taps.{taps, phase0, phase1, phase2, phase3}
 use Rattle.detector.specs.Oversample.{sumFrom, sumOf, sumsOf, larger, largestFrom, largestOf, shifted, detected, peakAbsOf}
 use Rattle.detector.specs.Run.{pushesOf, peaksAbsOf}
 use Rattle.detector.specs.History.{silent}
+use Rattle.detector.specs.Level.{share, levelOf, allWithin, liesWithin}
 
 -- what an `unfolding` line names, so that a push computes
 unfoldable pushing : Type 0
@@ -41,3 +43,19 @@ run-shifts = refl
 pub long-run-left : peaksAbsOf taps silent (replicate 33 one) (replicate 33 zero) .peaks ≡ replicate 33 zero
 unfolding peaksAbsOf
 long-run-left = refl
+
+-- ---- quiet runs
+-- the ceiling itself as its level: 1. A level for a ceiling below 2^−13
+pub level-below-ceiling : (levelOf one ≡ share) × (levelOf (bits 0x3f1f_ffff_ffff_ffff) ≡ zero)
+unfolding levelOf le lt eq mul ofBits
+level-below-ceiling = (refl, refl)
+
+-- a NaN in the store passed over; a sample above the level passed over
+pub not-quiet : (liesWithin (nan ∷ replicate 11 zero) [] share ≡ false) × (liesWithin silent (one ∷ []) share ≡ false) × (liesWithin silent (share ∷ []) share ≡ true)
+unfolding liesWithin allWithin le lt eq neg ofBits
+not-quiet = (refl, refl, refl)
+
+-- the run's samples remembered oldest first, or the store left as it was
+pub newest-remembered : pushesOf taps silent (one ∷ share ∷ []) .store ≡ share ∷ one ∷ replicate 10 zero
+unfolding pushing ofBits
+newest-remembered = refl

@@ -71,20 +71,6 @@ pub gain-unit : (gain mean coeff : Float) → within Number.zero one (followed g
 unfolding followed
 gain-unit gain mean coeff = gain-within (moved (unitGain gain) mean coeff)
 
--- ---- what the calls of a gain step add up to
-module _ (weights : List Float) (e : Enveloped) (x : Float) (i : Stepped) (r : Rowed) (I : i ≡ steppedOf (e .keeping) x) (R : r ≡ pushed (e .rowed .state) (e .rowed .row) (i .floor)) where
-  pub mean-ready : EnvReady weights e → (rowInOrder (r .state) (r .row) ≡ true) × (length weights ≡ length (r .row))
-  unfolding pushed
-  mean-ready a = (
-    rw R (pushed-in-order (e .rowed .state) (e .rowed .row) (i .floor) (a .row) (rw I (step-floor-unit (e .keeping) x (a .keeper)))),
-    rw R (a .weighed ∙ sym (length-set (e .rowed .row) (e .rowed .state .pos) (i .floor))),
-  )
-
-  pub stepped : (coeff mean gain : Float) → mean ≡ meanOf weights (newestFirst (r .state .pos) (r .row)) → gain ≡ followed (e .gain) mean coeff
-      → gainStepped (i .floor) (i .dropped) mean (enveloped (i .keeping) r gain) ≡ gainStepOf weights coeff e x
-  unfolding gainStepOf
-  stepped coeff mean gain M G = rw (G, M, R, I) refl
-
 -- a step leaves an envelope that is ready for the next
 pub env-after : (weights : List Float) (coeff : Float) (e : Enveloped) (x : Float) → EnvReady weights e → e .keeping .keeper .frame + 2 ≤ mostFrames → EnvReady weights (gainStepOf weights coeff e x .env)
 unfolding gainStepOf pushed

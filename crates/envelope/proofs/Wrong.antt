@@ -10,6 +10,7 @@ use Rattle.keeper.specs.Keeper.{keepingAt, freshKeeper, steppedOf}
 use Rattle.envelope.specs.Row.{pushed, rowedAt, rowInOrder}
 use Rattle.envelope.specs.Mean.{meanOf}
 use Rattle.envelope.specs.Follow.{followed}
+use Rattle.envelope.specs.Run.{meansOf, followedAll}
 use Rattle.envelope.specs.Step.{Enveloped, enveloped, gainStepOf}
 
 abbrev quarter : Float
@@ -61,6 +62,30 @@ attack-at-once = refl
 pub gain-kept-unit : followed one (bits 0x4000_0000_0000_0000) one ≡ one
 unfolding followed add sub mul lt le ofBits
 gain-kept-unit = refl
+
+-- ---- a run
+-- 0.5 − 2^−54: two such weights add up to less than 1
+abbrev short : Float
+short = bits 0x3fdf_ffff_ffff_ffff
+
+-- each floor pushed into the run's first row: a second mean of 0.75 × 1 + 0.25 × 1. The mean of the row before the push: 1 and then 0.625
+pub means-in-turn :
+    meansOf (threeQuarters ∷ quarter ∷ []) (rowedAt (record { pos = 0; tally = 0 }) (one ∷ one ∷ [])) (half ∷ one ∷ []) .means
+    ≡ bits 0x3fe4_0000_0000_0000 ∷ bits 0x3fec_0000_0000_0000 ∷ []
+unfolding meansOf pushed meanOf ne eq add mul ofBits
+means-in-turn = refl
+
+-- the sum where every floor is 1: 1 − 2^−53. The position left where it was
+pub still-row :
+    (meansOf (short ∷ short ∷ []) (rowedAt (record { pos = 1; tally = 0 }) (one ∷ one ∷ [])) (one ∷ []) .means ≡ one ∷ [])
+    × (meansOf (short ∷ short ∷ []) (rowedAt (record { pos = 1; tally = 0 }) (one ∷ one ∷ [])) (one ∷ []) .rowed .state .pos ≡ 0)
+unfolding meansOf pushed meanOf ne eq add mul ofBits
+still-row = (refl, refl)
+
+-- each gain from the run's first: 0.25 and then 0.5 + 0.5 × 0.25. The mean itself where the gain rises: 1
+pub gains-in-turn : followedAll half half (quarter ∷ one ∷ []) .gains ≡ quarter ∷ bits 0x3fe4_0000_0000_0000 ∷ []
+unfolding followedAll followed add sub mul lt le ofBits
+gains-in-turn = refl
 
 -- ---- one gain step
 -- look 11, two weights, before any frame

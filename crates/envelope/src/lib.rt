@@ -7,5 +7,5 @@ pub mod row;
 pub mod means;
 // The gain's attack and release.
 pub mod follow;
-// One gain step.
+// What a gain step goes on from.
 pub mod env;

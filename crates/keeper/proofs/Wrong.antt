@@ -9,8 +9,9 @@ use lib.Ieee.{Float, ofBits, lt, le}
 use Rattle.arithmetic.specs.Number.{zero, one}
 use Rattle.arithmetic.specs.Reply.{refused}
 use Rattle.keeper.specs.InOrder.{inOrder}
-use Rattle.keeper.specs.Keeper.{keepingAt, setupOf, stepOf}
-use Rattle.keeper.proofs.Rows.{half}
+use Rattle.keeper.specs.Keeper.{keepingAt, setupOf, steppedOf, stepOf}
+use Rattle.keeper.specs.Run.{floorsOf}
+use Rattle.keeper.proofs.Rows.{half, setUp11}
 
 -- ---- setup
 -- a look of 4,097 taken
@@ -61,3 +62,9 @@ stale-front = refl
 pub no-entry-left : inOrder 11 0 0 1 (twoMarks 0 1) (twoEntries half one) ≡ false
 unfolding inOrder ofBits lt le
 no-entry-left = refl
+
+-- ---- a run of steps
+-- each gain in its floor's place: 0.5 and 1. Each step from the run's first keeper: 0.5 and 1, one frame taken
+pub floors-in-turn : (floorsOf setUp11 (half ∷ one ∷ []) .floors ≡ half ∷ half ∷ []) × (floorsOf setUp11 (half ∷ one ∷ []) .keeping .keeper .frame ≡ 2)
+unfolding floorsOf setUp11 steppedOf ofBits lt le
+floors-in-turn = (refl, refl)
