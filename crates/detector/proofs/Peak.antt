@@ -92,7 +92,7 @@ abbrev pub allUnsigned : List Float → Bool
 allUnsigned [] = true
 allUnsigned (x ∷ xs) = not (signOf x) && allUnsigned xs
 
-abs-unsigned : (s : Float) → signOf (absOf s) ≡ false
+pub abs-unsigned : (s : Float) → signOf (absOf s) ≡ false
 abs-unsigned nan = refl
 abs-unsigned (inf t) = refl
 abs-unsigned (fin t m e) = refl

@@ -5,7 +5,7 @@ use mathlib.Core.List.{List, [], _∷_, _++_, map}
 use Prim.Native.Nat.{ℕ, zero, suc, _+_, _*_, _≤_}
 use native.Mathlib.Nat.{suc-mul, suc-inj}
 use native.Mathlib.Omega.{arith}
-use lib.ListN.{length, set, take, drop, replicate, length-set, length-drop, length-map, length-replicate, take-append-drop}
+use lib.ListN.{length, set, take, drop, replicate, length-set, length-drop, length-map, take-append-drop}
 use lib.Seq.{take-at, drop-at, length-take-le}
 use lib.Ieee.{Float, nan}
 use Rattle.arithmetic.specs.Number
@@ -20,7 +20,8 @@ use Rattle.frame.specs.Rules.{Linking, Rules}
 use Rattle.frame.specs.Frame.{heard, linkedFrom, requiredGain, delayedFrom, Moving, Framed, frameOf}
 use Rattle.frame.specs.Run.{Frames, framesOf, framesIn, writtenIn, RunDone, runOf, gainsOfFrames}
 use Rattle.arithmetic.proofs.InTurn.{split}
-use Rattle.frame.specs.Passes.{heardAll, Peaks, peaksAt, channelPeaks, peaksPass, Gains, gainsOf, channelOutputs, Written, writtenAt, outputsPass}
+use Rattle.frame.proofs.Heard.{zeros-length}
+use Rattle.frame.specs.Passes.{heardAll, Peaks, peaksAt, channelPeaks, peaksPass, requiredAll, Gains, gainsOf, channelOutputs, Written, writtenAt, outputsPass}
 
 -- ---- the frames of a run, channel by channel
 pub frames-length : (k n i : ℕ) (audio : List Float) → length (framesAt nan runLength k i n audio) ≡ n
@@ -220,9 +221,6 @@ module _ (leaves : Float → Float) (look pos : ℕ) (gs : List Float) where
 
 -- ---- the frames in turn, taken apart into peaks, gain steps and outputs
 module _ (rules : Rules) (weights : List Float) (coeff : Float) (look : ℕ) (target : Float) where
-  abbrev required : List Float → List Float
-  required peaks = map (λ (p : Float). requiredGain target p) peaks
-
   abbrev outputsOf : List Framed → List (List Float)
   outputsOf fs = map (λ (f : Framed). f .outputs) fs
 
@@ -230,7 +228,7 @@ module _ (rules : Rules) (weights : List Float) (coeff : Float) (look : ℕ) (ta
   peaksOf m fs = linkedAll (rules .linking) 0 (replicate (length fs) Number.zero) (m .detector) fs
 
   abbrev stepsOf : Moving → List (List Float) → Gains
-  stepsOf m fs = gainsOf weights coeff (m .env) (required (peaksOf m fs .peaks))
+  stepsOf m fs = gainsOf weights coeff (m .env) (requiredAll target (peaksOf m fs .peaks))
 
   abbrev delaysOf : Moving → List (List Float) → AllDelayed
   delaysOf m fs = delayedAll (rules .leaves) look (m .pos) (stepsOf m fs .gains) (m .delay) fs
@@ -276,23 +274,26 @@ module _ (rules : Rules) (weights : List Float) (coeff : Float) (look : ℕ) (ta
     so-many : length fs ≡ n
     so-many = frames-length channels n 0 audio
 
-    -- the passes as the code makes them: from peaks that start at 0.0 to the outputs
-    module _ (zs : List Float) (P : Peaks) (rg : List Float) (G : Gains) (ze : zs ≡ replicate n Number.zero) (pe : P ≡ peaksPass (rules .linking) 0 channels n zs (m .detector) audio) (re : rg ≡ required (P .peaks)) (ge : G ≡ gainsOf weights coeff (m .env) rg) where
+    -- the passes as the code makes them: from peaks that start at 0.0 to the outputs. Of the peaks it takes the required gains alone.
+    abbrev passed : List Float → Peaks
+    passed zs = peaksPass (rules .linking) 0 channels n zs (m .detector) audio
+
+    module _ (zs store rg : List Float) (G : Gains) (ze : zs ≡ replicate n Number.zero) (se : store ≡ passed zs .detector) (re : rg ≡ requiredAll target (passed zs .peaks)) (ge : G ≡ gainsOf weights coeff (m .env) rg) where
       zeros : length zs ≡ n
-      zeros = ap (λ (l : List Float). length l) ze ∙ length-replicate n Number.zero
+      zeros = zeros-length n zs ze
 
       counted : peaksOf m fs ≡ linkedAll (rules .linking) 0 zs (m .detector) fs
       counted = ap (λ (l : List Float). linkedAll (rules .linking) 0 l (m .detector) fs) (ap (λ (k : ℕ). replicate k Number.zero) so-many ∙ sym ze)
 
-      peaks-are : peaksOf m fs ≡ P
-      peaks-are = counted ∙ pass-linked (rules .linking) channels 0 n zs (m .detector) audio short zeros detectors enough ∙ sym pe
+      peaks-are : peaksOf m fs ≡ passed zs
+      peaks-are = counted ∙ pass-linked (rules .linking) channels 0 n zs (m .detector) audio short zeros detectors enough
 
       steps-are : stepsOf m fs ≡ G
-      steps-are = ap (λ (q : Peaks). gainsOf weights coeff (m .env) (required (q .peaks))) peaks-are ∙ sym (ge ∙ ap (gainsOf weights coeff (m .env)) re)
+      steps-are = ap (λ (q : Peaks). gainsOf weights coeff (m .env) (requiredAll target (q .peaks))) peaks-are ∙ sym (ge ∙ ap (gainsOf weights coeff (m .env)) re)
 
       gains-so-many : length (stepsOf m fs .gains) ≡ n
       gains-so-many =
-          gains-many (m .env) (required (peaksOf m fs .peaks))
+          gains-many (m .env) (requiredAll target (peaksOf m fs .peaks))
           ∙ length-map (peaksOf m fs .peaks) (λ (q : Float). requiredGain target q)
           ∙ ap (λ (q : Peaks). length (q .peaks)) counted
           ∙ linked-many 0 zs (m .detector) fs (so-many ∙ sym zeros)
@@ -303,7 +304,7 @@ module _ (rules : Rules) (weights : List Float) (coeff : Float) (look : ℕ) (ta
       run-gains = sym (apart m fs .gains ∙ ap (λ (q : Gains). q .gains) steps-are)
 
       run-passes : (W : Written) (p : ℕ) → W ≡ outputsPass (rules .leaves) look (m .pos) (G .gains) channels n (m .delay) audio → p ≡ posAfter look (m .pos) n
-          → runDone (G .env) (W .delay) p (P .detector) (W .audio) ≡ runOf rules weights coeff look target channels n m audio
+          → runDone (G .env) (W .delay) p store (W .audio) ≡ runOf rules weights coeff look target channels n m audio
       unfolding runOf
       run-passes W p we pos =
           let i = apart m fs in
@@ -314,14 +315,14 @@ module _ (rules : Rules) (weights : List Float) (coeff : Float) (look : ℕ) (ta
           ∙ sym we
           in
           let r = framesOf rules weights coeff look target m fs in
-          same-run (G .env) (r .moving .env) (W .delay) (r .moving .delay) p (r .moving .pos) (P .detector) (r .moving .detector) (W .audio) (writtenIn channels n audio (outputsOf (r .frames)))
+          same-run (G .env) (r .moving .env) (W .delay) (r .moving .delay) p (r .moving .pos) store (r .moving .detector) (W .audio) (writtenIn channels n audio (outputsOf (r .frames)))
           (sym (i .env ∙ ap (λ (q : Gains). q .env) steps-are))
           (sym (i .delay ∙ ap (λ (q : Written). q .delay) written-is))
           (pos ∙ sym (i .pos ∙ ap (posAfter look (m .pos)) so-many))
-          (sym (i .detector ∙ ap (λ (q : Peaks). q .detector) peaks-are))
+          (se ∙ sym (i .detector ∙ ap (λ (q : Peaks). q .detector) peaks-are))
           (sym (ap (writtenIn channels n audio) (i .outs) ∙ ap (λ (q : Written). q .audio) written-is))
 
       -- what the passes add up to
       pub run-done : (W : Written) (p : ℕ) → W ≡ outputsPass (rules .leaves) look (m .pos) (G .gains) channels n (m .delay) audio → p ≡ posAfter look (m .pos) n
-          → (runDone (G .env) (W .delay) p (P .detector) (W .audio) ≡ runOf rules weights coeff look target channels n m audio) × (G .gains ≡ gainsOfFrames (framesOf rules weights coeff look target m fs .frames))
+          → (runDone (G .env) (W .delay) p store (W .audio) ≡ runOf rules weights coeff look target channels n m audio) × (G .gains ≡ gainsOfFrames (framesOf rules weights coeff look target m fs .frames))
       run-done W p we pos = (run-passes W p we pos, run-gains)

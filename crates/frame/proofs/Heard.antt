@@ -4,7 +4,7 @@ use mathlib.Core.Bool.{Bool, true, false, cond, _||_}
 use mathlib.Core.List.{List, [], _∷_}
 use Prim.Native.Nat.{ℕ, zero, suc, _<_}
 use native.Mathlib.Omega.{arith}
-use lib.ListN.{length, getD, set, replicate}
+use lib.ListN.{length, getD, set, replicate, length-replicate}
 use lib.Ieee.{Float, nan, inf, fin, lt, le, neg, isNan}
 use Rattle.arithmetic.specs.Number
 use Rattle.arithmetic.specs.Number.{absOf, maxOf}
@@ -30,7 +30,7 @@ no-nan (inf s) h = refl
 no-nan (fin s m e) h = refl
 
 -- what is above it is 0 or more too
-above : (p q : Float) → le Number.zero p ≡ true → lt p q ≡ true → le Number.zero q ≡ true
+pub above : (p q : Float) → le Number.zero p ≡ true → lt p q ≡ true → le Number.zero q ≡ true
 unfolding le
 above nan q h k = clash false k refl
 above (inf true) q h k = clash false h refl
@@ -45,7 +45,7 @@ above (fin s m e) (fin t n d) h k = le-then-le Number.zero (fin s m e) (fin t n 
 -- ---- one test: the larger of two
 module _ (p q : Float) (h : le Number.zero p ≡ true) where
   -- from 0 or more there is no question about a NaN
-  max-is : maxOf p q ≡ second p q
+  pub max-is : maxOf p q ≡ second p q
   max-is = rw (no-nan p h) (go (lt p q))
     where
       go : (b : Bool) → cond (b || false) q p ≡ cond b q p
@@ -91,7 +91,6 @@ set-from-zero (x ∷ xs) (suc i) y k h =
     let o = and-true (le Number.zero x) (allFromZero xs) k in
     rw (o .0, set-from-zero xs i y (o .1) h) refl
 
-pub zeros-from-zero : (n : ℕ) → allFromZero (replicate n Number.zero) ≡ true
-unfolding allFromZero le
-zeros-from-zero zero = refl
-zeros-from-zero (suc n) = zeros-from-zero n
+-- peaks that start at 0.0
+pub zeros-length : (n : ℕ) (zs : List Float) → zs ≡ replicate n Number.zero → length zs ≡ n
+zeros-length n zs e = ap (λ (l : List Float). length l) e ∙ length-replicate n Number.zero

@@ -4,3 +4,4 @@ pub mod Rules
 pub mod Frame
 pub mod Run
 pub mod Passes
+pub mod Alike

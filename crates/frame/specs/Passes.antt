@@ -1,7 +1,7 @@
 -- How the code goes about a run: in passes over all its frames, each channel by itself. That the passes add up to the frames in turn is proved in proofs/.
 use Prim.Native.Nat.{ℕ, zero, suc, _+_}
 use mathlib.Core.Bool.{Bool, true, _&&_}
-use mathlib.Core.List.{List, [], _∷_, _++_}
+use mathlib.Core.List.{List, [], _∷_, _++_, map}
 use lib.ListN.{getD, set, take, drop}
 use lib.Ieee.{Float, nan, le}
 use Rattle.arithmetic.specs.Number
@@ -12,7 +12,7 @@ use Rattle.envelope.specs.Row.{nextPos}
 use Rattle.envelope.specs.Step.{Enveloped, gainStepOf, envelopedAt}
 use Rattle.envelope.specs.declared.env.Envelope.{Envelope}
 use Rattle.frame.specs.Rules.{Linking}
-use Rattle.frame.specs.Frame.{heard, givenOut}
+use Rattle.frame.specs.Frame.{heard, requiredGain, givenOut}
 
 -- ---- peaks
 -- each is 0 or more, so that none is a NaN
@@ -48,6 +48,10 @@ peaksPass linking c (suc k) n peaks detector audio =
     peaksAt (later .peaks) (o .detector ++ later .detector)
 
 -- ---- gain steps
+-- the required gain of each frame
+abbrev pub requiredAll : Float → List Float → List Float
+requiredAll target peaks = map (λ (p : Float). requiredGain target p) peaks
+
 pub record Gains : Type 0 where
   pub gains : List Float
   pub env : Enveloped

@@ -1,17 +1,23 @@
 // The peak of each frame of a run: the largest sanitized magnitude or detector answer over the channels.
 ghost use mathlib.Core.Path.{_≡_};
 ghost use mathlib.Core.Bool.{true};
+ghost use mathlib.Core.List.{List};
 ghost use Prim.Native.Nat.{_+_, _*_, _≤_};
-ghost use lib.ListN.{length};
-ghost use lib.Ieee.{le};
+ghost use lib.ListN.{length, replicate};
+ghost use lib.Ieee.{Float, le};
 ghost use Rattle.arithmetic.specs.Number.{zero};
 ghost use Rattle.detector.specs.Oversample.{remembered};
 ghost use Rattle.detector.specs.Run.{runLength, pushesOf};
+ghost use Rattle.detector.specs.Level.{levelOf};
 ghost use Rattle.frame.specs.Rules.{tapsOf, linkingOf};
 ghost use Rattle.frame.specs.Frame.{heard};
-ghost use Rattle.frame.specs.Passes.{allFromZero, heardAll, peaksAt, channelPeaks, peaksPass};
+ghost use Rattle.frame.specs.Passes.{allFromZero, heardAll, peaksAt, channelPeaks, peaksPass, requiredAll};
+ghost use Rattle.frame.specs.Alike.{AllAlike};
 use arithmetic::sanitize::finite_or_zero;
 use detector::oversample::peaks_abs;
+use detector::quiet::level_below;
+use detector::quiet::lies_within;
+use detector::quiet::remember;
 use settings::LimiterSettings;
 
 // One channel's share in the peak of a frame. From a peak of 0 or more, three plain tests find it with
@@ -94,9 +100,35 @@ fn channel_peaks(
     hear_channel(settings, c, store, samples, peaks, &mut answers[0..n]);
 }
 
-// All channels over a run of n frames.
+// Channel c over a run. Where its samples lie within the level for a target, they and the detector's
+// answers are at most the target: a share that no required gain notices, so that no sum is computed.
+fn hear_or_remember(
+    settings: LimiterSettings,
+    c: usize,
+    level: f64,
+    store: &mut [f64],
+    samples: &[f64],
+    peaks: &mut [f64],
+)
+    requires { ⌜ length (now store) ≡ remembered ⌝ }
+    requires { ⌜ length (now samples) ≡ length (now peaks) ⌝ }
+    requires { ⌜ length (now samples) ≤ runLength ⌝ }
+    requires { ⌜ allFromZero (now peaks) ≡ true ⌝ }
+    ensures { λ _. ⌜ now (store .exit) ≡ pushesOf (tapsOf settings) (now (store .entry)) (now (samples .entry)) .store ⌝ }
+    ensures { λ _. ⌜ ((target : Float) (whole : List Float) → level ≡ levelOf target → AllAlike target (now (peaks .entry)) whole
+        → AllAlike target (now (peaks .exit)) (channelPeaks (linkingOf settings) c whole (now (store .entry)) (now (samples .entry)) .peaks)) ⌝ }
+{
+    if lies_within(store, samples, level) {
+        remember(store, samples);
+        return;
+    }
+    channel_peaks(settings, c, store, samples, peaks);
+}
+
+// All channels over a run of n frames. The peaks left need the gains that the definition's need.
 pub fn all_peaks(
     settings: LimiterSettings,
+    target: f64,
     channels: usize,
     n: usize,
     audio: &[f64],
@@ -107,17 +139,20 @@ pub fn all_peaks(
     requires { ⌜ n ≤ runLength ⌝ }
     requires { ⌜ length (now audio) ≡ 8 * runLength ⌝ }
     requires { ⌜ length (now detector) ≡ channels * remembered ⌝ }
-    requires { ⌜ length (now peaks) ≡ n ⌝ }
-    requires { ⌜ allFromZero (now peaks) ≡ true ⌝ }
-    ensures { λ _. ⌜ peaksAt (now (peaks .exit)) (now (detector .exit))
-        ≡ peaksPass (linkingOf settings) 0 channels n (now (peaks .entry)) (now (detector .entry)) (now (audio .entry)) ⌝ }
+    requires { ⌜ now peaks ≡ replicate n zero ⌝ }
+    ensures { λ _. ⌜ now (detector .exit)
+        ≡ peaksPass (linkingOf settings) 0 channels n (now (peaks .entry)) (now (detector .entry)) (now (audio .entry)) .detector ⌝ }
+    ensures { λ _. ⌜ requiredAll target (now (peaks .exit))
+        ≡ requiredAll target (peaksPass (linkingOf settings) 0 channels n (now (peaks .entry)) (now (detector .entry)) (now (audio .entry)) .peaks) ⌝ }
 {
+    let level = level_below(target);
     for c in 0..channels {
         let at = c * 12;
         let first = c * 32;
-        channel_peaks(
+        hear_or_remember(
             settings,
             c,
+            level,
             &mut detector[at..at + 12],
             &audio[first..first + n],
             peaks,

@@ -49,7 +49,7 @@ fn render_in(
         ≡ gainsOfFrames (framesOf (rulesOf settings format) (now (weights .entry)) coeff look target
         (movingAtEntry env pos delay marks minima row detector) (framesIn channels n (now (audio .entry))) .frames) ⌝ }
 {
-    all_peaks(settings, channels, n, audio, detector, gains);
+    all_peaks(settings, target, channels, n, audio, detector, gains);
     required_gains(target, gains);
     let last = gain_steps(env, marks, minima, weights, row, coeff, gains);
     let after = last.env;
