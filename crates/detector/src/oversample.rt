@@ -10,7 +10,7 @@ ghost use Rattle.arithmetic.specs.Number.{zero};
 ghost use Rattle.arithmetic.specs.Sanitize.{finiteOrZero};
 ghost use Rattle.detector.specs.Taps.{taps};
 ghost use Rattle.detector.specs.Oversample.{remembered, shifted, sumOf, sumsOf, larger, largestOf, pushedAt, peakAbsOf};
-ghost use Rattle.detector.specs.Run.{runLength, lineLength, answersIn, pushesAt, peaksAbsOf};
+ghost use Rattle.detector.specs.Run.{runLength, lineLength, answersIn, pushesAt, pushesOf, peaksAbsOf};
 use crate::taps::PHASE_0;
 use crate::taps::PHASE_1;
 use crate::taps::PHASE_2;
@@ -77,7 +77,7 @@ fn shift_in(store: &[f64], x: f64) -> [f64; 12]
 }
 
 // The local array back into the store.
-pub fn write_back(store: &mut [f64], samples: &[f64; 12])
+fn write_back(store: &mut [f64], samples: &[f64; 12])
     requires { ⌜ length (now store) ≡ remembered ⌝ }
     requires { ⌜ length (now samples) ≡ remembered ⌝ }
     ensures { λ _. ⌜ now (store .exit) ≡ now (samples .entry) ⌝ }
@@ -103,7 +103,7 @@ pub fn peak_abs(store: &mut [f64], x: f64) -> Peak
 }
 
 // Twelve samples of a line, from `at` on.
-pub fn window(line: &[f64; 44], at: usize) -> [f64; 12]
+fn window(line: &[f64; 44], at: usize) -> [f64; 12]
     requires { ⌜ length (now line) ≡ lineLength ⌝ }
     requires { ⌜ at ≤ runLength ⌝ }
     ensures { λ r. ⌜ r ≡ take remembered (drop at (now (line .entry))) ⌝ }
@@ -116,7 +116,7 @@ pub fn window(line: &[f64; 44], at: usize) -> [f64; 12]
 }
 
 // The remembered samples into a line, from `at` on.
-pub fn lay_store(store: &[f64], line: &mut [f64; 44], at: usize)
+fn lay_store(store: &[f64], line: &mut [f64; 44], at: usize)
     requires { ⌜ length (now store) ≡ remembered ⌝ }
     requires { ⌜ length (now line) ≡ lineLength ⌝ }
     requires { ⌜ at ≤ runLength ⌝ }
@@ -129,7 +129,7 @@ pub fn lay_store(store: &[f64], line: &mut [f64; 44], at: usize)
 }
 
 // A run's sanitized samples into the front of a line, the newest first.
-pub fn lay_run(run: &[f64], line: &mut [f64; 44])
+fn lay_run(run: &[f64], line: &mut [f64; 44])
     requires { ⌜ length (now run) ≤ runLength ⌝ }
     requires { ⌜ length (now line) ≡ lineLength ⌝ }
     ensures { λ _. ⌜ now (line .exit)
@@ -185,6 +185,36 @@ pub fn peaks_abs(store: &mut [f64], samples: &[f64], answers: &mut [f64])
     lay_store(store, &mut line, n);
     lay_run(samples, &mut line);
     answer_run(&line, answers);
+    let newest = window(&line, 0);
+    write_back(store, &newest);
+}
+
+// The twelve newest samples of a run that has as many, the newest first.
+fn remember_newest(store: &mut [f64], samples: &[f64])
+    requires { ⌜ length (now store) ≡ remembered ⌝ }
+    requires { ⌜ remembered ≤ length (now samples) ⌝ }
+    ensures { λ _. ⌜ now (store .exit) ≡ pushesOf taps (now (store .entry)) (now (samples .entry)) .store ⌝ }
+{
+    let n = samples.len();
+    for i in 0..12 {
+        store[i] = finite_or_zero(samples[n - 1 - i]);
+    }
+}
+
+// The store as the pushes of a run would leave it.
+pub fn remember(store: &mut [f64], samples: &[f64])
+    requires { ⌜ length (now store) ≡ remembered ⌝ }
+    requires { ⌜ length (now samples) ≤ runLength ⌝ }
+    ensures { λ _. ⌜ now (store .exit) ≡ pushesOf taps (now (store .entry)) (now (samples .entry)) .store ⌝ }
+{
+    let n = samples.len();
+    if n >= 12 {
+        remember_newest(store, samples);
+        return;
+    }
+    let mut line = [0.0; 44];
+    lay_store(store, &mut line, n);
+    lay_run(samples, &mut line);
     let newest = window(&line, 0);
     write_back(store, &newest);
 }

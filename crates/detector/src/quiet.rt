@@ -1,20 +1,9 @@
 // Quiet runs: where every sample lies within the level for a ceiling, no answer of the detector is above
 // the ceiling, and no sum need be computed.
 ghost use mathlib.Core.Path.{_≡_};
-ghost use mathlib.Core.Bool.{true};
-ghost use Prim.Native.Nat.{_≤_};
-ghost use lib.ListN.{length};
 ghost use lib.Ieee.{neg};
 ghost use Rattle.arithmetic.specs.Number.{within};
-ghost use Rattle.detector.specs.Taps.{taps};
-ghost use Rattle.detector.specs.Oversample.{remembered};
-ghost use Rattle.detector.specs.Run.{runLength, pushesOf};
-ghost use Rattle.detector.specs.Level.{levelOf, allWithin, liesWithin, StaysBelow};
-use crate::oversample::lay_run;
-use crate::oversample::lay_store;
-use crate::oversample::window;
-use crate::oversample::write_back;
-use arithmetic::sanitize::finite_or_zero;
+ghost use Rattle.detector.specs.Level.{levelOf, allWithin, liesWithin};
 
 // The share of a ceiling that samples may have: the magnitudes of no phase's taps add up to more than
 // 1.7916, so their sums, roundings included, stay below the ceiling.
@@ -64,43 +53,4 @@ pub fn lies_within(store: &[f64], samples: &[f64], level: f64) -> bool
         return false;
     }
     (0.0 < level) & all_within(level, store) & all_within(level, samples)
-}
-
-// Whether it is plain, before any sum, that the samples and the detector's answers for them stay at or
-// below the ceiling.
-pub fn stays_below(store: &[f64], samples: &[f64], ceiling: f64) -> bool
-    ensures { λ r. ⌜ (r ≡ true → StaysBelow ceiling (now (store .entry)) (now (samples .entry))) ⌝ }
-{
-    let level = level_below(ceiling);
-    lies_within(store, samples, level)
-}
-
-// The twelve newest samples of a run that has as many, the newest first.
-fn remember_newest(store: &mut [f64], samples: &[f64])
-    requires { ⌜ length (now store) ≡ remembered ⌝ }
-    requires { ⌜ remembered ≤ length (now samples) ⌝ }
-    ensures { λ _. ⌜ now (store .exit) ≡ pushesOf taps (now (store .entry)) (now (samples .entry)) .store ⌝ }
-{
-    let n = samples.len();
-    for i in 0..12 {
-        store[i] = finite_or_zero(samples[n - 1 - i]);
-    }
-}
-
-// The store as the pushes of a run would leave it.
-pub fn remember(store: &mut [f64], samples: &[f64])
-    requires { ⌜ length (now store) ≡ remembered ⌝ }
-    requires { ⌜ length (now samples) ≤ runLength ⌝ }
-    ensures { λ _. ⌜ now (store .exit) ≡ pushesOf taps (now (store .entry)) (now (samples .entry)) .store ⌝ }
-{
-    let n = samples.len();
-    if n >= 12 {
-        remember_newest(store, samples);
-        return;
-    }
-    let mut line = [0.0; 44];
-    lay_store(store, &mut line, n);
-    lay_run(samples, &mut line);
-    let newest = window(&line, 0);
-    write_back(store, &newest);
 }

@@ -15,9 +15,9 @@ ghost use Rattle.frame.specs.Passes.{allFromZero, heardAll, peaksAt, cha
 ghost use Rattle.frame.specs.Alike.{AllAlike};
 use arithmetic::sanitize::finite_or_zero;
 use detector::oversample::peaks_abs;
+use detector::oversample::remember;
 use detector::quiet::level_below;
 use detector::quiet::lies_within;
-use detector::quiet::remember;
 use settings::LimiterSettings;
 
 // One channel's share in the peak of a frame. From a peak of 0 or more, three plain tests find it with

@@ -6,8 +6,8 @@ use lib.ListN.{length, take, length-set}
 use denote.Ref.{now}
 use Rattle.detector.specs.Taps.{taps}
 use Rattle.detector.proofs.Scan.{newestFirst, newest-more, newest-all}
-use Rattle.detector.proofs.quiet.remember_newest.Statement.{statement}
-use Rattle.detector.proofs.quiet.remember_newest.Tie as tie
+use Rattle.detector.proofs.oversample.remember_newest.Statement.{statement}
+use Rattle.detector.proofs.oversample.remember_newest.Tie as tie
 
 abbrev Inv-loop : tie.InvT-loop
 Inv-loop store₀ samples n i₀ store i = (i ≤ 12) × (length store ≡ 12) × (take i store ≡ take i (newestFirst taps store₀ samples))

@@ -7,8 +7,8 @@ use denote.Ref.{now}
 use Rattle.detector.specs.Taps.{taps}
 use Rattle.detector.specs.Run.{lineLength}
 use Rattle.detector.proofs.Line.{ran-store}
-use Rattle.detector.proofs.quiet.remember.Statement.{statement}
-use Rattle.detector.proofs.quiet.remember.Tie as tie
+use Rattle.detector.proofs.oversample.remember.Statement.{statement}
+use Rattle.detector.proofs.oversample.remember.Tie as tie
 
 remember-newest-requires : tie.Need-remember-newest-requires
 remember-newest-requires c κs = search needs
