@@ -1,5 +1,5 @@
 -- What 18, 16 and 19 say of the machine, and their order from what the code finds.
-use mathlib.Core.Path.{_≡_, refl, ap}
+use mathlib.Core.Path.{_≡_, refl, sym, ap, _∙_, subst}
 use mathlib.Core.Bool as Booleans
 use mathlib.Core.Bool.{Bool, true, false, _&&_, and-false}
 use mathlib.Core.List.{List, [], _∷_}
@@ -10,6 +10,7 @@ use lib.Ieee.{toBits, ofBits}
 use lib.ListN.{length, getD, take}
 use borrow.Author.Tests.{eqb-true}
 use Rattle.arithmetic.proofs.Order.{and-true}
+use Rattle.arithmetic.specs.Number.{within}
 use Rattle.arithmetic.specs.Reply.{numbered, must}
 use Rattle.settings.specs.declared.LimiterSettings.{LimiterSettings}
 use Rattle.limiter.specs.Order
@@ -19,6 +20,8 @@ use Rattle.bank.specs.Bank.{slotAt, allPrepared}
 use Rattle.bank.specs.Smoother.{slotPrepared}
 use Rattle.bank.specs.declared.smoother.Smoother.{Smoother}
 use Rattle.bank.specs.declared.smoother_bank.SmootherBank.{SmootherBank}
+use Rattle.driver.specs.Parts.{shownOf}
+use Rattle.driver.specs.declared.state.Threshold.{Threshold}
 use Rattle.turns.specs.Machine.{Machine, thresholdOf, declares, prepared, targetInRange, inOrder, fits, readyRefusal, resetRefusal}
 
 -- ---- what 18 says
@@ -61,6 +64,17 @@ one-judged l b = ap (λ (x : Bool). Order.prepared l && x) (go (eqb (b .count) 1
         (b .ready && slotPrepared (b .rate) 0 (thresholdOf b)) && (eqb (b .count) 1 && d) ≡ (b .ready && (leb (b .count) 8 && allPrepared (b .rate) 0 (take (b .count) (b .smoothers)))) && (eqb (b .count) 1 && d))
     go false h = rw (h, and-false (b .ready && slotPrepared (b .rate) 0 (thresholdOf b)), and-false (b .ready && (leb (b .count) 8 && allPrepared (b .rate) 0 (take (b .count) (b .smoothers))))) refl
     go true h = rw (eqb-true (b .count) 1 h) (one-slot (l .settings) (b .ready) (eqb (b .rate) (l .rate)) (b .rate) (b .smoothers))
+
+-- ---- by what a bank shows
+pub threshold-in-range : (b : SmootherBank) (p : Smoother) → p ≡ thresholdOf b → (r : Bool) → r ≡ within (p .low) (p .high) (p .target) → r ≡ targetInRange b
+threshold-in-range b p P r R = R ∙ ap (λ (p : Smoother). within (p .low) (p .high) (p .target)) P
+
+module _ (b : SmootherBank) (t : Threshold) (e : shownOf b ≡ t) where
+  -- 18, from what the code finds
+  pub parts-judged : (l : Limiter) (k o d : Bool) → k ≡ Order.prepared l → o ≡ slotPrepared (t .rate) 0 (t .smoother) → d ≡ declares (l .settings) (t .smoother)
+      → (k && ((t .ready && o) && (eqb (t .count) 1 && (eqb (t .rate) (l .rate) && d)))) ≡ prepared l b
+  parts-judged l k o d K O D =
+      rw (K, O, D) (subst (λ (t : Threshold). (Order.prepared l && ((t .ready && slotPrepared (t .rate) 0 (t .smoother)) && (eqb (t .count) 1 && (eqb (t .rate) (l .rate) && declares (l .settings) (t .smoother))))) ≡ prepared l b) e (one-judged l b))
 
 -- the first of eight slots, whatever stands for a slot that is not there
 pub first-slot : (ss : List Smoother) (d : Smoother) → length ss ≡ 8 → getD ss 0 d ≡ slotAt 0 ss

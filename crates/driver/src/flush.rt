@@ -10,6 +10,8 @@ use crate::answers::Answer;
 use crate::answers::FlushAnswer;
 use crate::answers::Flushed;
 use crate::answers::Refusal;
+use crate::ready::judge;
+use crate::ready::shown;
 use crate::state::KernelProcessor;
 use audio::format::Format;
 use audio::format::size_of;
@@ -59,7 +61,9 @@ impl KernelProcessor {
     ) -> Answer
         ensures { λ r. ⌜ answerReply r ≡ drainReply (machineAt self (atEntry delay marks minima weights row detector)) frames size ⌝ }
     {
-        let answer = self.judge(delay, marks, minima, weights, row, detector);
+        let l = self.limiter;
+        let b = self.bank;
+        let answer = judge(l, shown(b), delay, marks, minima, weights, row, detector);
         if !answer.is_finished() {
             return answer;
         }

@@ -13,6 +13,7 @@ use crate::answers::GainAnswer;
 use crate::answers::GainStepped;
 use crate::answers::Refusal;
 use crate::ready::target_in_range;
+use crate::ready::threshold;
 use crate::state::KernelProcessor;
 use envelope::env::Envelope;
 use envelope::env::GainStep;
@@ -70,7 +71,8 @@ impl KernelProcessor {
             return Answer::Refused(Refusal::StoreLength);
         }
         let kernel = l.in_order(marks, minima, row);
-        if !(kernel & target_in_range(b)) {
+        let slots = b.smoothers;
+        if !(kernel & target_in_range(threshold(slots))) {
             return Answer::Refused(Refusal::OutOfOrder);
         }
         if l.env.keeper.frame < 1099511627776 {

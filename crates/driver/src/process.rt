@@ -3,68 +3,75 @@ ghost use mathlib.Core.Path.{_≡_};
 ghost use mathlib.Core.Bool.{true};
 ghost use Rattle.limiter.specs.Order.{prepared};
 ghost use Rattle.limiter.specs.Stores.{Stores, atEntry, atExit};
+ghost use Rattle.bank.specs.declared.smoother_bank.SmootherBank.{SmootherBank};
+ghost use Rattle.turns.specs.Machine.{machineOf};
 ghost use Rattle.turns.specs.Events.{eventsOf};
 ghost use Rattle.turns.specs.Block.{callReply, blockReply, blockOf};
 ghost use Rattle.driver.specs.Answers.{machineAt, answerReply, processedAt, seen};
+ghost use Rattle.driver.specs.Parts.{shownOf};
 use crate::answers::Answer;
 use crate::answers::Called;
 use crate::answers::Refusal;
 use crate::events::check_events;
+use crate::ready::judge;
+use crate::ready::shown;
 use crate::state::KernelProcessor;
+use crate::state::Threshold;
 use audio::format::Format;
 use audio::format::size_of;
+use limiter::state::Limiter;
 use turns::drive::drive;
 
+// 20, 21 and 22 in turn, for a limiter that is set up. Neither bank nor store is read.
+fn judge_call(l: Limiter, position: u64, frames: usize, events: &[u64], size: usize) -> Answer
+    requires { ⌜ prepared l ≡ true ⌝ }
+    ensures { λ r. ⌜ ((b : SmootherBank) (s : Stores) → answerReply r
+        ≡ callReply (machineOf l b s) position frames (eventsOf (now (events .entry))) size) ⌝ }
+{
+    if frames > l.max_block {
+        return Answer::Refused(Refusal::Geometry);
+    }
+    if size != l.channels * frames {
+        return Answer::Refused(Refusal::Geometry);
+    }
+    let answer = check_events(events, frames as u64);
+    if !answer.is_finished() {
+        return answer;
+    }
+    let room = 1099511627776 - frames as u64;
+    if (position <= 4611686018427387904 - frames as u64) & (l.env.keeper.frame <= room) {
+        Answer::Finished
+    } else {
+        Answer::Refused(Refusal::TooFar)
+    }
+}
+
+// What a block answers, before anything is written.
+pub fn judge_block(
+    l: Limiter,
+    t: Threshold,
+    position: u64,
+    frames: usize,
+    events: &[u64],
+    size: usize,
+    delay: &[f64],
+    marks: &[u64],
+    minima: &[f64],
+    weights: &[f64],
+    row: &[f64],
+    detector: &[f64],
+) -> Answer
+    ensures { λ r. ⌜ ((b : SmootherBank) → shownOf b ≡ t → answerReply r
+        ≡ blockReply (machineOf l b (atEntry delay marks minima weights row detector)) position frames (eventsOf (now (events .entry))) size) ⌝ }
+{
+    let answer = judge(l, t, delay, marks, minima, weights, row, detector);
+    if !answer.is_finished() {
+        return answer;
+    }
+    judge_call(l, position, frames, events, size)
+}
+
 impl KernelProcessor {
-    // 20, 21 and 22 in turn, for a limiter that is set up. No store is read.
-    fn judge_call(self, position: u64, frames: usize, events: &[u64], size: usize) -> Answer
-        requires { ⌜ prepared (self .limiter) ≡ true ⌝ }
-        ensures { λ r. ⌜ ((s : Stores) → answerReply r
-            ≡ callReply (machineAt self s) position frames (eventsOf (now (events .entry))) size) ⌝ }
-    {
-        let l = self.limiter;
-        if frames > l.max_block {
-            return Answer::Refused(Refusal::Geometry);
-        }
-        if size != l.channels * frames {
-            return Answer::Refused(Refusal::Geometry);
-        }
-        let answer = check_events(events, frames as u64);
-        if !answer.is_finished() {
-            return answer;
-        }
-        let room = 1099511627776 - frames as u64;
-        if (position <= 4611686018427387904 - frames as u64) & (l.env.keeper.frame <= room) {
-            Answer::Finished
-        } else {
-            Answer::Refused(Refusal::TooFar)
-        }
-    }
-
-    // What a block answers, before anything is written.
-    fn judge_block(
-        self,
-        position: u64,
-        frames: usize,
-        events: &[u64],
-        size: usize,
-        delay: &[f64],
-        marks: &[u64],
-        minima: &[f64],
-        weights: &[f64],
-        row: &[f64],
-        detector: &[f64],
-    ) -> Answer
-        ensures { λ r. ⌜ answerReply r
-            ≡ blockReply (machineAt self (atEntry delay marks minima weights row detector)) position frames (eventsOf (now (events .entry))) size ⌝ }
-    {
-        let answer = self.judge(delay, marks, minima, weights, row, detector);
-        if !answer.is_finished() {
-            return answer;
-        }
-        self.judge_call(position, frames, events, size)
-    }
-
     // A block of so many frames a channel, planar, that starts at an absolute position. A refused one
     // changes nothing.
     pub fn process(
@@ -86,7 +93,11 @@ impl KernelProcessor {
             (eventsOf (now (events .entry))) (now (audio .entry))) ⌝ }
     {
         let size = size_of(format, audio);
-        let answer = self.judge_block(
+        let limiter = self.limiter;
+        let bank = self.bank;
+        let answer = judge_block(
+            limiter,
+            shown(bank),
             position,
             frames,
             events,
@@ -104,8 +115,6 @@ impl KernelProcessor {
                 processor: self,
             };
         }
-        let limiter = self.limiter;
-        let bank = self.bank;
         let left = drive(
             limiter,
             bank,

@@ -80,7 +80,13 @@ impl AttackRow {
     pub fn in_order(self, row: &[f64]) -> bool
         ensures { λ r. ⌜ r ≡ rowInOrder self (now (row .entry)) ⌝ }
     {
-        all_unit(row) & ((self.tally == tally_of(row)) & (self.pos < row.len()))
+        let tally = tally_of(row);
+        let counted = (self.tally == tally) & (self.pos < row.len());
+        // where no floor counts, all are 1.0, and the row is read once
+        if tally == 0 {
+            return counted;
+        }
+        all_unit(row) & counted
     }
 
     // The floor replaces the oldest.

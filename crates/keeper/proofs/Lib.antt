@@ -2,6 +2,7 @@
 pub mod Places
 pub mod Drops
 pub mod Loops
+pub mod Rising
 pub mod Step
 pub mod Calls
 pub mod Run

@@ -1,6 +1,6 @@
 -- One turn of each loop, on plain values.
 use mathlib.Core.Path.{_≡_, refl, sym, ap, _∙_}
-use mathlib.Core.Bool.{Bool, true, false, _&&_, and-false}
+use mathlib.Core.Bool.{Bool, true, false, _&&_}
 use mathlib.Core.List.{List, [], _∷_, _++_, append-nil}
 use Prim.Native.Nat.{ℕ, zero, suc, _+_, _-_, _≤_, _<_}
 use native.Mathlib.Nat.{add-zero, sub-self}
@@ -12,8 +12,8 @@ use lib.Seq.{drop-length}
 use lib.Ieee.{Float, nan, lt}
 use borrow.Author.Tests.{lt-ltb, le-ltb, leb-true, le-leb, eq-eqb, ne-eqb}
 use Rattle.keeper.specs.Ring.{Entry, wrap, entryAt, ringOf, dropBack, dropFront}
-use Rattle.keeper.specs.InOrder.{each, above, rising, lessMark, lessMinimum, lastMark, firstMark, unitMinima}
-use Rattle.arithmetic.proofs.Order.{and-true, same-test}
+use Rattle.keeper.specs.InOrder.{rising, lessMark, lessMinimum, lastMark, firstMark}
+use Rattle.arithmetic.proofs.Order.{same-test}
 use Rattle.keeper.proofs.Places.{wrap-in, wrap-wrap, ring-back, ring-front, front-place}
 use Rattle.keeper.proofs.Drops.{back-stops, back-goes, front-kept, front-dropped}
 
@@ -96,18 +96,7 @@ module _ {A : Type 0} (v : A) where
       let e : i ≡ length old = omega arith in
       rw (c .filled, e, drop-length old) (append-nil (replicate (length old) v))
 
--- ---- minima_unit, entries_rise: the entry at the back of `left` ones passes a test or does not
-module _ (cap : ℕ) (marks : List ℕ) (minima : List Float) (head left back : ℕ) (some : 0 < left) (at : back ≡ wrap cap (head + left - 1)) (test : Entry → List Entry → Bool) where
-  pub each-turn : test (entryAt marks minima back) (ringOf cap marks minima head (left - 1)) ≡ true → each test (ringOf cap marks minima head left) ≡ each test (ringOf cap marks minima head (left - 1))
-  each-turn h = rw (ring-back cap marks minima head left some, ← at, h) refl
-
-  pub each-fails : test (entryAt marks minima back) (ringOf cap marks minima head (left - 1)) ≡ false → each test (ringOf cap marks minima head left) ≡ false
-  each-fails h = rw (ring-back cap marks minima head left some, ← at, h) refl
-
-pub units-none : (cap : ℕ) (marks : List ℕ) (minima : List Float) (head left : ℕ) → left ≤ 0 → true ≡ unitMinima (ringOf cap marks minima head left)
-units-none cap marks minima head zero h = refl
-units-none cap marks minima head (suc n) h = absurd (omega arith)
-
+-- ---- entries_rise
 -- both orders rise
 abbrev pub rises : List Entry → Bool
 rises ring = rising lessMark ring && rising lessMinimum ring
@@ -116,38 +105,6 @@ pub rises-none : (cap : ℕ) (marks : List ℕ) (minima : List Float) (head left
 rises-none cap marks minima head zero h = refl
 rises-none cap marks minima head (suc zero) h = refl
 rises-none cap marks minima head (suc (suc n)) h = absurd (omega arith)
-
-module _ (cap : ℕ) (marks : List ℕ) (minima : List Float) (head left back before : ℕ) (some : 1 < left) (at : back ≡ wrap cap (head + left - 1)) (front : before ≡ wrap cap (head + left - 2)) where
-  abbrev e : Entry
-  e = entryAt marks minima back
-
-  abbrev f : Entry
-  f = entryAt marks minima before
-
-  abbrev rest : List Entry
-  rest = ringOf cap marks minima head (left - 1)
-
-  above-next : (less : Entry → Entry → Bool) → above less e rest ≡ less f e
-  above-next less = rw (ring-back cap marks minima head (left - 1) (omega arith), same, ← front) refl
-    where
-      same : head + (left - 1) - 1 ≡ head + left - 2
-      same = omega arith
-
-  pub rises-turn : lessMark f e && lessMinimum f e ≡ true → rises (ringOf cap marks minima head left) ≡ rises rest
-  rises-turn h =
-      let k = and-true (lessMark f e) (lessMinimum f e) h in
-      let some' : 0 < left = omega arith in
-      rw (each-turn cap marks minima head left back some' at (above lessMark) (above-next lessMark ∙ k .0), each-turn cap marks minima head left back some' at (above lessMinimum) (above-next lessMinimum ∙ k .1)) refl
-
-  pub rises-fails : lessMark f e && lessMinimum f e ≡ false → rises (ringOf cap marks minima head left) ≡ false
-  rises-fails h = go (lessMark f e) refl
-    where
-      some' : 0 < left
-      some' = omega arith
-
-      go : (b : Bool) → lessMark f e ≡ b → rises (ringOf cap marks minima head left) ≡ false
-      go false k = rw (each-fails cap marks minima head left back some' at (above lessMark) (above-next lessMark ∙ k)) refl
-      go true k = rw (each-fails cap marks minima head left back some' at (above lessMinimum) (above-next lessMinimum ∙ (rw k at h))) (and-false (rising lessMark (ringOf cap marks minima head left)))
 
 -- ---- ends_fit
 module _ (look head len last frame : ℕ) (marks : List ℕ) (minima : List Float) (inside : head ≤ look) (some : 0 < len) (at : last ≡ wrap (look + 1) (head + len - 1)) where

@@ -1,6 +1,6 @@
 // The checks of the calls: 12, 16 and 19.
 ghost use mathlib.Core.Path.{_≡_};
-ghost use mathlib.Core.Bool.{_&&_, Bool·beq};
+ghost use mathlib.Core.Bool.{true, _&&_, Bool·beq};
 ghost use mathlib.Core.List.{List};
 ghost use Prim.Native.Nat.{ℕ, _+_, _-_, _≤_, _<_, _^_};
 ghost use lib.Dec.{eqb};
@@ -11,7 +11,6 @@ ghost use Rattle.keeper.specs.InOrder.{countsInOrder, ringInOrder, risin
 ghost use Rattle.keeper.specs.Keeper.{lookTaken, storesFit};
 use crate::ring::since;
 use crate::ring::wrap;
-use arithmetic::number::unit;
 
 // The most frames since a reset: 2^40.
 pub const MOST_FRAMES: u64 = 1099511627776;
@@ -69,46 +68,39 @@ pub fn rises(marks: &[u64], minima: &[f64], before: usize, at: usize) -> bool
         ≡ (lessMark (entryAt (now (marks .entry)) (now (minima .entry)) before) (entryAt (now (marks .entry)) (now (minima .entry)) at)
         && lessMinimum (entryAt (now (marks .entry)) (now (minima .entry)) before) (entryAt (now (marks .entry)) (now (minima .entry)) at)) ⌝ }
 {
-    if marks[before] < marks[at] {
-        minima[before] < minima[at]
-    } else {
-        false
-    }
+    (marks[before] < marks[at]) & (minima[before] < minima[at])
 }
 
-// Whether marks and minima rise strictly from front to back.
+// Whether marks and minima rise strictly from front to back: all of them are read, without a way out.
 pub fn entries_rise(marks: &[u64], minima: &[f64], cap: usize, head: usize, len: usize) -> bool
     requires { ⌜ (head < cap) × (len ≤ cap) × (length (now marks) ≡ cap) × (length (now minima) ≡ cap) ⌝ }
     ensures { λ r. ⌜ r
         ≡ (rising lessMark (ringOf cap (now (marks .entry)) (now (minima .entry)) head len)
         && rising lessMinimum (ringOf cap (now (marks .entry)) (now (minima .entry)) head len)) ⌝ }
 {
+    let mut ok = true;
+    let mut at = head;
     let mut left = len;
     while left > 1 {
-        let at = wrap(cap, head + left - 1);
-        let before = wrap(cap, head + left - 2);
-        if !rises(marks, minima, before, at) {
-            return false;
-        }
+        let next = wrap(cap, at + 1);
+        ok = ok & rises(marks, minima, at, next);
+        at = next;
         left -= 1;
     }
-    true
+    ok
 }
 
-// Whether each minimum lies within 0 and 1.
+// Whether each minimum lies within 0 and 1, for minima that rise: the first and the last tell.
 pub fn minima_unit(minima: &[f64], cap: usize, head: usize, len: usize) -> bool
     requires { ⌜ (head < cap) × (len ≤ cap) × (length (now minima) ≡ cap) ⌝ }
-    ensures { λ r. ⌜ ((marks : List ℕ) → r ≡ unitMinima (ringOf cap marks (now (minima .entry)) head len)) ⌝ }
+    ensures { λ r. ⌜ ((marks : List ℕ) → rising lessMinimum (ringOf cap marks (now (minima .entry)) head len) ≡ true
+        → r ≡ unitMinima (ringOf cap marks (now (minima .entry)) head len)) ⌝ }
 {
-    let mut left = len;
-    while left > 0 {
-        let at = wrap(cap, head + left - 1);
-        if !unit(minima[at]) {
-            return false;
-        }
-        left -= 1;
+    if len == 0 {
+        return true;
     }
-    true
+    let last = wrap(cap, head + len - 1);
+    (0.0 <= minima[head]) & (minima[last] <= 1.0)
 }
 
 // Whether the last mark is below the frame count by 1, and the first not more than look + 1.

@@ -1,13 +1,13 @@
 -- The kernel's share of 18 and 19 over setup and reset, and what they say.
-use mathlib.Core.Path.{_≡_, refl}
-use mathlib.Core.Bool.{Bool, true, false, _&&_}
+use mathlib.Core.Path.{_≡_, refl, sym, ap, _∙_}
+use mathlib.Core.Bool.{Bool, true, false, not, _&&_}
 use mathlib.Core.List.{List}
 use Prim.Native.Nat.{ℕ, zero, suc, _≤_, _<_}
 use native.Mathlib.Omega.{arith}
 use lib.Dec.{eqb, leb}
 use lib.ListN.{replicate, length-replicate}
 use lib.Ieee.{Float, le, ne}
-use borrow.Author.Tests.{eqb-true, eq-eqb, leb-true, le-leb, lt-ltb}
+use borrow.Author.Tests.{eqb-true, eq-eqb, leb-true, le-leb, lt-ltb, not-true, not-false}
 use Rattle.arithmetic.specs.Number
 use Rattle.arithmetic.specs.Number.{one, within, sameValue}
 use Rattle.arithmetic.proofs.Order.{and-true}
@@ -15,11 +15,10 @@ use Rattle.arithmetic.proofs.Same.{same-self}
 use Rattle.keeper.proofs.Floor.{empty-order}
 use Rattle.envelope.specs.Row.{allUnit, tallyOf, rowInOrder}
 use Rattle.settings.specs.Derived.{lookOf, rowOf, coefficientOf}
-use Rattle.settings.specs.Accepted.{refusalOf, refusalNumber}
+use Rattle.settings.specs.Accepted.{refusalOf}
 use Rattle.settings.specs.declared.LimiterSettings.{LimiterSettings}
 use Rattle.settings.specs.declared.ProcessSpec.{ProcessSpec}
-use Rattle.settings.specs.declared.accepted.SettingsRefusal.{SettingsRefusal}
-use Rattle.settings.proofs.Taken.{Taken, taken, refused-number}
+use Rattle.settings.proofs.Taken.{Taken, taken}
 use Rattle.settings.proofs.Unit.{target-unit}
 use Rattle.limiter.specs.State.{notSetUp, specOf, started}
 use Rattle.limiter.specs.Reset.{resetState}
@@ -49,16 +48,22 @@ prepared-is l h =
       coeff-is = b .1;
     }
 
--- ---- the test, from what the code finds
-module _ (l : Limiter) where
-  pub refused-settings : (why : SettingsRefusal) → refusalOf (l .settings) (specOf l) ≡ refusalNumber why → false ≡ prepared l
-  unfolding prepared
-  refused-settings why n = rw (n, refused-number why) refl
+-- ---- the test, from what the code finds: `ok` where the settings pass 8 to 14
+module _ (l : Limiter) (spec : ProcessSpec) (told : spec ≡ specOf l) (ok : Bool) (found : ok ≡ eqb (refusalOf (l .settings) spec) 0) where
+  judged : ok ≡ eqb (refusalOf (l .settings) (specOf l)) 0
+  judged = found ∙ ap (λ (x : ProcessSpec). eqb (refusalOf (l .settings) x) 0) told
 
-  pub accepted-settings : (look : ℕ) (coeff : Float) (same : Bool) → refusalOf (l .settings) (specOf l) ≡ 0 → look ≡ lookOf (l .settings .«lookahead_ms») (l .rate)
+  pub refused-settings : not ok ≡ true → false ≡ prepared l
+  unfolding prepared
+  refused-settings h = rw (← judged, not-true ok h) refl
+
+  pub passed-settings : not ok ≡ false → refusalOf (l .settings) (specOf l) ≡ 0
+  passed-settings h = eqb-true (refusalOf (l .settings) (specOf l)) 0 (sym judged ∙ not-false ok h)
+
+  pub accepted-settings : not ok ≡ false → (look : ℕ) (coeff : Float) (same : Bool) → look ≡ lookOf (l .settings .«lookahead_ms») (l .rate)
       → coeff ≡ coefficientOf (l .settings .«release_ms») (l .rate) → same ≡ sameValue (l .«release_coeff») coeff → eqb (l .env .keeper .look) look && same ≡ prepared l
   unfolding prepared
-  accepted-settings look coeff same z L C S = rw (z, S, C, L) refl
+  accepted-settings h look coeff same L C S = rw (passed-settings h, S, C, L) refl
 
 -- ---- setup and reset leave a limiter that is set up
 pub started-prepared : (s : LimiterSettings) (spec : ProcessSpec) → refusalOf s spec ≡ 0 → prepared (started s spec) ≡ true

@@ -10,7 +10,6 @@ use crate::stores::lengths_fit;
 use crate::stores::lengths_of;
 use arithmetic::number::unit;
 use arithmetic::pattern::same_value;
-use settings::accepted::SettingsJudged;
 
 impl Limiter {
     // 18: accepted settings, with look and release coefficient that are theirs.
@@ -18,7 +17,7 @@ impl Limiter {
         ensures { λ r. ⌜ r ≡ prepared self ⌝ }
     {
         let s = self.settings;
-        if let SettingsJudged::Refused(why) = settings::accepted::refusal(s, self.spec()) {
+        if !settings::accepted::is_accepted(s, self.spec()) {
             return false;
         }
         let look = settings::derived::look(s.lookahead_ms, self.rate) as usize;

@@ -1,6 +1,6 @@
 -- Settings of which none of 8 to 14 arises pass every rule.
 use mathlib.Core.Path.{_≡_, refl, sym, ap, _∙_}
-use mathlib.Core.Bool.{true, false}
+use mathlib.Core.Bool.{Bool, true, false, _&&_}
 use lib.Dec.{eqb}
 use Rattle.arithmetic.specs.Reply.{Reply, numbered, unless}
 use Rattle.arithmetic.proofs.Passed.{passed-unless}
@@ -40,6 +40,25 @@ taken s spec h =
     let k13 = passed-unless (channelsTaken (spec .channels)) 12 g (k12 .1) in
     let k14 = passed-unless (blockTaken (spec .«max_block»)) 13 0 (k13 .1) in
     record { rate-is = k8 .0; margin-is = k9 .0; lookahead-is = k10 .0; release-is = k11 .0; look-is = k12 .0; channels-is = k13 .0; block-is = k14 .0 }
+
+-- the seven tests together
+none-arises : (a b c d e f g : Bool)
+    → (a && (b && (c && (d && (e && (f && g)))))) ≡ eqb (unless a 8 (unless b 9 (unless c 10 (unless d 11 (unless e 12 (unless f 13 (unless g 14 0))))))) 0
+none-arises false b c d e f g = refl
+none-arises true false c d e f g = refl
+none-arises true true false d e f g = refl
+none-arises true true true false e f g = refl
+none-arises true true true true false f g = refl
+none-arises true true true true true false g = refl
+none-arises true true true true true true false = refl
+none-arises true true true true true true true = refl
+
+pub tests-together : (s : LimiterSettings) (spec : ProcessSpec)
+    → (rateTaken (spec .rate) && (marginTaken (s .«true_peak_margin_db») && (lookaheadTaken (s .«lookahead_ms») && (releaseTaken (s .«release_ms»)
+    && (lookTaken (lookOf (s .«lookahead_ms») (spec .rate)) && (channelsTaken (spec .channels) && blockTaken (spec .«max_block»))))))) ≡ eqb (refusalOf s spec) 0
+tests-together s spec =
+    none-arises (rateTaken (spec .rate)) (marginTaken (s .«true_peak_margin_db»)) (lookaheadTaken (s .«lookahead_ms»)) (releaseTaken (s .«release_ms»))
+    (lookTaken (lookOf (s .«lookahead_ms») (spec .rate))) (channelsTaken (spec .channels)) (blockTaken (spec .«max_block»))
 
 -- no refusal has the number of finished work
 pub refused-number : (why : SettingsRefusal) → eqb (refusalNumber why) 0 ≡ false

@@ -1,5 +1,6 @@
 // Which settings are accepted: the refusals 8 to 14.
 ghost use mathlib.Core.Path.{_≡_};
+ghost use lib.Dec.{eqb};
 ghost use Rattle.arithmetic.specs.Reply.{unless, numbered};
 ghost use Rattle.settings.specs.Accepted.{rateTaken, marginTaken, lookaheadTaken, releaseTaken, channelsTaken};
 ghost use Rattle.settings.specs.Accepted.{refusalOf, refusalNumber, judgedNumber, settingsReply};
@@ -111,4 +112,19 @@ pub fn refusal(s: LimiterSettings, spec: ProcessSpec) -> SettingsJudged
         ahead,
     );
     unless(rate_taken(spec.rate), SettingsRefusal::Rate, margin)
+}
+
+// Whether none of 8 to 14 arises: every test is made, without a way out.
+pub fn is_accepted(s: LimiterSettings, spec: ProcessSpec) -> bool
+    ensures { λ r. ⌜ r ≡ eqb (refusalOf s spec) 0 ⌝ }
+{
+    let look = crate::derived::look(s.lookahead_ms, spec.rate);
+    let rate = rate_taken(spec.rate);
+    let margin = margin_taken(s.true_peak_margin_db);
+    let ahead = lookahead_taken(s.lookahead_ms);
+    let released = release_taken(s.release_ms);
+    let looked = look_taken(look as usize);
+    let channels = channels_taken(spec.channels);
+    let block = spec.max_block <= 65536;
+    rate & (margin & (ahead & (released & (looked & (channels & block)))))
 }

@@ -1,5 +1,6 @@
 -- `ring_in_order`: the five tests, regrouped.
-use mathlib.Core.Path.{refl}
+use mathlib.Core.Path.{refl, sym, _∙_}
+use Rattle.arithmetic.proofs.Order.{and-true}
 use denote.Ref.{now}
 use borrow.Author.Tests.{not-true, not-false}
 use Prim.Native.Nat.{_+_}
@@ -38,7 +39,10 @@ returns-3 : tie.Need-returns-3
 returns-3 c =
     let a = c .before .before .before .before .before .before .before .args in
     let ring = ringOf (a .look + 1) (now (a .marks)) (now (a .minima)) (a .head) (a .len) in
-    rw (regroup (rising lessMark ring) (lastMark (a .frame) ring) (firstMark (a .look) (a .frame) ring) (rising lessMinimum ring) (unitMinima ring), ← c .before .before .before .before .ends-fit .ensures (now (a .minima)), not-false (c .before .before .before .before .ends-fit .result) (c .before .before .before .if1 .left), ← c .before .before .entries-rise .ensures, not-false (c .before .before .entries-rise .result) (c .before .if2 .left)) (c .minima-unit .ensures (now (a .marks)))
+    let e = c .before .before .before .before .ends-fit in
+    let r = c .before .before .entries-rise in
+    let rose = and-true (rising lessMark ring) (rising lessMinimum ring) (sym (r .ensures) ∙ not-false (r .result) (c .before .if2 .left)) in
+    rw (regroup (rising lessMark ring) (lastMark (a .frame) ring) (firstMark (a .look) (a .frame) ring) (rising lessMinimum ring) (unitMinima ring), ← e .ensures (now (a .minima)), not-false (e .result) (c .before .before .before .if1 .left), ← r .ensures, not-false (r .result) (c .before .if2 .left)) (c .minima-unit .ensures (now (a .marks)) (rose .1))
 
 pub ring-in-order-spec : {M : Type 1} → statement M
 ring-in-order-spec =

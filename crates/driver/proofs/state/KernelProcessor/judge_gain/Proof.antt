@@ -14,7 +14,7 @@ use Rattle.bank.proofs.Tests.{held, failed}
 use Rattle.turns.specs.Machine.{Machine}
 use Rattle.driver.specs.Answers.{machineAt}
 use Rattle.driver.specs.Calls.{gainFits}
-use Rattle.driver.proofs.Judged.{prepared-is}
+use Rattle.driver.proofs.Judged.{prepared-is, threshold-in-range}
 use Rattle.driver.proofs.Stepped.{gain-fit, gain-not-set-up, gain-lengths, gain-disorder, gain-room}
 use Rattle.driver.proofs.state.KernelProcessor.judge_gain.Statement.{statement}
 use Rattle.driver.proofs.state.KernelProcessor.judge_gain.Tie as tie
@@ -45,35 +45,26 @@ in-order-requires c κs =
     let f = gain-fit (m .limiter) (m .stores) (held {t = gainFits (m .limiter) (m .stores)} (c .before .stores-fit .ensures [] []) (c .if2 .left)) in
     (f .marks-is, f .minima-is)
 
+threshold-requires : tie.Need-threshold-requires
+threshold-requires c κs = search needs
+
 target-in-range-requires : tie.Need-target-in-range-requires
 target-in-range-requires c κs = search needs
 
 returns-3 : tie.Need-returns-3
 returns-3 c delay detector =
-    let o = c .before .before .in-order in
-    let t = c .before .target-in-range in
-    let f = c .before .before .before .before in
-    let p = f .before .before .before .before in
-    gain-disorder (machine (p .before .before .before .before .before) delay detector) (held (p .is-prepared .ensures) (f .before .before .before .if1 .left)) (f .stores-fit .result) (f .stores-fit .ensures delay detector) (c .before .before .before .if2 .left)
-    (o .result) (t .result) (o .ensures) (t .ensures) (not-true _ (c .if3 .taken))
+    gain-disorder (machine (c .before .before .before .before .before .before .before .before .before .before .before .before .before .before .before) delay detector) (held (c .before .before .before .before .before .before .before .before .before .before .is-prepared .ensures) (c .before .before .before .before .before .before .before .before .before .if1 .left)) (c .before .before .before .before .before .before .stores-fit .result) (c .before .before .before .before .before .before .stores-fit .ensures delay detector) (c .before .before .before .before .before .if2 .left)
+    (c .before .before .before .before .in-order .result) (c .before .target-in-range .result) (c .before .before .before .before .in-order .ensures) (threshold-in-range (c .before .before .before .before .before .before .before .before .before .before .before .before .before .before .before .args .self .bank) (c .before .before .threshold .result) (c .before .before .threshold .ensures) (c .before .target-in-range .result) (c .before .target-in-range .ensures)) (not-true _ (c .if3 .taken))
 
 returns-4 : tie.Need-returns-4
 returns-4 c delay detector =
-    let o = c .before .before .before .before .in-order in
-    let t = c .before .before .before .target-in-range in
-    let f = c .before .before .before .before .before .before in
-    let p = f .before .before .before .before in
-    gain-room (machine (p .before .before .before .before .before) delay detector) (held (p .is-prepared .ensures) (f .before .before .before .if1 .left)) (f .stores-fit .result) (f .stores-fit .ensures delay detector) (c .before .before .before .before .before .if2 .left)
-    (o .result) (t .result) (o .ensures) (t .ensures) (not-false _ (c .before .before .if3 .left)) true (le-leb (p .before .before .before .before .before .args .self .limiter .env .keeper .frame + 1) mostFrames (omega (arith, c .if4 .taken)))
+    gain-room (machine (c .before .before .before .before .before .before .before .before .before .before .before .before .before .before .before .before .before) delay detector) (held (c .before .before .before .before .before .before .before .before .before .before .before .before .is-prepared .ensures) (c .before .before .before .before .before .before .before .before .before .before .before .if1 .left)) (c .before .before .before .before .before .before .before .before .stores-fit .result) (c .before .before .before .before .before .before .before .before .stores-fit .ensures delay detector) (c .before .before .before .before .before .before .before .if2 .left)
+    (c .before .before .before .before .before .before .in-order .result) (c .before .before .before .target-in-range .result) (c .before .before .before .before .before .before .in-order .ensures) (threshold-in-range (c .before .before .before .before .before .before .before .before .before .before .before .before .before .before .before .before .before .args .self .bank) (c .before .before .before .before .threshold .result) (c .before .before .before .before .threshold .ensures) (c .before .before .before .target-in-range .result) (c .before .before .before .target-in-range .ensures)) (not-false _ (c .before .before .if3 .left)) true (le-leb (c .before .before .before .before .before .before .before .before .before .before .before .before .before .before .before .before .before .args .self .limiter .env .keeper .frame + 1) mostFrames (omega (arith, c .if4 .taken)))
 
 returns-5 : tie.Need-returns-5
 returns-5 c delay detector =
-    let o = c .before .before .before .before .in-order in
-    let t = c .before .before .before .target-in-range in
-    let f = c .before .before .before .before .before .before in
-    let p = f .before .before .before .before in
-    gain-room (machine (p .before .before .before .before .before) delay detector) (held (p .is-prepared .ensures) (f .before .before .before .if1 .left)) (f .stores-fit .result) (f .stores-fit .ensures delay detector) (c .before .before .before .before .before .if2 .left)
-    (o .result) (t .result) (o .ensures) (t .ensures) (not-false _ (c .before .before .if3 .left)) false (lt-leb (p .before .before .before .before .before .args .self .limiter .env .keeper .frame + 1) mostFrames (omega (arith, c .if4 .left)))
+    gain-room (machine (c .before .before .before .before .before .before .before .before .before .before .before .before .before .before .before .before .before) delay detector) (held (c .before .before .before .before .before .before .before .before .before .before .before .before .is-prepared .ensures) (c .before .before .before .before .before .before .before .before .before .before .before .if1 .left)) (c .before .before .before .before .before .before .before .before .stores-fit .result) (c .before .before .before .before .before .before .before .before .stores-fit .ensures delay detector) (c .before .before .before .before .before .before .before .if2 .left)
+    (c .before .before .before .before .before .before .in-order .result) (c .before .before .before .target-in-range .result) (c .before .before .before .before .before .before .in-order .ensures) (threshold-in-range (c .before .before .before .before .before .before .before .before .before .before .before .before .before .before .before .before .before .args .self .bank) (c .before .before .before .before .threshold .result) (c .before .before .before .before .threshold .ensures) (c .before .before .before .target-in-range .result) (c .before .before .before .target-in-range .ensures)) (not-false _ (c .before .before .if3 .left)) false (lt-leb (c .before .before .before .before .before .before .before .before .before .before .before .before .before .before .before .before .before .args .self .limiter .env .keeper .frame + 1) mostFrames (omega (arith, c .if4 .left)))
 
 pub judge-gain-spec : {M : Type 1} → statement M
 judge-gain-spec =
@@ -84,6 +75,7 @@ judge-gain-spec =
     stores-fit-requires
     returns-2
     in-order-requires
+    threshold-requires
     target-in-range-requires
     returns-3
     returns-4

@@ -1,5 +1,6 @@
 -- `process`: refused, or the turns.
 use borrow.Author.Needs.{needs}
+use mathlib.Core.Path.{sym}
 use denote.Ref.{now}
 use Rattle.limiter.specs.Stores.{storesAt}
 use Rattle.turns.specs.Machine.{Machine, machineOf}
@@ -16,6 +17,9 @@ machine s =
 
 size-of-requires : tie.Need-size-of-requires
 size-of-requires c κs = tt
+
+shown-requires : tie.Need-shown-requires
+shown-requires c κs = tt
 
 judge-block-requires : tie.Need-judge-block-requires
 judge-block-requires c κs = tt
@@ -43,21 +47,21 @@ same-length-6 c = search needs
 
 returns : tie.Need-returns
 returns c =
-    let s = c .before .before .before .before .before .before .before .before .before .before .before .before .before .before .before .before .before .before in
+    let s = c .before .before .before .before .before .before .before .before .before .before .before .before .before .before .before .before .before .before .before .before .before in
     let a = s .args in
-    let z = c .before .before .before .before .before .before .before .before .size-of in
+    let z = c .before .before .before .before .before .before .before .before .before .before .before .size-of in
     let j = c .before .before .judge-block in
     let f = c .before .is-finished in
-    block-left (a .format) (machine s) (a .position) (a .frames) (eventsOf (now (a .events))) (now (a .audio)) (z .result) (z .ensures) (answerReply (j .result)) (j .ensures) (f .result) (f .ensures) (c .if1 .taken)
+    block-left (a .format) (machine s) (a .position) (a .frames) (eventsOf (now (a .events))) (now (a .audio)) (z .result) (z .ensures) (answerReply (j .result)) (j .ensures (a .self .bank) (sym (c .before .before .before .before .before .before .before .before .shown .ensures))) (f .result) (f .ensures) (c .if1 .taken)
 
 drive-requires : tie.Need-drive-requires
 drive-requires c κs =
-    let s = c .before .before .before .before .before .before .before .before .before .before .before .before .before .before .before .before .before .before .before .before .before .before .before .before .before .before in
+    let s = c .before .before .before .before .before .before .before .before .before .before .before .before .before .before .before .before .before .before .before .before .before .before .before .before .before .before .before in
     let a = s .args in
-    let z = c .before .before .before .before .before .before .before .before .before .before .before .before .before .before .before .before .size-of in
-    let j = c .before .before .before .before .before .before .before .before .before .before .judge-block in
-    let f = c .before .before .before .before .before .before .before .before .before .is-finished in
-    block-asks (a .format) (machine s) (a .position) (a .frames) (eventsOf (now (a .events))) (now (a .audio)) (z .result) (z .ensures) (answerReply (j .result)) (j .ensures) (f .result) (f .ensures) (c .before .before .before .before .before .before .before .before .if1 .left)
+    let z = c .before .before .before .before .before .before .before .before .before .before .before .before .before .before .before .before .before .size-of in
+    let j = c .before .before .before .before .before .before .before .before .judge-block in
+    let f = c .before .before .before .before .before .before .before .is-finished in
+    block-asks (a .format) (machine s) (a .position) (a .frames) (eventsOf (now (a .events))) (now (a .audio)) (z .result) (z .ensures) (answerReply (j .result)) (j .ensures (a .self .bank) (sym (c .before .before .before .before .before .before .before .before .before .before .before .before .before .before .shown .ensures))) (f .result) (f .ensures) (c .before .before .before .before .before .before .if1 .left)
 
 same-length-7 : tie.Need-same-length-7
 same-length-7 c = search needs
@@ -79,17 +83,17 @@ same-length-12 c = search needs
 
 returns-2 : tie.Need-returns-2
 returns-2 c =
-    let s = c .before .before .before .before .before .before .before .before .before .before .before .before .before .before .before .before .before .before .before .before .before .before .before .before .before .before .before .before .before .before .before .before .before .before .before .before .before .before .before .before .before in
+    let s = c .before .before .before .before .before .before .before .before .before .before .before .before .before .before .before .before .before .before .before .before .before .before .before .before .before .before .before .before .before .before .before .before .before .before .before .before .before .before .before .before .before .before in
     let a = s .args in
-    let z = c .before .before .before .before .before .before .before .before .before .before .before .before .before .before .before .before .before .before .before .before .before .before .before .before .before .before .before .before .before .before .before .size-of in
-    let j = c .before .before .before .before .before .before .before .before .before .before .before .before .before .before .before .before .before .before .before .before .before .before .before .before .before .judge-block in
-    let f = c .before .before .before .before .before .before .before .before .before .before .before .before .before .before .before .before .before .before .before .before .before .before .before .before .is-finished in
+    let z = c .before .before .before .before .before .before .before .before .before .before .before .before .before .before .before .before .before .before .before .before .before .before .before .before .before .before .before .before .before .before .before .before .size-of in
+    let j = c .before .before .before .before .before .before .before .before .before .before .before .before .before .before .before .before .before .before .before .before .before .before .before .judge-block in
+    let f = c .before .before .before .before .before .before .before .before .before .before .before .before .before .before .before .before .before .before .before .before .before .before .is-finished in
     let d = c .before .before .before .before .before .before .before .before .before .before .before .before .before .before .drive in
     let o = d .last .1 .1 .1 .1 .1 .1 in
-    block-finished (a .format) (machine s) (a .position) (a .frames) (eventsOf (now (a .events))) (now (a .audio)) (z .result) (z .ensures) (answerReply (j .result)) (j .ensures) (f .result) (f .ensures)
-    (machineOf (d .result .limiter) (d .result .bank) (storesAt (o .1 .0) (o .1 .1 .0) (o .1 .1 .1 .0) (now (a .weights)) (o .1 .1 .1 .1 .1 .0) (o .1 .1 .1 .1 .1 .1 .0))) (o .0) (c .before .before .before .before .before .before .before .before .before .before .before .before .before .before .before .before .before .before .before .before .before .before .before .if1 .left) (d .ensures .0) (d .ensures .1)
+    block-finished (a .format) (machine s) (a .position) (a .frames) (eventsOf (now (a .events))) (now (a .audio)) (z .result) (z .ensures) (answerReply (j .result)) (j .ensures (a .self .bank) (sym (c .before .before .before .before .before .before .before .before .before .before .before .before .before .before .before .before .before .before .before .before .before .before .before .before .before .before .before .before .before .shown .ensures))) (f .result) (f .ensures)
+    (machineOf (d .result .limiter) (d .result .bank) (storesAt (o .1 .0) (o .1 .1 .0) (o .1 .1 .1 .0) (now (a .weights)) (o .1 .1 .1 .1 .1 .0) (o .1 .1 .1 .1 .1 .1 .0))) (o .0) (c .before .before .before .before .before .before .before .before .before .before .before .before .before .before .before .before .before .before .before .before .before .if1 .left) (d .ensures .0) (d .ensures .1)
 
 pub process-spec : {M : Type 1} → statement M
 process-spec =
     tie.close
-    (tie.spec size-of-requires judge-block-requires is-finished-requires same-length same-length-2 same-length-3 same-length-4 same-length-5 same-length-6 returns drive-requires same-length-7 same-length-8 same-length-9 same-length-10 same-length-11 same-length-12 returns-2)
+    (tie.spec size-of-requires shown-requires judge-block-requires is-finished-requires same-length same-length-2 same-length-3 same-length-4 same-length-5 same-length-6 returns drive-requires same-length-7 same-length-8 same-length-9 same-length-10 same-length-11 same-length-12 returns-2)
