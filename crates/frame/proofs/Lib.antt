@@ -3,6 +3,7 @@ pub mod Heard
 pub mod Turns
 pub mod Steps
 pub mod Channels
+pub mod Clean
 pub mod Stretch
 pub mod Exchange
 pub mod Keeps
