@@ -14,7 +14,7 @@ use crate::words::word;
 use arithmetic::pattern::finite_from_bits;
 use arithmetic::pattern::to_bits;
 
-// The sample at an index, sanitized: here a test on the pattern does it, and no pass over the run has to.
+// The sample at an index, sanitized by a test on its pattern.
 fn sample(format: Format, bytes: &[u8], i: usize) -> f64
     requires { ⌜ i < length (placesOf format (now bytes)) ⌝ }
     ensures { λ r. ⌜ r ≡ getD (soundsOf format (now (bytes .entry))) i nan ⌝ }
