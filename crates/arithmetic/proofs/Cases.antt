@@ -158,6 +158,12 @@ silenced nan h = refl
 silenced (inf s) h = refl
 silenced (fin s m e) h = clash true refl h
 
+-- a second time changes nothing
+pub sanitized-again : (x : Float) → finiteOrZero (finiteOrZero x) ≡ finiteOrZero x
+sanitized-again nan = refl
+sanitized-again (inf s) = refl
+sanitized-again (fin s m e) = refl
+
 -- ---- a value that differs from itself
 eq-self : (s : Bool) (m : ℕ) (e : ℤ) → eq (fin s m e) (fin s m e) ≡ true
 eq-self s m e = eq-is (fin s m e) (fin s m e) tt tt ∙ eq-eqb (left (fin s m e) (fin s m e)) (right (fin s m e) (fin s m e)) refl

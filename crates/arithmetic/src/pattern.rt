@@ -4,6 +4,7 @@
 ghost use mathlib.Core.Path.{_≡_};
 ghost use lib.Ieee.{binary64, ofBits, toBits};
 ghost use Rattle.arithmetic.specs.Number.{sameValue};
+ghost use Rattle.arithmetic.specs.Sanitize.{finiteOrZero};
 
 // The f64 that a pattern stands for.
 pub fn from_bits(n: u64) -> f64
@@ -11,6 +12,18 @@ pub fn from_bits(n: u64) -> f64
 {
     if 0x7ff0_0000_0000_0000 < n % 0x8000_0000_0000_0000 {
         0.0 / 0.0
+    } else {
+        f64::from_bits(n)
+    }
+}
+
+// The f64 that a pattern stands for where it is finite, else silence: one test on the pattern, whose
+// exponent is all ones at the infinities and the NaNs alone.
+pub fn finite_from_bits(n: u64) -> f64
+    ensures { λ r. ⌜ r ≡ finiteOrZero (ofBits binary64 n) ⌝ }
+{
+    if n % 0x8000_0000_0000_0000 / 0x10_0000_0000_0000 == 2047 {
+        0.0
     } else {
         f64::from_bits(n)
     }

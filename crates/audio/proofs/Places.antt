@@ -12,9 +12,10 @@ use lib.Ieee.{Float, nan, binary64, toBits, fits}
 use lib.Ieee.Bits.{ofBits-toBits, toBits-lt}
 use borrow.Author.Tests.{eqb-true}
 use Rattle.arithmetic.specs.Number.{bits, largest}
+use Rattle.arithmetic.specs.Sanitize.{finiteOrZero}
 use Rattle.audio.specs.Bytes.{cut, joined}
 use Rattle.audio.specs.Planar.{firstOf, othersOf, written}
-use Rattle.audio.specs.Format.{sampleBytes, sampleOf, bytesFor, sizeOf, placesOf, samplesOf}
+use Rattle.audio.specs.Format.{sampleBytes, sampleOf, bytesFor, sizeOf, placesOf, samplesOf, soundsOf}
 use Rattle.audio.specs.Inner.{put}
 use Rattle.audio.specs.declared.format.Format.{Format}
 use Rattle.audio.specs.declared.format.Format.the-variants.{F64}
@@ -158,6 +159,9 @@ module _ (format : Format) where
     -- its sample
     pub sample-at : (none : List ℕ) → getD (samplesOf format bytes) i nan ≡ sampleOf format (getD (placesOf format bytes) i none)
     sample-at none = getD-map (sampleOf format) (placesOf format bytes) i none nan h
+
+    pub sound-at : getD (soundsOf format bytes) i nan ≡ finiteOrZero (getD (samplesOf format bytes) i nan)
+    sound-at = getD-map finiteOrZero (samplesOf format bytes) i nan nan (rw (samples-count bytes) h)
 
   -- ---- bytes that are whole samples: their size is no `largest`
   module _ (bytes : List ℕ) (size : ℕ) (fit : sizeOf format bytes ≡ size) (small : size < largest) where

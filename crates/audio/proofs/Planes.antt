@@ -14,7 +14,7 @@ use Rattle.audio.specs.Inner.{PlacesCarried}
 use Rattle.audio.proofs.Carry.{carried-outside}
 
 -- ---- frames
-drop-map : {A B : Type 0} (f : A → B) (n : ℕ) (l : List A) → drop n (map f l) ≡ map f (drop n l)
+pub drop-map : {A B : Type 0} (f : A → B) (n : ℕ) (l : List A) → drop n (map f l) ≡ map f (drop n l)
 drop-map f zero l = refl
 drop-map f (suc n) [] = refl
 drop-map f (suc n) (x ∷ l) = drop-map f n l

@@ -1,8 +1,8 @@
 -- A call's bytes with outputs written into them: by the laws of planar audio, over the bytes of each sample.
 use mathlib.Core.Path.{_≡_, refl, sym, ap, subst, _∙_}
 use mathlib.Core.Bool.{Bool, true, false}
-use mathlib.Core.List.{List, [], _++_, map, map-append}
-use Prim.Native.Nat.{ℕ, _+_, _-_, _*_, _≤_, _<_}
+use mathlib.Core.List.{List, [], _∷_, _++_, map, map-append}
+use Prim.Native.Nat.{ℕ, zero, suc, _+_, _-_, _*_, _≤_, _<_}
 use native.Mathlib.Nat.{mul-le-mul}
 use native.Mathlib.Omega.{arith}
 use lib.Dec.{ltb}
@@ -11,18 +11,26 @@ use lib.Seq.{getD-append-add}
 use lib.Ieee.{Float, nan}
 use borrow.Author.Tests.{ltb-true, ltb-false}
 use Rattle.arithmetic.specs.Number.{largest}
+use Rattle.arithmetic.specs.Sanitize.{finiteOrZero}
+use Rattle.arithmetic.proofs.Cases.{sanitized-again}
 use Rattle.audio.specs.Bytes.{joined}
 use Rattle.audio.specs.Planar.{framesAt, written}
-use Rattle.audio.specs.Format.{sampleBytes, sampleOf, bytesFor, sizeOf, placesOf, samplesOf, writtenBytes}
+use Rattle.audio.specs.Format.{sampleBytes, sampleOf, bytesFor, sizeOf, placesOf, samplesOf, soundsOf, writtenBytes}
 use Rattle.audio.specs.Inner.{PlacesCarried, Placed}
 use Rattle.audio.specs.declared.format.Format.{Format}
 use Rattle.audio.proofs.Carry.{places-end}
 use Rattle.audio.proofs.Planes.{frames-map, frames-at-length, frames-place, frames-same, written-length, written-none, written-there, written-past, written-same, scattered}
-use Rattle.audio.proofs.Places.{Each, Sized, each-map, written-each, joined-length, bytes-for-length, places-sized, places-joined, sample-at, bytes-count, places-fit, joined-places, size-same}
+use Rattle.audio.proofs.Places.{Each, Sized, each-map, written-each, joined-length, bytes-for-length, places-sized, places-joined, sample-at, sound-at, bytes-count, places-fit, joined-places, size-same}
 
 -- a block's size is no `largest`
 pub size-small : (k w : ℕ) → k ≤ 8 → w ≤ 65536 → k * w < largest
 size-small k w h g = let m = mul-le-mul {n₁ = k} {m₁ = w} {n₂ = 8} {m₂ = 65536} h g in omega (arith, m)
+
+-- of what was sanitized, past the end too
+heard-again : (l : List Float) (i : ℕ) → finiteOrZero (getD (map finiteOrZero l) i nan) ≡ finiteOrZero (getD l i nan)
+heard-again [] i = refl
+heard-again (x ∷ l) zero = sanitized-again x
+heard-again (x ∷ l) (suc i) = heard-again l i
 
 module _ (format : Format) where
   abbrev none : List ℕ
@@ -151,9 +159,30 @@ module _ (format : Format) where
             rw e (sample-past first outputs (omega arith) m c (first + i) h (omega arith) (omega arith))
 
   -- ---- a run
-  pub gathered : (k n w first : ℕ) (bytes : List ℕ) (before after : List Float) → PlacesCarried nan k n w first (samplesOf format bytes) 32 0 before after
-      → framesAt nan 32 k 0 n after ≡ framesAt nan w k first n (samplesOf format bytes)
-  gathered k n w first bytes before after moved = frames-same nan 32 w k 0 first n after (samplesOf format bytes) (moved .there)
+  -- sanitized, a run's frames are the call's
+  pub gathered : (k n w first : ℕ) (bytes : List ℕ) (before after : List Float) → PlacesCarried nan k n w first (soundsOf format bytes) 32 0 before after
+      → map (map finiteOrZero) (framesAt nan 32 k 0 n after) ≡ map (map finiteOrZero) (framesAt nan w k first n (samplesOf format bytes))
+  gathered k n w first bytes before after moved =
+      sym (frames-map finiteOrZero nan 32 k 0 n after)
+      ∙ frames-same (finiteOrZero nan) 32 w k 0 first n (map finiteOrZero after) (soundsOf format bytes) same
+      ∙ frames-map finiteOrZero nan w k first n (samplesOf format bytes)
+    where
+      same : (c i : ℕ) → c < k → i < n → getD (map finiteOrZero after) (c * 32 + 0 + i) (finiteOrZero nan) ≡ getD (soundsOf format bytes) (c * w + first + i) (finiteOrZero nan)
+      same c i h g =
+          List·getD-map finiteOrZero after (c * 32 + 0 + i) nan
+          ∙ ap finiteOrZero (moved .there c i h g)
+          ∙ heard-again (samplesOf format bytes) (c * w + first + i)
+          ∙ sym (List·getD-map finiteOrZero (samplesOf format bytes) (c * w + first + i) nan)
+
+  -- and they are sanitized already, where the call has them
+  pub gathered-clean : (k n w first : ℕ) (bytes : List ℕ) (before after : List Float) → sizeOf format bytes ≡ k * w → k * w < largest → first + n ≤ w
+      → PlacesCarried nan k n w first (soundsOf format bytes) 32 0 before after
+      → (c i : ℕ) → c < k → i < n → finiteOrZero (getD after (c * 32 + i) nan) ≡ getD after (c * 32 + i) nan
+  gathered-clean k n w first bytes before after fit small s moved c i h g =
+      let inside : c * w + first + i < length (placesOf format bytes) = omega (arith, places-fit format bytes (k * w) fit small, places-end c k w h) in
+      let e : c * 32 + i ≡ c * 32 + 0 + i = omega arith in
+      let there = ap (λ (p : ℕ). getD after p nan) e ∙ moved .there c i h g ∙ sound-at format bytes (c * w + first + i) inside in
+      ap finiteOrZero there ∙ sanitized-again (getD (samplesOf format bytes) (c * w + first + i) nan) ∙ sym there
 
   -- what is carried out of a run places its frames
   pub carried-placed : (k n : ℕ) (run : List Float) (w first : ℕ) (bytes after : List ℕ) → length after ≡ length bytes

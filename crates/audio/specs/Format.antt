@@ -6,6 +6,7 @@ use lib.Dec.{eqb}
 use lib.ListN.{length}
 use lib.Ieee.{Float, nan, binary64, toBits}
 use Rattle.arithmetic.specs.Number.{bits, largest}
+use Rattle.arithmetic.specs.Sanitize.{finiteOrZero}
 use Rattle.audio.specs.Bytes.{wordOf, bytesOf, cut, joined}
 use Rattle.audio.specs.Planar.{written}
 use Rattle.audio.specs.declared.format.Format.{Format}
@@ -34,6 +35,10 @@ placesOf format bytes = cut (sampleBytes format) (length bytes / sampleBytes for
 
 abbrev pub samplesOf : Format → List ℕ → List Float
 samplesOf format bytes = map (sampleOf format) (placesOf format bytes)
+
+-- the same as a run reads them: sanitized
+abbrev pub soundsOf : Format → List ℕ → List Float
+soundsOf format bytes = map finiteOrZero (samplesOf format bytes)
 
 -- the bytes with the outputs of the first n frames in their samples' places, and every other byte as it was; an output that is missing is a NaN
 unfoldable pub writtenBytes : Format → ℕ → ℕ → ℕ → List ℕ → List (List Float) → List ℕ

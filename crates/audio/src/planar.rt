@@ -6,21 +6,21 @@ ghost use Prim.Native.Nat.{_+_, _*_, _%_, _≤_, _<_};
 ghost use lib.ListN.{length, getD, set};
 ghost use lib.Ieee.{nan};
 ghost use Rattle.audio.specs.Planar.{framesAt};
-ghost use Rattle.audio.specs.Format.{sampleBytes, bytesFor, sizeOf, placesOf, samplesOf};
+ghost use Rattle.audio.specs.Format.{sampleBytes, bytesFor, sizeOf, placesOf, soundsOf};
 ghost use Rattle.audio.specs.Inner.{PlacesCopied, PlacesCarried, Placed};
 use crate::format::Format;
 use crate::words::put_word;
 use crate::words::word;
-use arithmetic::pattern::from_bits;
+use arithmetic::pattern::finite_from_bits;
 use arithmetic::pattern::to_bits;
 
-// The sample at an index.
+// The sample at an index, sanitized by a test on its pattern.
 fn sample(format: Format, bytes: &[u8], i: usize) -> f64
     requires { ⌜ i < length (placesOf format (now bytes)) ⌝ }
-    ensures { λ r. ⌜ r ≡ getD (samplesOf format (now (bytes .entry))) i nan ⌝ }
+    ensures { λ r. ⌜ r ≡ getD (soundsOf format (now (bytes .entry))) i nan ⌝ }
 {
     match format {
-        Format::F64 => from_bits(word(bytes, 8 * i)),
+        Format::F64 => finite_from_bits(word(bytes, 8 * i)),
     }
 }
 
@@ -35,18 +35,18 @@ fn put_sample(format: Format, bytes: &mut [u8], i: usize, x: f64)
     }
 }
 
-// n samples from one place on to another place on.
+// n samples from one place on to another place on, sanitized.
 fn read_channel(format: Format, n: usize, from: usize, bytes: &[u8], to: usize, run: &mut [f64])
     requires { ⌜ from + n ≤ length (placesOf format (now bytes)) ⌝ }
     requires { ⌜ to + n ≤ length (now run) ⌝ }
-    ensures { λ _. ⌜ PlacesCopied nan n from (samplesOf format (now (bytes .entry))) to (now (run .entry)) (now (run .exit)) ⌝ }
+    ensures { λ _. ⌜ PlacesCopied nan n from (soundsOf format (now (bytes .entry))) to (now (run .entry)) (now (run .exit)) ⌝ }
 {
     for i in 0..n {
         run[to + i] = sample(format, bytes, from + i);
     }
 }
 
-// n frames, from a frame of bytes of `width` samples a channel on, into a run.
+// n frames, from a frame of bytes of `width` samples a channel on, into a run, sanitized.
 pub fn gather(
     format: Format,
     channels: usize,
@@ -62,7 +62,7 @@ pub fn gather(
     requires { ⌜ first + n ≤ width ⌝ }
     requires { ⌜ n ≤ 32 ⌝ }
     requires { ⌜ length (now run) ≡ 256 ⌝ }
-    ensures { λ _. ⌜ PlacesCarried nan channels n width first (samplesOf format (now (bytes .entry))) 32 0 (now (run .entry)) (now (run .exit)) ⌝ }
+    ensures { λ _. ⌜ PlacesCarried nan channels n width first (soundsOf format (now (bytes .entry))) 32 0 (now (run .entry)) (now (run .exit)) ⌝ }
 {
     for c in 0..channels {
         read_channel(format, n, c * width + first, bytes, c * 32, run);

@@ -174,6 +174,18 @@ module _ (leaves : Float → Float) (look pos : ℕ) (gains : List Float) (chann
       let ad : drop ((c + 1) * runLength) a' ≡ drop runLength (drop b audio) = rw (one-more c runLength, e2) (put-ahead audio ys b runLength n g p few) in
       outputs-next c delay audio (outputsAt ys line) d' a' h (rw (e1, e2, part-length delay a look look within refl) at o) dt dd at ad
 
+-- what lies ahead is as it was
+pub ahead-turn : (n c k : ℕ) (before audio ys : List Float) → c * runLength + runLength ≤ length audio → n ≤ runLength → k ≡ n → length ys ≡ length (take k (drop (c * runLength) audio))
+    → drop (c * runLength) audio ≡ drop (c * runLength) before
+    → drop ((c + 1) * runLength) (take (c * runLength) audio ++ (ys ++ drop k (drop (c * runLength) audio))) ≡ drop ((c + 1) * runLength) before
+ahead-turn n c k before audio ys g p e m d =
+    let b = c * runLength in
+    let few : length ys ≡ n = m ∙ part-length audio b n k (omega arith) e in
+    let passed : drop (b + runLength) (take b audio ++ (ys ++ drop n (drop b audio))) ≡ drop (b + runLength) before =
+    put-ahead audio ys b runLength n g p few ∙ ap (drop runLength) d ∙ drop-drop runLength b before
+    in
+    rw (one-more c runLength, e) passed
+
 pub pos-turn : (look pos channels n c k1 k2 : ℕ) (delay audio : List Float) (next : ℕ) → c < channels → length delay ≡ channels * look → c * runLength + n ≤ length audio → k1 ≡ look → k2 ≡ n
     → next ≡ posAfter (length (take k1 (drop (c * look) delay))) pos (length (take k2 (drop (c * runLength) audio))) → next ≡ posAfter look pos n
 pos-turn look pos channels n c k1 k2 delay audio next h f g e1 e2 o =

@@ -4,6 +4,7 @@ pub mod Turns
 pub mod Steps
 pub mod Channels
 pub mod Alike
+pub mod Clean
 pub mod Stretch
 pub mod Exchange
 pub mod Keeps

@@ -13,6 +13,7 @@ use Rattle.frame.specs.Frame.{givenOut}
 use Rattle.frame.specs.Passes.{Exchanged, exchangedAt, exchangeOf, productsOf, Outputs, outputsAt, channelOutputs}
 use Rattle.arithmetic.proofs.InTurn.{split, kept, stored, none-left, all-stored}
 use Rattle.frame.proofs.Channels.{part-length, put-whole, put-ahead}
+use Rattle.frame.proofs.Clean.{clean-take, clean-drop}
 
 -- ---- the exchange, and then the products
 exchanged-then : (leaves : Float → Float) (look pos : ℕ) (gs line xs : List Float) → length gs ≡ length xs
@@ -77,8 +78,8 @@ pub exchange-done : (look pos : ℕ) (line : List Float) (i : ℕ) (l : List Flo
 unfolding exchangeOf
 exchange-done look pos line i l h = rw (none-left l i h, all-stored l i h) refl
 
--- a stretch of k: the line from p on and the samples from i on have changed places. The code counts k as end less start
-module _ (look p i k : ℕ) (line l ls ss : List Float) (n : length line ≡ look) (h : p + k ≤ look) (m : i + k ≤ length l) (L : ls ≡ map finiteOrZero (take (i + k - i) (drop i l))) (S : ss ≡ take (p + k - p) (drop p line)) (q : ℕ) (Q : q ≡ posAfter look p k) where
+-- a stretch of k: the line from p on and the samples from i on, which are sanitized, have changed places. The code counts k as end less start
+module _ (look p i k : ℕ) (line l ls ss : List Float) (n : length line ≡ look) (h : p + k ≤ look) (m : i + k ≤ length l) (L : ls ≡ take (i + k - i) (drop i l)) (C : map finiteOrZero (drop i l) ≡ drop i l) (S : ss ≡ take (p + k - p) (drop p line)) (q : ℕ) (Q : q ≡ posAfter look p k) where
   abbrev xs : List Float
   xs = take k (drop i l)
 
@@ -96,14 +97,25 @@ module _ (look p i k : ℕ) (line l ls ss : List Float) (n : length line ≡ loo
       ∙ exchange-append look p line xs ys
       ∙ rw (straight look p line xs n (rw xn h), xn) refl
 
+  many : length ss ≡ k
+  many = ap (λ (z : List Float). length z) S ∙ part-length line p k (p + k - p) (omega arith) (omega arith)
+
+  ahead : drop (i + k) (pasted l i ss (i + k - i)) ≡ ys
+  ahead =
+      let e : i + k - i ≡ k = omega arith in
+      rw e (put-ahead l ss i k k m (omega arith) many)
+
+  -- the samples left are sanitized
+  pub clean-turn : map finiteOrZero (drop (i + k) (pasted l i ss (i + k - i))) ≡ drop (i + k) (pasted l i ss (i + k - i))
+  clean-turn = rw ahead (clean-drop (drop i l) C k)
+
   pub exchange-turn : exchangeFrom look q (pasted line p ls (p + k - p)) (i + k) (pasted l i ss (i + k - i)) ≡ exchangeFrom look p line i l
   exchange-turn =
       let e1 : p + k - p ≡ k = omega arith in
       let e2 : i + k - i ≡ k = omega arith in
-      let many : length ss ≡ k = ap (λ (z : List Float). length z) S ∙ part-length line p k (p + k - p) (omega arith) e1 in
       let passed : take (i + k) (pasted l i ss (i + k - i)) ≡ take i l ++ ss = rw e2 (put-whole l ss i k m many) in
-      let ahead : drop (i + k) (pasted l i ss (i + k - i)) ≡ ys = rw e2 (put-ahead l ss i k k m (omega arith) many) in
-      let came : exchangeOf look q (pasted line p ls (p + k - p)) (drop (i + k) (pasted l i ss (i + k - i))) ≡ later = rw (ahead, Q, L, e1, e2) refl in
+      let laid : ls ≡ map finiteOrZero xs = rw e2 at L ∙ sym (clean-take (drop i l) C k) in
+      let came : exchangeOf look q (pasted line p ls (p + k - p)) (drop (i + k) (pasted l i ss (i + k - i))) ≡ later = rw (ahead, Q, laid, e1) refl in
       rw (passed, came, S, e1) (ap (λ (z : List Float). exchangedAt z (later .line)) (append-assoc (take i l) (take k (drop p line)) (later .delayed)))
       ∙ sym (ap (joined (take i l)) whole)
 

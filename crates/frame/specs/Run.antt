@@ -2,9 +2,10 @@
 use Prim.Native.Nat.{ℕ, _+_, _*_, _≤_, _<_}
 use mathlib.Core.Path.{_≡_}
 use mathlib.Core.List.{List, [], _∷_, map}
-use lib.ListN.{length}
+use lib.ListN.{length, getD}
 use lib.Ieee.{Float, nan}
 use denote.Ref.{RefT, now}
+use Rattle.arithmetic.specs.Sanitize.{finiteOrZero}
 use Rattle.audio.specs.Planar.{framesAt, written}
 use Rattle.detector.specs.Oversample.{remembered}
 use Rattle.detector.specs.Run.{runLength}
@@ -43,6 +44,10 @@ framesIn channels n audio = framesAt nan runLength channels 0 n audio
 abbrev pub writtenIn : ℕ → ℕ → List Float → List (List Float) → List Float
 writtenIn channels n audio outputs = written nan runLength channels n audio outputs
 
+-- each sample of those frames is sanitized already
+abbrev pub Sanitized : ℕ → ℕ → List Float → Type 0
+Sanitized channels n audio = (c i : ℕ) → c < channels → i < n → finiteOrZero (getD audio (c * runLength + i) nan) ≡ getD audio (c * runLength + i) nan
+
 -- ---- a run
 pub record RunDone : Type 0 where
   pub moving : Moving
@@ -70,7 +75,7 @@ movingAtExit e pos delay marks minima row detector = movingAt e pos (now (delay 
 abbrev pub doneAt : Moving → List Float → RunDone
 doneAt m audio = record { moving = m; audio = audio }
 
--- what a run asks: an envelope that is ready with room for n frames, the stores' lengths, the position in its line
+-- what a run asks: an envelope that is ready with room for n frames, the stores' lengths, the position in its line, sanitized samples
 pub record RunReady (weights : List Float) (look channels n : ℕ) (m : Moving) (audio : List Float) : Type 0 where
   pub env : EnvReady weights (m .env)
   pub room : m .env .keeping .keeper .frame + n ≤ mostFrames
@@ -81,3 +86,4 @@ pub record RunReady (weights : List Float) (look channels n : ℕ) (m : Moving) 
   pub delay-fit : length (m .delay) ≡ channels * look
   pub detector-fit : length (m .detector) ≡ channels * remembered
   pub place : m .pos < look
+  pub clean : Sanitized channels n audio

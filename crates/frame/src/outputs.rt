@@ -8,6 +8,7 @@ ghost use Rattle.detector.specs.Run.{runLength};
 ghost use Rattle.envelope.specs.Row.{posAfter};
 ghost use Rattle.frame.specs.Rules.{leavesBy};
 ghost use Rattle.frame.specs.Frame.{givenOut};
+ghost use Rattle.frame.specs.Run.{Sanitized};
 ghost use Rattle.frame.specs.Passes.{exchangedAt, exchangeOf, productsOf, outputsAt, channelOutputs, writtenAt, outputsPass};
 use arithmetic::sanitize::finite_or_zero;
 use arithmetic::sanitize::flush_denormal;
@@ -24,16 +25,16 @@ fn given_out(format: Format, d: f64, gain: f64) -> f64
     }
 }
 
-// A stretch of the line and as many samples change places; the line gets them sanitized.
+// A stretch of the line and as many samples change places.
 fn swap_stretch(line: &mut [f64], samples: &mut [f64])
     requires { ⌜ length (now line) ≡ length (now samples) ⌝ }
-    ensures { λ _. ⌜ now (line .exit) ≡ map finiteOrZero (now (samples .entry)) ⌝ }
+    ensures { λ _. ⌜ now (line .exit) ≡ now (samples .entry) ⌝ }
     ensures { λ _. ⌜ now (samples .exit) ≡ now (line .entry) ⌝ }
 {
     let n = samples.len();
     for i in 0..n {
         let d = line[i];
-        line[i] = finite_or_zero(samples[i]);
+        line[i] = samples[i];
         samples[i] = d;
     }
 }
@@ -45,11 +46,12 @@ fn shorter(a: usize, b: usize) -> usize
     if a < b { a } else { b }
 }
 
-// A run's samples and what lies in the line from a position on change places, in straight stretches:
-// each ends where the line or the run does, so that no wrap stands in the loop over it. The position
-// that the next frame finds is handed back.
+// A run's samples, which are sanitized, and what lies in the line from a position on change places, in
+// straight stretches: each ends where the line or the run does, so that no wrap stands in the loop over
+// it. The position that the next frame finds is handed back.
 fn exchange(line: &mut [f64], pos: usize, samples: &mut [f64]) -> usize
     requires { ⌜ pos < length (now line) ⌝ }
+    requires { ⌜ map finiteOrZero (now samples) ≡ now samples ⌝ }
     ensures { λ _. ⌜ exchangedAt (now (samples .exit)) (now (line .exit))
         ≡ exchangeOf (length (now (line .entry))) pos (now (line .entry)) (now (samples .entry)) ⌝ }
     ensures { λ r. ⌜ r ≡ posAfter (length (now (line .entry))) pos (length (now (samples .entry))) ⌝ }
@@ -91,6 +93,7 @@ fn channel_outputs(
 ) -> usize
     requires { ⌜ pos < length (now line) ⌝ }
     requires { ⌜ length (now gains) ≡ length (now samples) ⌝ }
+    requires { ⌜ map finiteOrZero (now samples) ≡ now samples ⌝ }
     ensures { λ _. ⌜ outputsAt (now (samples .exit)) (now (line .exit))
         ≡ channelOutputs (leavesBy format) (length (now (line .entry))) pos (now (gains .entry)) (now (line .entry)) (now (samples .entry)) ⌝ }
     ensures { λ r. ⌜ r ≡ posAfter (length (now (line .entry))) pos (length (now (samples .entry))) ⌝ }
@@ -118,6 +121,7 @@ pub fn all_outputs(
     requires { ⌜ length (now audio) ≡ 8 * runLength ⌝ }
     requires { ⌜ length (now delay) ≡ channels * look ⌝ }
     requires { ⌜ length (now gains) ≡ n ⌝ }
+    requires { ⌜ Sanitized channels n (now audio) ⌝ }
     ensures { λ _. ⌜ writtenAt (now (audio .exit)) (now (delay .exit))
         ≡ outputsPass (leavesBy format) look pos (now (gains .entry)) channels n (now (delay .entry)) (now (audio .entry)) ⌝ }
     ensures { λ r. ⌜ r ≡ posAfter look pos n ⌝ }

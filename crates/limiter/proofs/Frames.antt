@@ -1,20 +1,23 @@
 -- What a run asks, from what 18, 16 and 19 judge.
-use mathlib.Core.Path.{_≡_, sym, _∙_}
+use mathlib.Core.Path.{_≡_, sym, ap, _∙_}
 use mathlib.Core.Bool.{true, _&&_}
 use mathlib.Core.List.{List}
-use Prim.Native.Nat.{ℕ, _+_, _≤_, _<_}
+use Prim.Native.Nat.{ℕ, _+_, _*_, _≤_, _<_}
 use native.Mathlib.Omega.{arith}
 use lib.Dec.{leb, ltb}
-use lib.ListN.{length, replicate, length-replicate}
-use lib.Ieee.{Float}
+use lib.ListN.{length, replicate, length-replicate, getD-replicate}
+use lib.Ieee.{Float, nan}
 use borrow.Author.Tests.{leb-true, ltb-true}
 use Rattle.arithmetic.specs.Number
 use Rattle.arithmetic.specs.Number.{one, within}
+use Rattle.arithmetic.specs.Sanitize.{finiteOrZero}
 use Rattle.arithmetic.proofs.Order.{and-true}
+use Rattle.detector.specs.Run.{runLength}
 use Rattle.keeper.specs.Keeper.{keepingAt, ordered}
 use Rattle.envelope.specs.Row.{rowInOrder}
 use Rattle.settings.specs.Derived.{lookOf}
-use Rattle.frame.specs.Run.{RunReady}
+use Rattle.envelope.specs.Step.{EnvReady}
+use Rattle.frame.specs.Run.{Sanitized, RunReady}
 use Rattle.limiter.specs.Stores.{Stores, lengthsOf}
 use Rattle.limiter.specs.Order.{prepared, inOrder}
 use Rattle.limiter.specs.Run.{movingOf, KernelReady}
@@ -70,17 +73,22 @@ bounds-of l h =
     record { some = leb-true 1 (l .channels) (c .0); most = leb-true (l .channels) 8 (c .1); look-most = rw (p .look-is) (leb-true look 4096 (k .1)) }
 
 module _ (l : Limiter) (n : ℕ) (s : Stores) (audio : List Float) (k : KernelReady l n s audio) where
-  pub run-asks : RunReady (s .weights) (l .env .keeper .look) (l .channels) n (movingOf l s) audio
-  run-asks =
-      let b = bounds-of l (k .set-up) in
+  pub env-asks : EnvReady (s .weights) (movingOf l s .env)
+  env-asks =
       let f = fit (l .channels) (l .env .keeper .look) (lengthsOf s) (k .lengths) in
       let o = order-is l (s .marks) (s .minima) (s .row) (k .order) in
       record {
-        env = record {
-          keeper = record { marks-fit = f .marks-is; minima-fit = f .minima-is; in-order = o .ring-is; room = omega (arith, k .room, k .some) };
-          row = o .row-is;
-          weighed = f .weights-is ∙ sym (f .row-is);
-        };
+        keeper = record { marks-fit = f .marks-is; minima-fit = f .minima-is; in-order = o .ring-is; room = omega (arith, k .room, k .some) };
+        row = o .row-is;
+        weighed = f .weights-is ∙ sym (f .row-is);
+      }
+
+  pub run-asks : Sanitized (l .channels) n audio → RunReady (s .weights) (l .env .keeper .look) (l .channels) n (movingOf l s) audio
+  run-asks clean =
+      let b = bounds-of l (k .set-up) in
+      let f = fit (l .channels) (l .env .keeper .look) (lengthsOf s) (k .lengths) in
+      record {
+        env = env-asks;
         room = k .room;
         some = b .some;
         most = b .most;
@@ -88,7 +96,8 @@ module _ (l : Limiter) (n : ℕ) (s : Stores) (audio : List Float) (k : KernelRe
         audio-fit = k .audio-fit;
         delay-fit = f .delay-is;
         detector-fit = f .detector-is;
-        place = o .place;
+        place = order-is l (s .marks) (s .minima) (s .row) (k .order) .place;
+        clean = clean;
       }
 
   -- silence of the same length is asked no more
@@ -102,6 +111,13 @@ module _ (l : Limiter) (n : ℕ) (s : Stores) (audio : List Float) (k : KernelRe
     short = k .short;
     audio-fit = length-replicate (length audio) Number.zero ∙ k .audio-fit;
   }
+
+  -- and it is sanitized
+  pub silent-clean : Sanitized (l .channels) n (replicate (length audio) Number.zero)
+  silent-clean c i h g =
+      let inside : c * runLength + i < length audio = omega (arith, k .audio-fit, k .short, bounds-of l (k .set-up) .most) in
+      let z = getD-replicate (length audio) (c * runLength + i) Number.zero nan inside in
+      ap finiteOrZero z ∙ sym z
 
   pub drained-few : l .drained + n ≤ 4128
   drained-few =

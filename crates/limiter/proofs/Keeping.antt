@@ -21,7 +21,7 @@ use Rattle.limiter.specs.Order.{prepared, inOrder}
 use Rattle.limiter.specs.Run.{movingOf, renderOf, drainOf, KernelReady}
 use Rattle.limiter.specs.declared.state.Limiter.{Limiter}
 use Rattle.limiter.proofs.Judge.{fit}
-use Rattle.limiter.proofs.Frames.{order-is, run-asks, silent-ready}
+use Rattle.limiter.proofs.Frames.{order-is, env-asks, silent-ready}
 
 -- ---- look stays, and the gain lies within 0 and 1
 pub record Held (before after : Enveloped) : Type 0 where
@@ -59,7 +59,7 @@ module _ (rules : Rules) (l : Limiter) (target : Float) (n : ℕ) (s : Stores) (
       (frames-kept rules (s .weights) (l .«release_coeff») (l .env .keeper .look) target (framesIn (l .channels) n audio) (movingOf l s))
 
   order-kept : EnvInOrder (s .weights) (moved .env)
-  order-kept = kept .order (order-of-ready (s .weights) (movingOf l s .env) (run-asks l n s audio k .env)) (k .room)
+  order-kept = kept .order (order-of-ready (s .weights) (movingOf l s .env) (env-asks l n s audio k)) (k .room)
 
   pub render-prepared : prepared (renderOf rules l target n s audio .limiter) ≡ true
   unfolding renderOf prepared

@@ -3,6 +3,7 @@
 ghost use mathlib.Core.Path.{_≡_};
 ghost use Prim.Native.Nat.{_+_};
 ghost use Rattle.frame.specs.Rules.{rulesOf};
+ghost use Rattle.frame.specs.Run.{Sanitized};
 ghost use Rattle.limiter.specs.Stores.{atEntry, atExit, atCall};
 ghost use Rattle.limiter.specs.Run.{movedOn, KernelReady, ranAt, renderOf, drainOf};
 use crate::state::Limiter;
@@ -38,7 +39,7 @@ impl Limiter {
         self
     }
 
-    // Renders n frames at a target, which the limiter keeps for drains.
+    // Renders n frames of sanitized samples at a target, which the limiter keeps for drains.
     pub fn render(
         self,
         format: Format,
@@ -53,6 +54,7 @@ impl Limiter {
         detector: &mut [f64],
     ) -> Limiter
         requires { ⌜ KernelReady self n (atCall delay marks minima weights row detector) (now audio) ⌝ }
+        requires { ⌜ Sanitized (self .channels) n (now audio) ⌝ }
         ensures { λ r. ⌜ ranAt r (atExit delay marks minima weights row detector) (now (audio .exit))
             ≡ renderOf (rulesOf (self .settings) format) self target n (atEntry delay marks minima weights row detector) (now (audio .entry)) ⌝ }
     {

@@ -1,24 +1,26 @@
 -- Frames of a call's audio through the limiter: gathered, rendered, scattered.
 use mathlib.Core.Path.{_≡_, refl, sym, ap, subst, _∙_}
 use mathlib.Core.Bool.{true}
-use mathlib.Core.List.{List}
+use mathlib.Core.List.{List, map}
 use Prim.Native.Nat.{ℕ, _+_, _*_, _≤_, _<_}
 use native.Mathlib.Omega.{arith}
 use lib.ListN.{length, length-map}
 use lib.Ieee.{Float, nan}
 use Rattle.arithmetic.specs.Number
 use Rattle.arithmetic.specs.Number.{one, within, largest}
+use Rattle.arithmetic.specs.Sanitize.{finiteOrZero}
 use Rattle.audio.specs.Planar.{framesAt}
-use Rattle.audio.specs.Format.{samplesOf}
+use Rattle.audio.specs.Format.{samplesOf, soundsOf}
 use Rattle.audio.specs.Inner.{PlacesCarried, Placed}
 use Rattle.audio.specs.declared.format.Format.{Format}
 use Rattle.audio.proofs.Planes.{frames-at-length, written-elsewhere}
-use Rattle.audio.proofs.Written.{size-small, gathered, placed-outputs}
+use Rattle.audio.proofs.Written.{size-small, gathered, gathered-clean, placed-outputs}
 use Rattle.detector.specs.Run.{runLength}
 use Rattle.keeper.specs.InOrder.{mostFrames}
 use Rattle.frame.specs.Rules.{Rules, rulesOf}
 use Rattle.frame.specs.Frame.{Framed}
-use Rattle.frame.specs.Run.{framesIn, writtenIn, runOf}
+use Rattle.frame.specs.Run.{framesIn, writtenIn, Sanitized, runOf}
+use Rattle.frame.proofs.Clean.{frames-clean}
 use Rattle.frame.proofs.Keeps.{frames-kept, frames-many}
 use Rattle.limiter.specs.Stores.{Stores, lengthsOf, lengthsFit}
 use Rattle.limiter.specs.Order
@@ -26,7 +28,7 @@ use Rattle.limiter.specs.Run.{movingOf, Ran, ranAt, renderOf, KernelReady}
 use Rattle.limiter.specs.declared.state.Limiter.{Limiter}
 use Rattle.limiter.proofs.Frames.{bounds-of}
 use Rattle.limiter.proofs.Keeping.{render-prepared, render-lengths, render-in-order}
-use Rattle.turns.specs.Block.{rendered, outputsOf}
+use Rattle.turns.specs.Block.{Rendered, rendered, outputsOf}
 use Rattle.turns.specs.Inner.{RunsReady, RunAsked, RunGiven}
 
 -- ---- the kernel's run, as frames in turn
@@ -83,29 +85,50 @@ pub settings-kept : (rules : Rules) (l : Limiter) (target : Float) (s : Stores) 
 unfolding rendered
 settings-kept rules l target s fs after e = ap (λ (z : Limiter). z .settings) e
 
+-- sanitized before, the frames come to the same
+rendered-clean : (rules : Rules) (l : Limiter) (target : Float) (s : Stores) (fs : List (List Float)) → rendered rules l s target (map (map finiteOrZero) fs) ≡ rendered rules l s target fs
+unfolding rendered
+rendered-clean rules l target s fs = rw (frames-clean rules (s .weights) (l .«release_coeff») (l .env .keeper .look) target fs (movingOf l s)) refl
+
 -- ---- gathered, rendered, scattered
+-- a gathered run is sanitized
+pub run-clean : (l : Limiter) (format : Format) (target : Float) (width first n : ℕ) (s : Stores) (bytes : List ℕ) (run₀ run : List Float) → RunAsked l format target width first n s bytes run₀
+    → PlacesCarried nan (l .channels) n width first (soundsOf format bytes) runLength 0 run₀ run → Sanitized (l .channels) n run
+run-clean l format target width first n s bytes run₀ run a g =
+    gathered-clean format (l .channels) n width first bytes run₀ run (a .lends .audio-fit) (audio-small l width (a .ready .set-up) (a .lends .short)) (a .inside) g
+
 module _ (l : Limiter) (format : Format) (target : Float) (width first n : ℕ) (s : Stores) (bytes : List ℕ) (run₀ run run' : List Float) (bytes' : List ℕ) (after : Limiter) (stores : Stores) where
   abbrev rules : Rules
   rules = rulesOf (l .settings) format
 
-  pub run-given : RunAsked l format target width first n s bytes run₀ → length run ≡ length run₀ → PlacesCarried nan (l .channels) n width first (samplesOf format bytes) runLength 0 run₀ run
+  -- its frames come to what the call's do
+  abbrev frames : List (List Float)
+  frames = framesAt nan width (l .channels) first n (samplesOf format bytes)
+
+  alike : PlacesCarried nan (l .channels) n width first (soundsOf format bytes) runLength 0 run₀ run → rendered rules l s target (framesIn (l .channels) n run) ≡ rendered rules l s target frames
+  alike g =
+      sym (rendered-clean rules l target s (framesIn (l .channels) n run))
+      ∙ ap (rendered rules l s target) (gathered format (l .channels) n width first bytes run₀ run g)
+      ∙ rendered-clean rules l target s frames
+
+  pub run-given : RunAsked l format target width first n s bytes run₀ → length run ≡ length run₀ → PlacesCarried nan (l .channels) n width first (soundsOf format bytes) runLength 0 run₀ run
       → ranAt after stores run' ≡ renderOf rules l target n s run → Placed format (l .channels) n width first (framesIn (l .channels) n run') bytes bytes' → RunGiven l format target width first n s bytes run₀ after stores bytes' run'
   run-given a m g r c =
-      let fs : framesIn (l .channels) n run ≡ framesAt nan width (l .channels) first n (samplesOf format bytes) = gathered format (l .channels) n width first bytes run₀ run g in
+      let same = alike g in
       let k = kernel-asks l n s run (a .ready) (a .some) (a .short) (m ∙ a .run-fit) in
       let e = r ∙ ran-as rules l target n s run in
       let many = shown-many rules l target s (framesIn (l .channels) n run) ∙ frames-at-length nan runLength (l .channels) 0 n run in
       let shown = rendered rules l s target (framesIn (l .channels) n run) .frames in
       record {
-        limiter-is = ap (λ (z : Ran). z .limiter) e ∙ ap (λ (z : List (List Float)). rendered rules l s target z .limiter) fs;
-        stores-are = ap (λ (z : Ran). z .stores) e ∙ ap (λ (z : List (List Float)). rendered rules l s target z .stores) fs;
+        limiter-is = ap (λ (z : Ran). z .limiter) e ∙ ap (λ (z : Rendered). z .limiter) same;
+        stores-are = ap (λ (z : Ran). z .stores) e ∙ ap (λ (z : Rendered). z .stores) same;
         audio-is =
-            subst (λ (z : List (List Float)). Placed format (l .channels) n width first (outputsOf (rendered rules l s target z .frames)) bytes bytes') fs
+            subst (λ (z : Rendered). Placed format (l .channels) n width first (outputsOf (z .frames)) bytes bytes') same
             (placed-outputs format (l .channels) n run (outputsOf shown) width first bytes bytes' (a .short) (length-map shown (λ (x : Framed). x .outputs) ∙ many) (run-room l run (a .ready .set-up) (m ∙ a .run-fit))
             (subst (λ (z : List Float). Placed format (l .channels) n width first (framesIn (l .channels) n z) bytes bytes') (ap (λ (z : Ran). z .audio) e) c));
         run-is =
             ap (λ (z : Ran). z .audio) e
-            ∙ ap (λ (z : List (List Float)). writtenIn (l .channels) n run (outputsOf (rendered rules l s target z .frames))) fs
-            ∙ written-elsewhere nan runLength (l .channels) n run run₀ (outputsOf (rendered rules l s target (framesAt nan width (l .channels) first n (samplesOf format bytes)) .frames)) (a .short) m (λ p h. g .elsewhere p (λ c q t. omega (arith, h c q (omega (arith, t)))));
+            ∙ ap (λ (z : Rendered). writtenIn (l .channels) n run (outputsOf (z .frames))) same
+            ∙ written-elsewhere nan runLength (l .channels) n run run₀ (outputsOf (rendered rules l s target frames .frames)) (a .short) m (λ p h. g .elsewhere p (λ c q t. omega (arith, h c q (omega (arith, t)))));
         still = λ left room. subst (λ (z : Ran). RunsReady (z .limiter) left (z .stores)) (sym e) (still-ready rules l target n s run k (a .unit) left room);
       }

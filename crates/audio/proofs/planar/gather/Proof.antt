@@ -8,7 +8,7 @@ use borrow.Author.Needs.{needs}
 use lib.ListN.{length}
 use lib.Ieee.{nan}
 use Rattle.arithmetic.specs.Number.{largest}
-use Rattle.audio.specs.Format.{placesOf, samplesOf}
+use Rattle.audio.specs.Format.{placesOf, soundsOf}
 use Rattle.audio.specs.Inner.{PlacesCopied, PlacesCarried}
 use Rattle.audio.proofs.Carry.{places-end, carried-none, carried-more}
 use Rattle.audio.proofs.Places.{places-fit}
@@ -17,7 +17,7 @@ use Rattle.audio.proofs.planar.gather.Statement.{statement}
 use Rattle.audio.proofs.planar.gather.Tie as tie
 
 abbrev Inv-loop : tie.InvT-loop
-Inv-loop format channels n width first bytes run₀ c₀ run c = (c ≤ channels) × (length run ≡ 256) × PlacesCarried nan c n width first (samplesOf format bytes) 32 0 run₀ run
+Inv-loop format channels n width first bytes run₀ c₀ run c = (c ≤ channels) × (length run ≡ 256) × PlacesCarried nan c n width first (soundsOf format bytes) 32 0 run₀ run
 
 abbrev μ-loop : tie.MeasureT-loop
 μ-loop format channels n width first bytes run₀ c₀ run c = channels - c
@@ -26,7 +26,7 @@ loop-holds : tie.Need-loop-holds Inv-loop μ-loop
 loop-holds c =
     let s = c .before .before in
     let a = s .args in
-    (omega arith, s .pre .1 .1 .1 .1 .1, carried-none (a .n) (a .width) (a .first) (samplesOf (a .format) (now (a .bytes))) 32 0 (omega (arith, s .pre .1 .1 .1 .1 .0)) (now (a .run)))
+    (omega arith, s .pre .1 .1 .1 .1 .1, carried-none (a .n) (a .width) (a .first) (soundsOf (a .format) (now (a .bytes))) 32 0 (omega (arith, s .pre .1 .1 .1 .1 .0)) (now (a .run)))
 
 -- the channel's places lie in the bytes
 inside : (c : tie.In-loop Inv-loop μ-loop)
@@ -67,8 +67,8 @@ loop-again c =
     let after = o .read-channel .last .1 .1 .1 .1 .1 .0 in (
       omega arith,
       o .read-channel .kept .1 .1 .1 .1 .1 .0 ∙ l .loop .inv .1,
-      carried-more (a .n) (a .width) (a .first) (samplesOf (a .format) (now (a .bytes))) 32 0 (omega (arith, s .pre .1 .1 .1 .1 .0)) (now (a .run)) k (l .loop .run) after (l .loop .inv .2)
-          (subst (λ (to : ℕ). PlacesCopied nan (a .n) (k * a .width + a .first) (samplesOf (a .format) (now (a .bytes))) to (l .loop .run) after) (sym (add-zero (k * 32))) (o .read-channel .ensures)),
+      carried-more (a .n) (a .width) (a .first) (soundsOf (a .format) (now (a .bytes))) 32 0 (omega (arith, s .pre .1 .1 .1 .1 .0)) (now (a .run)) k (l .loop .run) after (l .loop .inv .2)
+          (subst (λ (to : ℕ). PlacesCopied nan (a .n) (k * a .width + a .first) (soundsOf (a .format) (now (a .bytes))) to (l .loop .run) after) (sym (add-zero (k * 32))) (o .read-channel .ensures)),
     )
 
 same-length : tie.Need-same-length Inv-loop μ-loop
@@ -79,7 +79,7 @@ returns c =
     let l = c .before in
     let a = c .before .before .before .before .args in
     let e : l .loop .c ≡ a .channels = omega arith in
-    subst (λ (k : ℕ). PlacesCarried nan k (a .n) (a .width) (a .first) (samplesOf (a .format) (now (a .bytes))) 32 0 (now (a .run)) (l .loop .run)) e (l .loop .inv .2)
+    subst (λ (k : ℕ). PlacesCarried nan k (a .n) (a .width) (a .first) (soundsOf (a .format) (now (a .bytes))) 32 0 (now (a .run)) (l .loop .run)) e (l .loop .inv .2)
 
 pub gather-spec : {M : Type 1} → statement M
 gather-spec =

@@ -1,21 +1,23 @@
 -- `all_outputs`: the channels passed, and what the rest comes to.
-use mathlib.Core.Path.{_≡_, _∙_}
+use mathlib.Core.Path.{_≡_, refl, _∙_}
 use Prim.Native.Nat.{_+_, _-_, _*_, _≤_}
 use native.Mathlib.Omega.{arith}
 use borrow.Author.Needs.{needs}
-use lib.ListN.{length}
+use lib.ListN.{length, drop}
 use denote.Ref.{now}
+use Rattle.detector.specs.Run.{runLength}
 use Rattle.frame.specs.Rules.{leavesBy}
 use Rattle.envelope.specs.Row.{posAfter}
 use Rattle.frame.specs.Passes.{outputsPass}
-use Rattle.frame.proofs.Channels.{places-end, outputsSince, outputs-start, outputs-end, outputs-turn, pos-turn}
+use Rattle.frame.proofs.Channels.{places-end, outputsSince, outputs-start, outputs-end, outputs-turn, ahead-turn, pos-turn}
+use Rattle.frame.proofs.Clean.{channel-clean}
 use Rattle.frame.proofs.outputs.all_outputs.Statement.{statement}
 use Rattle.frame.proofs.outputs.all_outputs.Tie as tie
 
 abbrev Inv-loop : tie.InvT-loop
 Inv-loop format channels look pos n gains delay₀ audio₀ next₀ c₀ delay audio next c =
     (c ≤ channels) × (length delay ≡ channels * look) × (length audio ≡ 256) × (outputsSince (leavesBy format) look pos gains channels n c delay audio ≡ outputsPass (leavesBy format) look pos gains channels n delay₀ audio₀)
-    × (1 ≤ c → next ≡ posAfter look pos n)
+    × (1 ≤ c → next ≡ posAfter look pos n) × (drop (c * runLength) audio ≡ drop (c * runLength) audio₀)
 
 abbrev μ-loop : tie.MeasureT-loop
 μ-loop format channels look pos n gains delay₀ audio₀ next₀ c₀ delay audio next c = channels - c
@@ -23,7 +25,7 @@ abbrev μ-loop : tie.MeasureT-loop
 loop-holds : tie.Need-loop-holds Inv-loop μ-loop
 loop-holds c =
     let a = c .before .before .before .args in
-    (search needs, search needs, search needs, outputs-start (leavesBy (a .format)) (a .look) (a .pos) (now (a .gains)) (a .channels) (a .n) (now (a .delay)) (now (a .audio)), λ k. absurd (omega arith))
+    (search needs, search needs, search needs, outputs-start (leavesBy (a .format)) (a .look) (a .pos) (now (a .gains)) (a .channels) (a .n) (now (a .delay)) (now (a .audio)), λ k. absurd (omega arith), refl)
 
 -- the channel's line lies in the delay
 inside : (c : tie.In-loop Inv-loop μ-loop) → c .before .loop .c * c .before .before .before .before .before .args .look + c .before .before .before .before .before .args .look ≤ length (c .before .loop .delay)
@@ -69,7 +71,12 @@ part-channel-outputs-end-2 : tie.Need-part-channel-outputs-end-2 Inv-loop μ-loo
 part-channel-outputs-end-2 c = search needs
 
 channel-outputs-requires : tie.Need-channel-outputs-requires Inv-loop μ-loop
-channel-outputs-requires c κs = search needs
+channel-outputs-requires c κs =
+    let t = c .before .before in
+    let l = t .before .loop in
+    let s = t .before .before .before .before .before in
+    let n = s .args .n in
+    (search needs, (search needs, channel-clean (s .args .channels) n (l .c) (l .c * 32 + n - l .c * 32) (now (s .args .audio)) (l .audio) (s .pre .1 .1 .1 .1 .1 .1 .1) (t .loop-test .taken) (omega arith) (l .inv .5)))
 
 add-c : tie.Need-add-c Inv-loop μ-loop
 add-c c = search needs
@@ -91,6 +98,7 @@ loop-again c =
           ∙ l .loop .inv .3,
       λ k. pos-turn (a .look) (a .pos) (a .channels) (a .n) (l .loop .c) (l .loop .c * a .look + a .look - l .loop .c * a .look) (l .loop .c * 32 + a .n - l .loop .c * 32) (l .loop .delay) (l .loop .audio)
           (o .channel-outputs .result) (omega arith) (l .loop .inv .1) (omega arith) (omega arith) (omega arith) (o .channel-outputs .ensures .1),
+      ahead-turn (a .n) (l .loop .c) (l .loop .c * 32 + a .n - l .loop .c * 32) (now (a .audio)) (l .loop .audio) (o .channel-outputs .last .1 .1 .1 .1 .0) (omega arith) (omega arith) (omega arith) (o .channel-outputs .kept .1 .1 .1 .1 .0) (l .loop .inv .5),
     )
 
 same-length : tie.Need-same-length Inv-loop μ-loop

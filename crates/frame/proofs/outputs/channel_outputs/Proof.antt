@@ -26,7 +26,7 @@ returns c =
     let e = q .before .before .before .before .before .before in
     let s = e .before .before .before .before .before .before in
     let a = s .args in (
-      outputs-found (leavesBy (a .format)) (length (now (a .line))) (a .pos) (now (a .gains)) (now (a .line)) (now (a .samples)) (exchangedAt (e .exchange .last .1 .1 .0) (e .exchange .last .0)) (q .products .last .1 .1 .0) (s .pre .1)
+      outputs-found (leavesBy (a .format)) (length (now (a .line))) (a .pos) (now (a .gains)) (now (a .line)) (now (a .samples)) (exchangedAt (e .exchange .last .1 .1 .0) (e .exchange .last .0)) (q .products .last .1 .1 .0) (s .pre .1 .0)
           (e .exchange .ensures .0) (q .products .ensures),
       e .exchange .ensures .1,
     )

@@ -1,21 +1,23 @@
 -- `exchange`: the samples passed, and what the rest comes to, a straight stretch at a time.
 use mathlib.Core.Path.{_≡_, refl, ap, _∙_}
+use mathlib.Core.List.{map}
 use Prim.Native.Nat.{_+_, _-_, _≤_, _<_}
 use native.Mathlib.Omega.{arith}
 use native.Mathlib.Nat.{sub-zero}
 use borrow.Author.Needs.{needs}
-use lib.ListN.{length}
+use lib.ListN.{length, drop}
 use denote.Ref.{now}
+use Rattle.arithmetic.specs.Sanitize.{finiteOrZero}
 use Rattle.envelope.specs.Row.{posAfter}
 use Rattle.frame.specs.Passes.{exchangeOf}
-use Rattle.frame.proofs.Stretch.{exchangeFrom, exchange-turn, exchange-done, pos-after-stretch, pos-next, pos-done}
+use Rattle.frame.proofs.Stretch.{exchangeFrom, exchange-turn, clean-turn, exchange-done, pos-after-stretch, pos-next, pos-done}
 use Rattle.frame.proofs.outputs.exchange.Statement.{statement}
 use Rattle.frame.proofs.outputs.exchange.Tie as tie
 
 abbrev Inv-loop : tie.InvT-loop
 Inv-loop line₀ pos samples₀ look n p₀ i₀ line samples p i =
     (i ≤ n) × (p < look) × (length line ≡ look) × (length samples ≡ n) × (exchangeFrom look p line i samples ≡ exchangeOf look pos line₀ samples₀)
-    × (posAfter look p (n - i) ≡ posAfter look pos n)
+    × (posAfter look p (n - i) ≡ posAfter look pos n) × (map finiteOrZero (drop i samples) ≡ drop i samples)
 
 abbrev μ-loop : tie.MeasureT-loop
 μ-loop line₀ pos samples₀ look n p₀ i₀ line samples p i = n - i
@@ -23,7 +25,7 @@ abbrev μ-loop : tie.MeasureT-loop
 loop-holds : tie.Need-loop-holds Inv-loop μ-loop
 loop-holds c =
     let a = c .before .before .args in
-    (search needs, search needs, refl, refl, refl, ap (posAfter (length (now (a .line))) (a .pos)) (sub-zero (length (now (a .samples)))))
+    (search needs, search needs, refl, refl, refl, ap (posAfter (length (now (a .line))) (a .pos)) (sub-zero (length (now (a .samples)))), c .before .before .pre .1)
 
 sub-shorter : tie.Need-sub-shorter Inv-loop μ-loop
 sub-shorter c = search needs
@@ -87,15 +89,18 @@ loop-again c =
     let k = h .shorter .result in
     let line-fits : l .loop .p + k ≤ look = omega arith in
     let run-fits : l .loop .i + k ≤ n = omega arith in
+    let inside : l .loop .i + k ≤ length (l .loop .samples) = rw (l .loop .inv .3) run-fits in
     let next = pos-after-stretch look (l .loop .p) k (c .next-pos .result) (omega arith) line-fits (c .next-pos .ensures .0) in (
       run-fits,
       c .next-pos .ensures .1,
       search needs,
       search needs,
-      exchange-turn look (l .loop .p) (l .loop .i) k (l .loop .line) (l .loop .samples) (w .swap-stretch .last .0) (w .swap-stretch .last .1 .0) (l .loop .inv .2) line-fits (rw (l .loop .inv .3) run-fits)
-          (w .swap-stretch .ensures .0) (w .swap-stretch .ensures .1) (c .next-pos .result) next
+      exchange-turn look (l .loop .p) (l .loop .i) k (l .loop .line) (l .loop .samples) (w .swap-stretch .last .0) (w .swap-stretch .last .1 .0) (l .loop .inv .2) line-fits inside
+          (w .swap-stretch .ensures .0) (l .loop .inv .6) (w .swap-stretch .ensures .1) (c .next-pos .result) next
           ∙ l .loop .inv .4,
       pos-next look (l .loop .p) k n (l .loop .i) (c .next-pos .result) run-fits next ∙ l .loop .inv .5,
+      clean-turn look (l .loop .p) (l .loop .i) k (l .loop .line) (l .loop .samples) (w .swap-stretch .last .0) (w .swap-stretch .last .1 .0) (l .loop .inv .2) line-fits inside
+          (w .swap-stretch .ensures .0) (l .loop .inv .6) (w .swap-stretch .ensures .1) (c .next-pos .result) next,
     )
 
 same-length : tie.Need-same-length Inv-loop μ-loop

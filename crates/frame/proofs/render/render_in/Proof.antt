@@ -43,7 +43,7 @@ all-outputs-requires c κs =
     let s = p .before .before .before .before .before .before .before .before .before .before .before .before in
     let r = s .pre .0 in
     let many = g .gain-steps .kept .1 .1 .1 .1 .1 .1 .0 ∙ q .required-gains .kept .1 .0 ∙ p .all-peaks .kept .1 .1 .1 .1 .1 .1 .0 ∙ so-many s in
-    (r .some, (r .most, (r .short, (r .place, (r .audio-fit, (r .delay-fit, many))))))
+    (r .some, (r .most, (r .short, (r .place, (r .audio-fit, (r .delay-fit, (many, r .clean)))))))
 
 same-length : tie.Need-same-length
 same-length c = search needs

@@ -4,7 +4,7 @@ use native.Mathlib.Omega.{arith}
 use denote.Ref.{now}
 use Rattle.limiter.specs.Stores.{storesAt}
 use Rattle.limiter.proofs.Frames.{bounds-of}
-use Rattle.turns.proofs.Rendering.{kernel-asks, run-given}
+use Rattle.turns.proofs.Rendering.{kernel-asks, run-clean, run-given}
 use Rattle.turns.proofs.turn.render_frames.Statement.{statement}
 use Rattle.turns.proofs.turn.render_frames.Tie as tie
 
@@ -18,7 +18,11 @@ render-requires : tie.Need-render-requires
 render-requires c κs =
     let a = c .before .before .before .before .before .before .before .before .before .before .before .before .before .before .before .before .before .before .before .args in
     let p = c .before .before .before .before .before .before .before .before .before .before .before .before .before .before .before .before .before .before .before .pre in
-    kernel-asks (a .limiter) (a .n) (storesAt (now (a .delay)) (now (a .marks)) (now (a .minima)) (now (a .weights)) (now (a .row)) (now (a .detector))) (c .before .before .before .before .before .before .before .before .gather .last .1 .1 .1 .1 .1 .1 .0) (p .ready) (p .some) (p .short) (c .before .before .before .before .before .before .before .before .gather .kept .1 .1 .1 .1 .1 .1 .0 ∙ p .run-fit)
+    let g = c .before .before .before .before .before .before .before .before .gather in
+    let stores = storesAt (now (a .delay)) (now (a .marks)) (now (a .minima)) (now (a .weights)) (now (a .row)) (now (a .detector)) in (
+      kernel-asks (a .limiter) (a .n) stores (g .last .1 .1 .1 .1 .1 .1 .0) (p .ready) (p .some) (p .short) (g .kept .1 .1 .1 .1 .1 .1 .0 ∙ p .run-fit),
+      run-clean (a .limiter) (a .format) (a .target) (a .width) (a .first) (a .n) stores (now (a .audio)) (now (a .run)) (g .last .1 .1 .1 .1 .1 .1 .0) p (g .ensures),
+    )
 
 scatter-requires : tie.Need-scatter-requires
 scatter-requires c κs =

@@ -7,9 +7,10 @@ use mathlib.Core.List.{List}
 use lib.Ieee.{Float, ofBits}
 use denote.Ref.{now}
 use Rattle.frame.specs.Rules.{rulesOf}
+use Rattle.frame.specs.Run.{Sanitized}
 use Rattle.limiter.specs.Stores.{Stores, atCall}
 use Rattle.limiter.specs.Run.{KernelReady, Ran, drainedTo, renderOf, drainOf}
-use Rattle.limiter.proofs.Frames.{silent-ready, drained-few}
+use Rattle.limiter.proofs.Frames.{silent-ready, silent-clean, drained-few}
 use Rattle.limiter.proofs.state.Limiter.drain.Statement.{statement}
 use Rattle.limiter.proofs.state.Limiter.drain.Tie as tie
 
@@ -34,7 +35,10 @@ render-requires c κs =
     let f = c .before .before .before .before .before .before .before .before .before in
     let s = f .before .before .before .before .before .before .before .before .before in
     let a = s .args in
-    subst (λ (l : List Float). KernelReady (a .self) (a .n) (lent s) l) (sym (f .fill .ensures)) (silent-ready (a .self) (a .n) (lent s) (now (a .audio)) (s .pre))
+    let filled = sym (f .fill .ensures) in (
+      subst (λ (l : List Float). KernelReady (a .self) (a .n) (lent s) l) filled (silent-ready (a .self) (a .n) (lent s) (now (a .audio)) (s .pre)),
+      subst (λ (l : List Float). Sanitized (a .self .channels) (a .n) l) filled (silent-clean (a .self) (a .n) (lent s) (now (a .audio)) (s .pre)),
+    )
 
 drained-to-requires : tie.Need-drained-to-requires
 drained-to-requires c κs = search needs

@@ -13,7 +13,7 @@ render-run-requires : tie.Need-render-run-requires
 render-run-requires c κs =
     let s = c .before .before .before .before .before .before .before .before .before .before .before .before .before .before .before in
     let a = s .args in
-    run-asks (a .self) (a .n) (atCall (a .delay) (a .marks) (a .minima) (a .weights) (a .row) (a .detector)) (now (a .audio)) (s .pre)
+    run-asks (a .self) (a .n) (atCall (a .delay) (a .marks) (a .minima) (a .weights) (a .row) (a .detector)) (now (a .audio)) (s .pre .0) (s .pre .1)
 
 moved-on-requires : tie.Need-moved-on-requires
 moved-on-requires c κs = search needs
