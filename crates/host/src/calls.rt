@@ -7,7 +7,7 @@ ghost use lib.Dec.{eqb};
 ghost use lib.Ieee.{Float};
 ghost use lib.ListN.{length};
 ghost use Rattle.arithmetic.specs.Number.{bits};
-ghost use Rattle.arithmetic.specs.Reply.{refused, count};
+ghost use Rattle.arithmetic.specs.Reply.{finished, refused, count};
 ghost use Rattle.settings.specs.Settings.{settingsOf, processSpec};
 ghost use Rattle.settings.specs.Derived.{lookOf};
 ghost use Rattle.limiter.specs.Stores.{Stores, atEntry, atExit};
@@ -15,9 +15,12 @@ ghost use Rattle.turns.specs.Machine.{Machine};
 ghost use Rattle.turns.specs.Events.{eventsOf};
 ghost use Rattle.turns.specs.Block.{blockOf};
 ghost use Rattle.turns.specs.Drain.{drainOf};
+ghost use Rattle.bank.specs.declared.smoother_bank.SmootherBank.{SmootherBank};
+ghost use Rattle.driver.specs.Answers.{answerReply};
+ghost use Rattle.driver.specs.Parts.{shownOf};
 ghost use Rattle.driver.specs.Calls.{resetOf, gainStep, fourAtEntry, fourAtExit};
 ghost use Rattle.state_bytes.specs.State.{stateBytes, stateOut};
-ghost use Rattle.host.specs.Answer.{replyWords, wordsOf, answered};
+ghost use Rattle.host.specs.Answer.{replyWords, wordsOf, answered, answeredBy};
 ghost use Rattle.host.specs.Host.{returnedAt, calledBy, returnedWith, audioBy, parameterBy, readAt, valueBy, capOf, setupBy, wholeNeeded};
 use crate::answer::ReplyWords;
 use crate::answer::of_answer;
@@ -30,11 +33,21 @@ use crate::answer::pair;
 use crate::answer::write_answer;
 use arithmetic::pattern::from_bits;
 use audio::format::Format;
+use audio::format::size_of;
+use driver::answers::Answer;
+use driver::answers::Refusal;
+use driver::process::judge_block;
 use driver::state::KernelProcessor;
 use settings::LimiterSettings;
 use settings::ProcessSpec;
 use settings::memory::Cap;
+use state_bytes::block::RenderedBlock;
+use state_bytes::block::render_block;
+use state_bytes::read::is_state;
+use state_bytes::read::limiter_in;
 use state_bytes::read::read_state;
+use state_bytes::read::threshold_in;
+use state_bytes::write::write_parts;
 use state_bytes::write::write_state;
 
 // The look of a lookahead, in bits, at a rate.
@@ -70,6 +83,30 @@ fn leave(state: &mut [u8], buffer: &mut [u64], t: ReplyWords, p: KernelProcessor
         return t.number;
     }
     write_state(state, p);
+    0
+}
+
+// A refused call's words; nothing else is written.
+fn refuse(buffer: &mut [u64], told: Answer) -> u32
+    ensures { λ r. ⌜ r ≡ answerReply told .number ⌝ }
+    ensures { λ _. ⌜ now (buffer .exit) ≡ answeredBy (now (buffer .entry)) (answerReply told) ⌝ }
+{
+    let t = of_answer(told);
+    write_answer(buffer, t);
+    t.number
+}
+
+// A finished block's words, and the state that it leaves.
+fn finish(state: &mut [u8], buffer: &mut [u64], done: RenderedBlock) -> u32
+    requires { ⌜ length (now state) ≡ stateBytes ⌝ }
+    ensures { λ r. ⌜ r ≡ 0 ⌝ }
+    ensures { λ _. ⌜ now (buffer .exit) ≡ answeredBy (now (buffer .entry)) (finished []) ⌝ }
+    ensures { λ _. ⌜ ((b : SmootherBank) → shownOf b ≡ done .threshold → now (state .exit) ≡ stateOut (record { limiter = done .limiter; bank = b })) ⌝ }
+{
+    let limiter = done.limiter;
+    let t = done.threshold;
+    write_answer(buffer, pair(0, 0, 0));
+    write_parts(state, limiter, t);
     0
 }
 
@@ -179,8 +216,31 @@ pub extern "C" fn daggeryuzu_process(
         ≡ audioBy (λ (m : Machine) (bytes : List ℕ). blockOf Format.F64 m position frames (eventsOf (now (events .entry))) bytes)
         (now (answer .entry)) (now (state .entry)) (atEntry delay marks minima weights row detector) (now (audio .entry)) ⌝ }
 {
-    let p = read_state(state);
-    let done = p.process(
+    if !is_state(state) {
+        return refuse(answer, Answer::Refused(Refusal::NotSetUp));
+    }
+    let l = limiter_in(state);
+    let t = threshold_in(state);
+    let told = judge_block(
+        l,
+        t,
+        position,
+        frames,
+        events,
+        size_of(Format::F64, audio),
+        delay,
+        marks,
+        minima,
+        weights,
+        row,
+        detector,
+    );
+    if !told.is_finished() {
+        return refuse(answer, told);
+    }
+    let done = render_block(
+        l,
+        t,
         Format::F64,
         position,
         frames,
@@ -193,9 +253,7 @@ pub extern "C" fn daggeryuzu_process(
         row,
         detector,
     );
-    let told = done.answer;
-    let next = done.processor;
-    leave(state, answer, of_answer(told), next)
+    finish(state, answer, done)
 }
 
 // A drain of so many frames a channel, planar: how many it wrote, and whether the tail is done.

@@ -8,3 +8,4 @@ pub mod Finished
 pub mod Banks
 pub mod Kept
 pub mod Wrong
+pub mod Shows

@@ -1,40 +1,97 @@
 -- The state's layout: the room to grow, what is read, and the parts that are stored one after the other.
 use mathlib.Core.Path.{_≡_, refl, sym, ap, _∙_}
 use mathlib.Core.Logic.{_≢_}
-use mathlib.Core.Bool.{true, false, cond, _&&_}
-use mathlib.Core.List.{List, [], _∷_, _++_, append-assoc, append-nil}
-use Prim.Native.Nat.{ℕ, suc, _+_, _-_, _*_, _≤_, _<_}
+use mathlib.Core.Bool.{Bool, true, false, cond, _&&_}
+use mathlib.Core.List.{List, [], _∷_, _++_, map, append-assoc, append-nil}
+use Prim.Native.Nat.{ℕ, zero, suc, _+_, _-_, _*_, _≤_, _<_}
+use native.Mathlib.Numerals.{add-one}
 use native.Mathlib.Omega.{arith}
 use lib.Dec.{eqb}
-use lib.ListN.{length, getD, take, drop, replicate, length-append}
-use lib.Seq.{take-all, take-at, drop-drop, length-take-le}
-use borrow.Author.Tests.{eq-eqb, ne-eqb}
-use Rattle.audio.specs.Bytes.{bytesOf, joined, wordsIn, bytesOut}
+use lib.ListN.{length, getD, take, drop, replicate, length-append, drop-of-length-le, take-append-drop}
+use lib.Seq.{take-all, take-at, drop-drop, drop-cons, length-take-le}
+use borrow.Author.Tests.{eqb-true, eq-eqb, ne-eqb}
+use Rattle.arithmetic.proofs.Order.{and-true, same-test}
+use Rattle.audio.specs.Bytes.{wordOf, bytesOf, cut, joined, wordsIn, bytesOut}
 use Rattle.audio.specs.Inner.{put}
-use Rattle.audio.proofs.Numbers.{put-length, out-length}
+use Rattle.audio.proofs.Numbers.{cut-at, put-length, out-length}
 use Rattle.limiter.specs.State.{notSetUp}
 use Rattle.limiter.specs.Stores.{Stores, storesAt}
-use Rattle.bank.specs.Bank.{slotAt, unset}
+use Rattle.limiter.specs.declared.state.Limiter.{Limiter}
+use Rattle.bank.specs.Bank.{unset}
+use Rattle.bank.specs.declared.smoother_bank.SmootherBank.{SmootherBank}
 use Rattle.bank.specs.Words.{smootherOut}
 use Rattle.turns.specs.Machine.{Machine, machineOf}
 use Rattle.driver.specs.Answers.{machineAt}
+use Rattle.driver.specs.Parts.{shownOf, bankWith}
 use Rattle.driver.specs.declared.state.KernelProcessor.{KernelProcessor}
-use Rattle.state_bytes.specs.State.{layout, stateWords, stateBytes, zerosAt, holdsState, isState, stateIn, limiterOut, wordsOut, never, processorIn, stateOut}
+use Rattle.driver.specs.declared.state.Threshold.{Threshold}
+use Rattle.state_bytes.specs.State.{layout, stateWords, stateBytes, zerosAt, holdsState, isState, limiterIn, bankIn, stateIn, limiterOut, wordsOut, never, processorIn, stateOut}
+
+and-assoc : (a b c : Bool) → ((a && b) && c) ≡ (a && (b && c))
+and-assoc true b c = refl
+and-assoc false b c = refl
+
+-- ---- a word in its place
+word-mapped : (places : List (List ℕ)) (k : ℕ) → getD (map wordOf places) k 0 ≡ wordOf (getD places k [])
+unfolding wordOf
+word-mapped [] k = refl
+word-mapped (p ∷ places) zero = refl
+word-mapped (p ∷ places) (suc k) = word-mapped places k
+
+pub word-in : (bytes : List ℕ) (n k : ℕ) → k < n → wordOf (take 8 (drop (8 * k) bytes)) ≡ getD (wordsIn 8 n bytes) k 0
+word-in bytes n k h = sym (word-mapped (cut 8 n bytes) k ∙ ap wordOf (cut-at 8 n k bytes [] h))
 
 -- ---- the room to grow
-zeros-here : (ws : List ℕ) (i n : ℕ) → i < n → zerosAt ws i (n - i) ≡ (eqb (getD ws i 0) 0 && zerosAt ws (i + 1) (n - (i + 1)))
+abbrev pub allZero : List ℕ → Bool
+allZero [] = true
+allZero (b ∷ bs) = eqb b 0 && allZero bs
+
+zero-append : (a b : List ℕ) → allZero (a ++ b) ≡ (allZero a && allZero b)
+zero-append [] b = refl
+zero-append (x ∷ a) b = rw (zero-append a b) (sym (and-assoc (eqb x 0) (allZero a) (allZero b)))
+
+-- a word is 0 where its bytes are
+zero-word : (bs : List ℕ) → eqb (wordOf bs) 0 ≡ allZero bs
+unfolding wordOf
+zero-word [] = refl
+zero-word (b ∷ bs) =
+    same-test (eqb (b + 256 * wordOf bs) 0) (eqb b 0 && eqb (wordOf bs) 0)
+    (λ h. let e = eqb-true (b + 256 * wordOf bs) 0 h in rw (eq-eqb b 0 (omega (arith, e)), eq-eqb (wordOf bs) 0 (omega (arith, e))) refl)
+    (λ h. let k = and-true (eqb b 0) (eqb (wordOf bs) 0) h in eq-eqb (b + 256 * wordOf bs) 0 (omega (arith, eqb-true b 0 (k .0), eqb-true (wordOf bs) 0 (k .1))))
+    ∙ ap (λ (t : Bool). eqb b 0 && t) (zero-word bs)
+
+zero-words : (bytes : List ℕ) (n k : ℕ) → length bytes ≡ stateBytes → k + n ≡ stateWords → allZero (drop (8 * k) bytes) ≡ zerosAt (wordsIn 8 stateWords bytes) k n
 unfolding zerosAt
-zeros-here ws i n h = let e : n - i ≡ suc (n - (i + 1)) = omega arith in rw e refl
+zero-words bytes zero k l e = let past : length bytes ≤ 8 * k = omega (arith, l, e) in rw (drop-of-length-le bytes {i = 8 * k} past) refl
+zero-words bytes (suc n) k l e =
+    let d = drop (8 * k) bytes in
+    let next : 8 * k + 8 ≡ 8 * (k + 1) = omega arith in
+    ap allZero (sym (take-append-drop 8 d))
+    ∙ zero-append (take 8 d) (drop 8 d)
+    ∙ ap (λ (t : Bool). t && allZero (drop 8 d)) (sym (zero-word (take 8 d)) ∙ ap (λ (w : ℕ). eqb w 0) (word-in bytes stateWords k (omega (arith, e))))
+    ∙ ap (λ (t : Bool). eqb (getD (wordsIn 8 stateWords bytes) k 0) 0 && t) (ap allZero (drop-drop 8 (8 * k) bytes ∙ ap (λ (i : ℕ). drop i bytes) next) ∙ zero-words bytes n (k + 1) l (omega (arith, e)))
 
-pub zeros-more : (ws : List ℕ) (i n : ℕ) → i < n → getD ws i 0 ≡ 0 → zerosAt ws (i + 1) (n - (i + 1)) ≡ zerosAt ws i (n - i)
-zeros-more ws i n h z = sym (zeros-here ws i n h ∙ rw (eq-eqb (getD ws i 0) 0 z) refl)
+-- as the code reads it: byte by byte, from word 34 on
+module _ (bytes : List ℕ) (l : length bytes ≡ stateBytes) (i : ℕ) (p : Bool) (e : p && allZero (drop i bytes) ≡ allZero (drop 272 bytes)) where
+  pub zeros-more : i < stateBytes → (p && eqb (getD bytes i 0) 0) && allZero (drop (i + 1) bytes) ≡ allZero (drop 272 bytes)
+  zeros-more h = go p e
+    where
+      split : drop i bytes ≡ getD bytes i 0 ∷ drop (i + 1) bytes
+      split = rw (add-one i) (drop-cons bytes i 0 (omega (arith, l)))
 
-pub zeros-no : (ws : List ℕ) (i n : ℕ) → i < n → getD ws i 0 ≢ 0 → zerosAt ws i (n - i) ≡ false
-zeros-no ws i n h z = zeros-here ws i n h ∙ rw (ne-eqb (getD ws i 0) 0 z) refl
+      go : (p : Bool) → p && allZero (drop i bytes) ≡ allZero (drop 272 bytes) → (p && eqb (getD bytes i 0) 0) && allZero (drop (i + 1) bytes) ≡ allZero (drop 272 bytes)
+      go true e = rw split at e
+      go false e = e
 
-pub zeros-done : (ws : List ℕ) (i n : ℕ) → n ≤ i → zerosAt ws i (n - i) ≡ true
-unfolding zerosAt
-zeros-done ws i n h = let e : n - i ≡ 0 = omega arith in rw e refl
+  pub zeros-done : stateBytes ≤ i → p ≡ zerosAt (wordsIn 8 stateWords bytes) 34 30
+  zeros-done h = go p e ∙ zero-words bytes 30 34 l refl
+    where
+      past : length bytes ≤ i
+      past = omega (arith, l)
+
+      go : (p : Bool) → p && allZero (drop i bytes) ≡ allZero (drop 272 bytes) → p ≡ allZero (drop 272 bytes)
+      go true e = rw (drop-of-length-le bytes {i = i} past) at e
+      go false e = e
 
 -- ---- reading
 -- by what it holds with any stores
@@ -42,17 +99,34 @@ pub never-is : (p : KernelProcessor) → ((stores : Stores) → machineAt p stor
 never-is p h = ap (λ (m : Machine). record { limiter = m .limiter; bank = m .bank }) (h (storesAt [] [] [] [] [] []))
 
 module _ (bytes : List ℕ) where
-  pub read-short : length bytes ≢ stateBytes → processorIn bytes ≡ never
-  unfolding processorIn isState
-  read-short h = rw (ne-eqb (length bytes) stateBytes h) refl
+  pub is-short : length bytes ≢ stateBytes → false ≡ isState bytes
+  unfolding isState
+  is-short h = sym (rw (ne-eqb (length bytes) stateBytes h) refl)
+
+  pub is-held : length bytes ≡ stateBytes → (r : Bool) → r ≡ holdsState (wordsIn 8 stateWords bytes) → r ≡ isState bytes
+  unfolding isState
+  is-held h r R = R ∙ sym (rw (eq-eqb (length bytes) stateBytes h) refl)
+
+  pub state-long : isState bytes ≡ true → length bytes ≡ stateBytes
+  unfolding isState
+  state-long h = eqb-true (length bytes) stateBytes (and-true (eqb (length bytes) stateBytes) (holdsState (wordsIn 8 stateWords bytes)) h .0)
+
+  pub read-other : isState bytes ≡ false → processorIn bytes ≡ never
+  unfolding processorIn
+  read-other h = rw h refl
+
+  pub read-state : isState bytes ≡ true → processorIn bytes ≡ stateIn (wordsIn 8 stateWords bytes)
+  unfolding processorIn
+  read-state h = rw h refl
 
   pub read-held : length bytes ≡ stateBytes → holdsState (wordsIn 8 stateWords bytes) ≡ true → processorIn bytes ≡ stateIn (wordsIn 8 stateWords bytes)
-  unfolding processorIn isState
-  read-held h k = rw (eq-eqb (length bytes) stateBytes h, k) refl
+  read-held h k = read-state (sym (is-held h true (sym k)))
 
-  pub read-other : length bytes ≡ stateBytes → holdsState (wordsIn 8 stateWords bytes) ≡ false → processorIn bytes ≡ never
-  unfolding processorIn isState
-  read-other h k = rw (eq-eqb (length bytes) stateBytes h, k) refl
+  -- limiter and bank, each by its words
+  pub read-parts : isState bytes ≡ true → (l : Limiter) → l ≡ limiterIn (wordsIn 8 stateWords bytes) → (t : Threshold) → t ≡ shownOf (bankIn (wordsIn 8 stateWords bytes)) → (b : SmootherBank) → b ≡ bankWith t
+      → record { limiter = l; bank = b } ≡ processorIn bytes
+  unfolding stateIn
+  read-parts h l L t T b B = rw (B, T, L) (sym (read-state h))
 
 -- ---- writing
 out-append : (a b : List ℕ) → bytesOut 8 (a ++ b) ≡ bytesOut 8 a ++ bytesOut 8 b
@@ -95,11 +169,11 @@ stored-parts (part ∷ parts) state k e =
     ∙ append-assoc (take (8 * k) state) b (bytesOut 8 rest)
     ∙ ap (λ (t : List ℕ). take (8 * k) state ++ t) (sym (out-append part rest))
 
--- a state's
-abbrev pub partsOf : KernelProcessor → List (List ℕ)
-partsOf p =
-    (layout ∷ []) ∷ limiterOut (p .limiter) ∷ smootherOut (slotAt 0 (p .bank .smoothers)) ∷ (p .bank .count ∷ p .bank .rate ∷ cond (p .bank .ready) 1 0 ∷ []) ∷ replicate 30 0 ∷ []
+-- a state's, of a limiter and what its bank shows
+abbrev pub partsOf : Limiter → Threshold → List (List ℕ)
+partsOf l t =
+    (layout ∷ []) ∷ limiterOut l ∷ smootherOut (t .smoother) ∷ (t .count ∷ t .rate ∷ cond (t .ready) 1 0 ∷ []) ∷ replicate 30 0 ∷ []
 
-pub state-stored : (p : KernelProcessor) (state : List ℕ) → length state ≡ stateBytes → stored state 0 (partsOf p) ≡ stateOut p
+pub state-stored : (l : Limiter) (t : Threshold) (state : List ℕ) → length state ≡ stateBytes → (b : SmootherBank) → shownOf b ≡ t → stored state 0 (partsOf l t) ≡ stateOut (record { limiter = l; bank = b })
 unfolding stateOut wordsOut joined
-state-stored p state n = stored-parts (partsOf p) state 0 n
+state-stored l t state n b e = ap (λ (t : Threshold). stored state 0 (partsOf l t)) (sym e) ∙ stored-parts (partsOf l (shownOf b)) state 0 n

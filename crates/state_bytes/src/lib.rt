@@ -4,3 +4,5 @@
 pub mod read;
 // Into a buffer.
 pub mod write;
+// A block of what is kept.
+pub mod block;

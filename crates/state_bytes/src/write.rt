@@ -4,13 +4,16 @@ ghost use Prim.Native.Nat.{_+_, _*_, _≤_};
 ghost use lib.ListN.{length};
 ghost use Rattle.audio.specs.Bytes.{bytesOut};
 ghost use Rattle.audio.specs.Inner.{put};
+ghost use Rattle.bank.specs.declared.smoother_bank.SmootherBank.{SmootherBank};
+ghost use Rattle.driver.specs.Parts.{shownOf};
 ghost use Rattle.state_bytes.specs.State.{stateBytes, limiterOut, stateOut};
 use arithmetic::pattern::to_bits;
 use audio::words::write_words;
 use bank::words::flag;
 use bank::words::smoother_out;
-use driver::ready::threshold;
+use driver::ready::shown;
 use driver::state::KernelProcessor;
+use driver::state::Threshold;
 use limiter::state::Limiter;
 
 fn limiter_out(l: Limiter) -> [u64; 18]
@@ -48,20 +51,24 @@ fn put_words(state: &mut [u8], k: usize, words: &[u64])
     write_words(&mut state[at..end], words);
 }
 
+// The state of a limiter and of any bank that shows this.
+pub fn write_parts(state: &mut [u8], limiter: Limiter, t: Threshold)
+    requires { ⌜ length (now state) ≡ stateBytes ⌝ }
+    ensures { λ _. ⌜ ((b : SmootherBank) → shownOf b ≡ t → now (state .exit) ≡ stateOut (record { limiter = limiter; bank = b })) ⌝ }
+{
+    let smoother = t.smoother;
+    put_words(state, 0, &[0x1_7a75_7944]);
+    put_words(state, 1, &limiter_out(limiter));
+    put_words(state, 19, &smoother_out(smoother));
+    put_words(state, 31, &[t.count as u64, t.rate as u64, flag(t.ready)]);
+    put_words(state, 34, &[0u64; 30]);
+}
+
 pub fn write_state(state: &mut [u8], p: KernelProcessor)
     requires { ⌜ length (now state) ≡ stateBytes ⌝ }
     ensures { λ _. ⌜ now (state .exit) ≡ stateOut p ⌝ }
 {
     let limiter = p.limiter;
     let bank = p.bank;
-    let slots = bank.smoothers;
-    put_words(state, 0, &[0x1_7a75_7944]);
-    put_words(state, 1, &limiter_out(limiter));
-    put_words(state, 19, &smoother_out(threshold(slots)));
-    put_words(
-        state,
-        31,
-        &[bank.count as u64, bank.rate as u64, flag(bank.ready)],
-    );
-    put_words(state, 34, &[0u64; 30]);
+    write_parts(state, limiter, shown(bank));
 }

@@ -3,26 +3,26 @@ use borrow.Author.Needs.{needs}
 use Rattle.state_bytes.proofs.read.envelope_in.Statement.{statement}
 use Rattle.state_bytes.proofs.read.envelope_in.Tie as tie
 
-shared-slice-read-t3 : tie.Need-shared-slice-read-t3
-shared-slice-read-t3 c = search needs
+word-at-requires : tie.Need-word-at-requires
+word-at-requires c κs = search needs
 
-shared-slice-read-t6 : tie.Need-shared-slice-read-t6
-shared-slice-read-t6 c = search needs
+word-at-requires-2 : tie.Need-word-at-requires-2
+word-at-requires-2 c κs = search needs
 
-shared-slice-read-t9 : tie.Need-shared-slice-read-t9
-shared-slice-read-t9 c = search needs
+word-at-requires-3 : tie.Need-word-at-requires-3
+word-at-requires-3 c κs = search needs
 
-shared-slice-read-t12 : tie.Need-shared-slice-read-t12
-shared-slice-read-t12 c = search needs
+word-at-requires-4 : tie.Need-word-at-requires-4
+word-at-requires-4 c κs = search needs
 
-shared-slice-read-t15 : tie.Need-shared-slice-read-t15
-shared-slice-read-t15 c = search needs
+word-at-requires-5 : tie.Need-word-at-requires-5
+word-at-requires-5 c κs = search needs
 
-shared-slice-read-t18 : tie.Need-shared-slice-read-t18
-shared-slice-read-t18 c = search needs
+word-at-requires-6 : tie.Need-word-at-requires-6
+word-at-requires-6 c κs = search needs
 
-float-in-requires : tie.Need-float-in-requires
-float-in-requires c κs = search needs
+float-at-requires : tie.Need-float-at-requires
+float-at-requires c κs = search needs
 
 returns : tie.Need-returns
 returns c = cc
@@ -31,11 +31,11 @@ pub envelope-in-spec : {M : Type 1} → statement M
 envelope-in-spec =
     tie.close
     (tie.spec
-    shared-slice-read-t3
-    shared-slice-read-t6
-    shared-slice-read-t9
-    shared-slice-read-t12
-    shared-slice-read-t15
-    shared-slice-read-t18
-    float-in-requires
+    word-at-requires
+    word-at-requires-2
+    word-at-requires-3
+    word-at-requires-4
+    word-at-requires-5
+    word-at-requires-6
+    float-at-requires
     returns)

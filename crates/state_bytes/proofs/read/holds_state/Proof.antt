@@ -7,23 +7,23 @@ use Rattle.state_bytes.proofs.read.holds_state.Tie as tie
 rest-is-zero-requires : tie.Need-rest-is-zero-requires
 rest-is-zero-requires c κs = search needs
 
-shared-slice-read-layout : tie.Need-shared-slice-read-layout
-shared-slice-read-layout c = search needs
+word-at-requires : tie.Need-word-at-requires
+word-at-requires c κs = search needs
 
-shared-slice-read-rate : tie.Need-shared-slice-read-rate
-shared-slice-read-rate c = search needs
+word-at-requires-2 : tie.Need-word-at-requires-2
+word-at-requires-2 c κs = search needs
 
-shared-slice-read-id : tie.Need-shared-slice-read-id
-shared-slice-read-id c = search needs
+word-at-requires-3 : tie.Need-word-at-requires-3
+word-at-requires-3 c κs = search needs
 
-shared-slice-read-bank : tie.Need-shared-slice-read-bank
-shared-slice-read-bank c = search needs
+word-at-requires-4 : tie.Need-word-at-requires-4
+word-at-requires-4 c κs = search needs
 
-shared-slice-read-shape : tie.Need-shared-slice-read-shape
-shared-slice-read-shape c = search needs
+word-at-requires-5 : tie.Need-word-at-requires-5
+word-at-requires-5 c κs = search needs
 
-shared-slice-read-ready : tie.Need-shared-slice-read-ready
-shared-slice-read-ready c = search needs
+word-at-requires-6 : tie.Need-word-at-requires-6
+word-at-requires-6 c κs = search needs
 
 returns : tie.Need-returns
 unfolding holdsState
@@ -34,10 +34,10 @@ holds-state-spec =
     tie.close
     (tie.spec
     rest-is-zero-requires
-    shared-slice-read-layout
-    shared-slice-read-rate
-    shared-slice-read-id
-    shared-slice-read-bank
-    shared-slice-read-shape
-    shared-slice-read-ready
+    word-at-requires
+    word-at-requires-2
+    word-at-requires-3
+    word-at-requires-4
+    word-at-requires-5
+    word-at-requires-6
     returns)

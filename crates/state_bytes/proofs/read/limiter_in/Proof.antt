@@ -9,26 +9,26 @@ settings-in-requires c κs = search needs
 envelope-in-requires : tie.Need-envelope-in-requires
 envelope-in-requires c κs = search needs
 
-half-in-requires : tie.Need-half-in-requires
-half-in-requires c κs = search needs
+half-at-requires : tie.Need-half-at-requires
+half-at-requires c κs = search needs
 
-shared-slice-read-t6 : tie.Need-shared-slice-read-t6
-shared-slice-read-t6 c = search needs
+word-at-requires : tie.Need-word-at-requires
+word-at-requires c κs = search needs
 
-shared-slice-read-t9 : tie.Need-shared-slice-read-t9
-shared-slice-read-t9 c = search needs
+word-at-requires-2 : tie.Need-word-at-requires-2
+word-at-requires-2 c κs = search needs
 
-float-in-requires : tie.Need-float-in-requires
-float-in-requires c κs = search needs
+float-at-requires : tie.Need-float-at-requires
+float-at-requires c κs = search needs
 
-shared-slice-read-t13 : tie.Need-shared-slice-read-t13
-shared-slice-read-t13 c = search needs
+word-at-requires-3 : tie.Need-word-at-requires-3
+word-at-requires-3 c κs = search needs
 
-float-in-requires-2 : tie.Need-float-in-requires-2
-float-in-requires-2 c κs = search needs
+float-at-requires-2 : tie.Need-float-at-requires-2
+float-at-requires-2 c κs = search needs
 
-shared-slice-read-t17 : tie.Need-shared-slice-read-t17
-shared-slice-read-t17 c = search needs
+word-at-requires-4 : tie.Need-word-at-requires-4
+word-at-requires-4 c κs = search needs
 
 returns : tie.Need-returns
 returns c = cc
@@ -39,11 +39,11 @@ limiter-in-spec =
     (tie.spec
     settings-in-requires
     envelope-in-requires
-    half-in-requires
-    shared-slice-read-t6
-    shared-slice-read-t9
-    float-in-requires
-    shared-slice-read-t13
-    float-in-requires-2
-    shared-slice-read-t17
+    half-at-requires
+    word-at-requires
+    word-at-requires-2
+    float-at-requires
+    word-at-requires-3
+    float-at-requires-2
+    word-at-requires-4
     returns)

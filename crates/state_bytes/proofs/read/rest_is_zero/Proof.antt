@@ -1,33 +1,25 @@
--- `rest_is_zero`: the words passed are 0.
-use mathlib.Core.Path.{_≡_, refl, sym, _∙_}
+-- `rest_is_zero`: the answer so far and the answer on the rest are the answer on the whole.
+use mathlib.Core.Path.{_≡_, refl}
+use mathlib.Core.Bool.{_&&_}
 use Prim.Native.Nat.{_-_, _≤_}
-use native.Mathlib.Omega.{arith}
 use denote.Ref.{now}
 use borrow.Author.Needs.{needs}
-use Rattle.state_bytes.specs.State.{zerosAt}
-use Rattle.state_bytes.proofs.Stored.{zeros-more, zeros-no, zeros-done}
+use lib.ListN.{drop}
+use Rattle.state_bytes.proofs.Stored.{allZero, zeros-more, zeros-done}
 use Rattle.state_bytes.proofs.read.rest_is_zero.Statement.{statement}
 use Rattle.state_bytes.proofs.read.rest_is_zero.Tie as tie
 
 abbrev Inv-loop : tie.InvT-loop
-Inv-loop words i₀ i = (i ≤ 64) × (zerosAt words i (64 - i) ≡ zerosAt words 34 30)
+Inv-loop state ok₀ i₀ ok i = (i ≤ 512) × (ok && allZero (drop i state) ≡ allZero (drop 272 state))
 
 abbrev μ-loop : tie.MeasureT-loop
-μ-loop words i₀ i = 64 - i
+μ-loop state ok₀ i₀ ok i = 512 - i
 
 loop-holds : tie.Need-loop-holds Inv-loop μ-loop
 loop-holds c = (search needs, refl)
 
-mul-if1 : tie.Need-mul-if1 Inv-loop μ-loop
-mul-if1 c = search needs
-
-shared-slice-read-if1 : tie.Need-shared-slice-read-if1 Inv-loop μ-loop
-shared-slice-read-if1 c = search needs
-
-returns : tie.Need-returns Inv-loop μ-loop
-returns c =
-    let l = c .before .before .before in
-    sym (zeros-no (now (l .before .args .words)) (l .loop .i) 64 (omega arith) (c .if1 .taken)) ∙ l .loop .inv .1
+shared-slice-read-ok : tie.Need-shared-slice-read-ok Inv-loop μ-loop
+shared-slice-read-ok c = search needs
 
 add-i : tie.Need-add-i Inv-loop μ-loop
 add-i c = search needs
@@ -37,25 +29,15 @@ loop-less c = search needs
 
 loop-again : tie.Need-loop-again Inv-loop μ-loop
 loop-again c =
-    let l = c .before .before .before in
-    (search needs, zeros-more (now (l .before .args .words)) (l .loop .i) 64 (omega arith) (c .if1 .left) ∙ l .loop .inv .1)
+    let l = c .before .before .loop in
+    (search needs, zeros-more (now (c .before .before .before .args .state)) (c .before .before .before .pre) (l .i) (l .ok) (l .inv .1) (c .before .loop-test .taken))
 
-returns-2 : tie.Need-returns-2 Inv-loop μ-loop
-returns-2 c =
-    let l = c .before in
-    sym (zeros-done (now (l .before .args .words)) (l .loop .i) 64 (omega arith)) ∙ l .loop .inv .1
+returns : tie.Need-returns Inv-loop μ-loop
+returns c =
+    let l = c .before .loop in
+    zeros-done (now (c .before .before .args .state)) (c .before .before .pre) (l .i) (l .ok) (l .inv .1) (c .loop-test .left)
 
 pub rest-is-zero-spec : {M : Type 1} → statement M
 rest-is-zero-spec =
     tie.close
-    (tie.spec
-    Inv-loop
-    μ-loop
-    loop-holds
-    mul-if1
-    shared-slice-read-if1
-    returns
-    add-i
-    loop-less
-    loop-again
-    returns-2)
+    (tie.spec Inv-loop μ-loop loop-holds shared-slice-read-ok add-i loop-less loop-again returns)
