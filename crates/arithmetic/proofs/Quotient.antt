@@ -13,11 +13,10 @@ use lib.Ieee.Bits.{is-true}
 use lib.Ieee.Fits.{up-pos, down-pos, round-fits}
 use lib.Ieee.Order.{round-mono}
 use borrow.Author.Tests.{eqb-true, eqb-false}
-use Rattle.arithmetic.specs.Number.{one, signOf, minOf, maxOf}
-use Rattle.arithmetic.proofs.Order.{left, right, eq-is, clash, lt→le, not-lt→le, le-both→eq}
+use Rattle.arithmetic.specs.Number.{one, signOf, minOf}
+use Rattle.arithmetic.proofs.Order.{left, right, eq-is, clash, not-lt→le, le-both→eq}
 use Rattle.arithmetic.proofs.Cut.{sign-round}
 use Rattle.arithmetic.proofs.Within.{not-le-nan}
-use Rattle.arithmetic.proofs.Magnitude.{le-through}
 use Rattle.arithmetic.proofs.UnitBound.{le→numbers}
 
 -- ---- a fraction that is not below 1, rounded
@@ -85,23 +84,3 @@ no-less-than-one (fin false m e) (fin false n d) s h = go (eqb n 0) refl (eqb m 
 pub below-one : minOf (div binary64 one (fin true 0 (pos 0))) one ≡ inf true
 unfolding div lt isNan
 below-one = refl
-
-no-number : (target x : Float) → isNan x ≡ true → minOf (div binary64 target x) one ≡ one
-unfolding div lt isNan
-no-number nan x h = refl
-no-number (inf t) nan h = refl
-no-number (inf t) (inf u) h = clash false h refl
-no-number (inf t) (fin u n d) h = clash false h refl
-no-number (fin t m e) nan h = refl
-no-number (fin t m e) (inf u) h = clash false h refl
-no-number (fin t m e) (fin u n d) h = clash false h refl
-
--- a peak that takes in another one, at most the target, needs the gain that it needed
-pub gain-unmoved : (target peak p : Float) → signOf peak ≡ false → signOf p ≡ false → le p target ≡ true
-    → minOf (div binary64 target (maxOf peak p)) one ≡ minOf (div binary64 target peak) one
-gain-unmoved target peak p s t h = go (lt peak p) refl (isNan peak) refl
-  where
-    go : (b : Bool) → lt peak p ≡ b → (c : Bool) → isNan peak ≡ c → minOf (div binary64 target (maxOf peak p)) one ≡ minOf (div binary64 target peak) one
-    go true e c f = rw (e, no-less-than-one target p t h, no-less-than-one target peak s (le-through peak p target (lt→le peak p e) h)) refl
-    go false e true f = rw (e, f, no-less-than-one target p t h) (sym (no-number target peak f))
-    go false e false f = rw (e, f) refl

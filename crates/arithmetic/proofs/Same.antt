@@ -1,7 +1,7 @@
 -- Sameness by bit patterns, on values that fit binary64, as every f64 of a program does.
 use mathlib.Core.Path.{_≡_, refl, sym, ap, _∙_}
 use mathlib.Core.Bool.{true, false}
-use native.Mathlib.Nat.{zero-mul, mul-one, one-mul, add-zero, zero-add}
+use native.Mathlib.Nat.{zero-mul, mul-one, one-mul, add-zero}
 use native.Mathlib.Omega.{arith}
 use lib.Dec.{T}
 use lib.Ieee.{Float, nan, inf, fin, binary64, toBits, ofBits, fits, eq}

@@ -6,7 +6,7 @@ use native.Mathlib.Numerals.{add-one, towards-suc}
 use native.Mathlib.Nat.{zero-add, mul-zero, mul-suc, mul-le-mul-left, pow-suc, mod-add-div, mod-eq-of-lt, div-div-eq-div-mul, div-eq-of-lt, div-lt-iff-lt-mul, add-mul-div-left, add-mul-mod-self-left}
 use native.Mathlib.Omega.{arith}
 use lib.ListN.{length, getD, set, take, drop, length-append, length-drop, drop-of-length-le, take-append-drop}
-use lib.Seq.{sets-eq, drop-cons, drop-drop, getD-drop, take-suc-set, take-all, take-at, drop-at, take-take, take-add, take-append-le, drop-append-le, append-snoc, length-take-le}
+use lib.Seq.{sets-eq, drop-cons, drop-drop, getD-drop, take-all, take-at, drop-at, take-take, take-add, take-append-le, drop-append-le, length-take-le}
 use Rattle.audio.specs.Bytes.{wordOf, bytesOf, cut, joined, wordsIn, bytesOut}
 use Rattle.audio.specs.Inner.{put}
 
@@ -153,19 +153,7 @@ bytes-of-words size (suc n) bytes e h =
     let here : bytesOf size (wordOf (take size bytes)) ≡ take size bytes = ap (λ (k : ℕ). bytesOf k (wordOf (take size bytes))) (sym long) ∙ bytes-of-word (take size bytes) (small-take size bytes h) in
     rw (here, bytes-of-words size n (drop size bytes) (length-drop size bytes ∙ omega arith) (λ (i : ℕ). rw (getD-drop size bytes i 0) (h (size + i)))) (take-append-drop size bytes)
 
--- ---- the loops
-module _ (bytes words : List ℕ) (n i : ℕ) (e : length words ≡ n) where
-  pub read-more : (w : ℕ) → i < n → w ≡ wordOf (take 8 (drop (8 * i) bytes))
-      → take (i + 1) (set words i w) ++ wordsIn 8 (n - (i + 1)) (drop (8 * (i + 1)) bytes) ≡ take i words ++ wordsIn 8 (n - i) (drop (8 * i) bytes)
-  unfolding cut
-  read-more w h v =
-      let one : n - i ≡ suc (n - (i + 1)) = omega arith in
-      let next : 8 * i + 8 ≡ 8 * (i + 1) = omega arith in
-      rw (add-one i, take-suc-set words i w (omega (arith, e)), append-snoc (take i words) w (wordsIn 8 (n - suc i) (drop (8 * suc i) bytes)), ← add-one i, one, drop-drop 8 (8 * i) bytes, next, v) refl
-
-  pub read-done : n ≤ i → words ≡ take i words ++ wordsIn 8 (n - i) (drop (8 * i) bytes)
-  unfolding cut
-  read-done h = let none : n - i ≡ 0 = omega arith in rw (none, append-nil (take i words)) (sym (take-all i words (omega (arith, e))))
+-- ---- the loop
 
 module _ (bytes words : List ℕ) (i : ℕ) where
   pub write-more : (w : ℕ) → 8 * i + 8 ≤ length bytes → i < length words → w ≡ getD words i 0

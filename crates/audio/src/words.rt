@@ -3,7 +3,7 @@ ghost use mathlib.Core.Path.{_≡_};
 ghost use mathlib.Core.List.{[], _∷_};
 ghost use Prim.Native.Nat.{_+_, _*_, _%_, _≤_};
 ghost use lib.ListN.{length, take, drop};
-ghost use Rattle.audio.specs.Bytes.{wordOf, bytesOf, wordsIn, bytesOut};
+ghost use Rattle.audio.specs.Bytes.{wordOf, bytesOf, bytesOut};
 ghost use Rattle.audio.specs.Inner.{put};
 
 // The word of eight bytes: a flat sum, so that it compiles to one load.
@@ -57,17 +57,6 @@ pub fn put_word(bytes: &mut [u8], at: usize, w: u64)
     bytes[at + 5] = low(w / 1099511627776);
     bytes[at + 6] = low(w / 281474976710656);
     bytes[at + 7] = low(w / 72057594037927936);
-}
-
-// The words of bytes.
-pub fn read_words(bytes: &[u8], words: &mut [u64])
-    requires { ⌜ length (now bytes) ≡ 8 * length (now words) ⌝ }
-    ensures { λ _. ⌜ now (words .exit) ≡ wordsIn 8 (length (now (words .entry))) (now (bytes .entry)) ⌝ }
-{
-    let n = words.len();
-    for i in 0..n {
-        words[i] = word(bytes, 8 * i);
-    }
 }
 
 // The bytes of words.

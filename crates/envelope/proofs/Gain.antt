@@ -1,5 +1,5 @@
 -- A gain step keeps the envelope in order, and its gain lies within 0 and 1.
-use mathlib.Core.Path.{_≡_, refl, sym, _∙_}
+use mathlib.Core.Path.{_≡_, refl}
 use mathlib.Core.Bool.{Bool, true, false, cond}
 use mathlib.Core.List.{List, [], _∷_}
 use Prim.Native.Nat.{ℕ, zero, suc, _+_, _≤_, _<_}
@@ -15,12 +15,10 @@ use Rattle.arithmetic.specs.Sanitize.{unitGain}
 use Rattle.arithmetic.proofs.Order.{and-true}
 use Rattle.arithmetic.proofs.Within.{gain-within}
 use Rattle.keeper.specs.Ring.{Entry, frontOf, ringStep, dropBack, dropFront}
-use Rattle.keeper.specs.InOrder.{unitMinima, mostFrames}
-use Rattle.keeper.specs.Keeper.{Keeping, Stepped, steppedOf, Ready, entriesOf}
-use Rattle.keeper.proofs.Step.{ring-after, order-after, order-of, ready-after}
-use Rattle.envelope.specs.Row.{Rowed, allUnit, tallyOf, nextPos, pushed, rowInOrder, newestFirst}
-use Rattle.envelope.specs.Mean.{meanOf}
-use Rattle.envelope.specs.Step.{Enveloped, enveloped, gainStepped, gainStepOf, EnvReady}
+use Rattle.keeper.specs.InOrder.{unitMinima}
+use Rattle.keeper.specs.Keeper.{Keeping, steppedOf, Ready, entriesOf}
+use Rattle.keeper.proofs.Step.{ring-after, order-after, order-of}
+use Rattle.envelope.specs.Row.{allUnit, tallyOf, nextPos, pushed, rowInOrder}
 use Rattle.envelope.specs.Follow.{followed, moved}
 use Rattle.envelope.specs.declared.row.AttackRow.{AttackRow}
 use Rattle.envelope.proofs.Tally.{ordered as row-ordered}
@@ -70,12 +68,3 @@ pushed-in-order s row f h u =
 pub gain-unit : (gain mean coeff : Float) → within Number.zero one (followed gain mean coeff) ≡ true
 unfolding followed
 gain-unit gain mean coeff = gain-within (moved (unitGain gain) mean coeff)
-
--- a step leaves an envelope that is ready for the next
-pub env-after : (weights : List Float) (coeff : Float) (e : Enveloped) (x : Float) → EnvReady weights e → e .keeping .keeper .frame + 2 ≤ mostFrames → EnvReady weights (gainStepOf weights coeff e x .env)
-unfolding gainStepOf pushed
-env-after weights coeff e x a h = record {
-  keeper = ready-after (e .keeping) x (a .keeper) h;
-  row = pushed-in-order (e .rowed .state) (e .rowed .row) (steppedOf (e .keeping) x .floor) (a .row) (step-floor-unit (e .keeping) x (a .keeper));
-  weighed = a .weighed ∙ sym (length-set (e .rowed .row) (e .rowed .state .pos) (steppedOf (e .keeping) x .floor));
-}

@@ -7,7 +7,6 @@ use native.Mathlib.Omega.{arith}
 use borrow.Author.Needs.{needs}
 use lib.ListN.{length, getD, set, length-set}
 use lib.Ieee.{Float, nan}
-use denote.Ref.{now}
 use Rattle.envelope.specs.Run.{followedAll}
 use Rattle.envelope.proofs.Following.{attacked, followsFrom, follows-turn, follows-done, stays}
 use Rattle.envelope.proofs.follow.follow_all.Statement.{statement}

@@ -1,9 +1,7 @@
 -- `add_weighted`: the sums passed have their product, the others are as they were.
-use mathlib.Core.Path.{_≡_}
 use Prim.Native.Nat.{_-_, _≤_}
 use native.Mathlib.Omega.{arith}
 use borrow.Author.Needs.{needs}
-use lib.ListN.{length}
 use denote.Ref.{now}
 use Rattle.envelope.proofs.Along.{Adding, adding-none, adding-more, adding-all}
 use Rattle.envelope.proofs.means.add_weighted.Statement.{statement}

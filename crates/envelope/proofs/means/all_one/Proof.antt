@@ -1,7 +1,6 @@
 -- `all_one`: the answer so far and the answer on the rest are the answer on the whole.
 use mathlib.Core.Path.{_≡_, refl}
 use mathlib.Core.Bool.{_&&_}
-use mathlib.Core.List.{List, _∷_}
 use Prim.Native.Nat.{_-_, _≤_}
 use native.Mathlib.Omega.{arith}
 use denote.Ref.{now}

@@ -1,9 +1,7 @@
 -- `lay_line`: three straight copies.
-use mathlib.Core.Path.{_≡_, sym, _∙_}
-use Prim.Native.Nat.{_+_, _-_, _≤_}
+use Prim.Native.Nat.{_-_}
 use native.Mathlib.Omega.{arith}
 use borrow.Author.Needs.{needs}
-use lib.ListN.{length}
 use denote.Ref.{now}
 use Rattle.envelope.proofs.Along.{laid}
 use Rattle.envelope.proofs.means.lay_line.Statement.{statement}

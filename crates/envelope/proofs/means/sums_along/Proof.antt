@@ -1,5 +1,4 @@
 -- `sums_along`: sixteen sums, and sixteen more where the run asks for them.
-use mathlib.Core.Path.{_≡_, refl, sym, ap, _∙_}
 use native.Mathlib.Omega.{arith}
 use borrow.Author.Needs.{needs}
 use denote.Ref.{now}

@@ -1,10 +1,10 @@
 -- `sums_from`: what is still to be summed, added to the sums so far, stays the whole.
-use mathlib.Core.Path.{_≡_, refl, sym}
+use mathlib.Core.Path.{refl}
 use Prim.Native.Nat.{_+_, _-_, _≤_}
 use native.Mathlib.Omega.{arith}
 use borrow.Author.Needs.{needs}
-use lib.ListN.{length, getD}
-use lib.Ieee.{nan, ofBits}
+use lib.ListN.{length}
+use lib.Ieee.{ofBits}
 use denote.Ref.{now}
 use Rattle.envelope.proofs.Along.{Summing, summing-none, summing-more, summing-all}
 use Rattle.envelope.proofs.means.sums_from.Statement.{statement}

@@ -1,10 +1,7 @@
 -- `gain_steps`: floors, means and gains, from what each pass gives.
-use mathlib.Core.Path.{_≡_, refl, sym, ap, _∙_}
-use native.Mathlib.Omega.{arith}
+use mathlib.Core.Path.{ap}
 use borrow.Author.Needs.{needs}
 use denote.Ref.{now}
-use Prim.Native.Nat.{_+_}
-use lib.ListN.{length}
 use Rattle.keeper.specs.Keeper.{keepingAt}
 use Rattle.keeper.specs.Run.{Floors, floorsAt}
 use Rattle.envelope.specs.Step.{envelopedAt}

@@ -1,5 +1,5 @@
 -- `means`: each way gives the same means.
-use mathlib.Core.Path.{_≡_, refl, sym, ap, _∙_}
+use mathlib.Core.Path.{_≡_, refl, sym, _∙_}
 use native.Mathlib.Omega.{arith}
 use borrow.Author.Needs.{needs}
 use denote.Ref.{now}
@@ -9,7 +9,6 @@ use lib.Dec.{eqb, ltb}
 use lib.ListN.{length}
 use borrow.Author.Tests.{ltb-false, eqb-true}
 use Rattle.arithmetic.proofs.Order.{and-true, clash}
-use Rattle.envelope.specs.Mean.{allOne}
 use Rattle.envelope.proofs.Tally.{ordered}
 use Rattle.envelope.proofs.RunMeans.{still}
 use Rattle.envelope.proofs.row.AttackRow.means.Statement.{statement}

@@ -1,5 +1,4 @@
 -- `means_along`: the line gives the sums, and the sums the means.
-use mathlib.Core.Path.{_≡_, refl, sym, ap, _∙_}
 use native.Mathlib.Omega.{arith}
 use borrow.Author.Needs.{needs}
 use denote.Ref.{now}

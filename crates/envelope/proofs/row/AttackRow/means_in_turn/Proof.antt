@@ -1,14 +1,11 @@
 -- `means_in_turn`: the means passed, and what the rest comes to.
-use mathlib.Core.Path.{_≡_, refl, sym, ap, _∙_}
+use mathlib.Core.Path.{_≡_, refl, sym, _∙_}
 use mathlib.Core.Bool.{true}
-use mathlib.Core.List.{List}
-use Prim.Native.Nat.{_-_, _≤_, _<_}
+use Prim.Native.Nat.{_-_, _≤_}
 use native.Mathlib.Omega.{arith}
 use borrow.Author.Needs.{needs}
-use lib.ListN.{length, getD, take, drop, length-set}
-use lib.Ieee.{Float, nan}
+use lib.ListN.{length, drop, length-set}
 use denote.Ref.{now}
-use Rattle.arithmetic.proofs.InTurn.{kept}
 use Rattle.envelope.specs.Row.{rowedAt, allUnit, rowInOrder}
 use Rattle.envelope.specs.Run.{meansOf}
 use Rattle.envelope.proofs.RunMeans.{meansFrom, means-more, means-done, turn-keeps}

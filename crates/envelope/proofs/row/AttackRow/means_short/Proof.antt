@@ -1,8 +1,6 @@
 -- `means_short`: with a line of its own.
-use mathlib.Core.Path.{_≡_, refl, sym, ap, _∙_}
 use native.Mathlib.Omega.{arith}
 use borrow.Author.Needs.{needs}
-use denote.Ref.{now}
 use Rattle.envelope.proofs.row.AttackRow.means_short.Statement.{statement}
 use Rattle.envelope.proofs.row.AttackRow.means_short.Tie as tie
 
