@@ -82,7 +82,7 @@ pub still-row :
 unfolding meansOf pushed meanOf ne eq add mul ofBits
 still-row = (refl, refl)
 
--- each gain from the run's first: 0.25 and then 0.5 + 0.5 × 0.25. The mean itself where the gain rises: 1
+-- each gain from the run's first: 0.25 and then 0.5 + 0.5 × 0.5, which is 0.75. The mean itself where the gain rises: 1
 pub gains-in-turn : followedAll half half (quarter ∷ one ∷ []) .gains ≡ quarter ∷ bits 0x3fe4_0000_0000_0000 ∷ []
 unfolding followedAll followed add sub mul lt le ofBits
 gains-in-turn = refl

@@ -1,4 +1,5 @@
-// The peak of each frame of a run: the largest sanitized magnitude or detector answer over the channels.
+// The peak of each frame of a run: the largest sanitized magnitude or detector answer over the channels. A
+// channel too quiet to change a required gain is left out.
 ghost use mathlib.Core.Path.{_≡_};
 ghost use mathlib.Core.Bool.{true};
 ghost use mathlib.Core.List.{List};

@@ -113,7 +113,7 @@ impl FloorKeeper {
         }
     }
 
-    // Whether keeper and stores are in order, by passes over the entries kept.
+    // Whether keeper and stores are in order, in one pass over the entries kept.
     pub fn in_order(self, marks: &[u64], minima: &[f64]) -> bool
         requires { ⌜ (length (now marks) ≡ self .look + 1) × (length (now minima) ≡ self .look + 1) ⌝ }
         ensures { λ r. ⌜ r ≡ ordered (keepingAt self (now (marks .entry)) (now (minima .entry))) ⌝ }

@@ -1,5 +1,5 @@
-// A block of what a state's bytes keep: the limiter, and what its bank shows. No bank is handed on, which
-// is large.
+// A block of what a state's bytes keep: the limiter, and what its bank shows. The bank itself, which is
+// large, is made for the turns alone.
 ghost use mathlib.Core.Path.{_≡_};
 ghost use Rattle.limiter.specs.Stores.{atEntry, atExit, atCall};
 ghost use Rattle.turns.specs.Machine.{machineOf};
@@ -34,8 +34,7 @@ pub fn bank_with(t: Threshold) -> SmootherBank
     }
 }
 
-// A block that nothing refuses, of a limiter whose bank holds the threshold alone: whoever keeps the
-// parts of a machine hands on no bank.
+// A block that nothing refuses, of a limiter whose bank holds the threshold alone.
 pub fn render_block(
     l: Limiter,
     t: Threshold,
