@@ -3,5 +3,6 @@ pub mod Reply
 pub mod Number
 pub mod Part
 pub mod Sanitize
+pub mod Narrow
 pub mod Exp
 pub mod Answers

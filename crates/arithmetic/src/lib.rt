@@ -9,3 +9,5 @@ pub mod sanitize;
 pub mod math;
 // An f64 and its bit pattern.
 pub mod pattern;
+// An f64 and the f32 values.
+pub mod narrow;

@@ -1,0 +1,40 @@
+-- Change 1, 32-bit samples: "each sample widened exactly, each output rounded to the nearest f32, ties to even". One type of values serves both formats,
+-- so a widened sample is the value of its 32 bits itself.
+use Prim.Native.Nat.{ℕ, _+_, _-_, _*_, _/_, _%_, _^_, _≤_, _<_, max, Ordering}
+use mathlib.Core.Path.{_≡_}
+use mathlib.Core.Bool.{Bool, cond, Bool·beq}
+use lib.Dec.{T, leb}
+use lib.Ieee.{Float, nan, inf, fin, binary32, up, down, size, round, fits, ofBits}
+use Rattle.arithmetic.specs.Number.{signOf}
+
+-- the value of a sample's 32 bits
+abbrev pub widened : ℕ → Float
+widened n = ofBits binary32 n
+
+-- the nearest f32, a tie to the even one, by IEEE 754's rounding: of a finite number, m × 2^e. `Nearest` below says the same in the request's words.
+unfoldable pub narrowed : Float → Float
+narrowed nan = nan
+narrowed (inf s) = inf s
+narrowed (fin s m e) = round binary32 s (m * up e) (down e)
+
+-- ---- the distance, over whole numbers
+-- a finite f64's magnitude in multiples of 2^−1074, the finest place of any f64
+abbrev pub unitsOf : Float → ℕ
+unitsOf nan = 0
+unitsOf (inf s) = 0
+unitsOf (fin s m e) = m * up e * 2 ^ 1074 / down e
+
+-- the spacing of the f32 values around a magnitude: 24 digits, and none below 2^−149
+abbrev pub spacing : ℕ → ℕ
+spacing n = 2 ^ (max (size n) 949 - 24)
+
+-- 2^128 − 2^103, from which on an output becomes infinity and has no distance
+abbrev pub overflow : ℕ
+overflow = (2 ^ 128 - 2 ^ 103) * 2 ^ 1074
+
+-- how far two finite values lie apart, signs counted
+abbrev pub apart : Float → Float → ℕ
+apart x y =
+    let a = unitsOf x in
+    let b = unitsOf y in
+    cond (Bool·beq (signOf x) (signOf y)) (cond (leb a b) (b - a) (a - b)) (a + b)
