@@ -3,7 +3,7 @@ use mathlib.Core.Path.{_≡_, refl, sym, ap, _∙_, subst}
 use mathlib.Core.Bool.{Bool, true, false, not, cond}
 use Prim.Native.Nat.{ℕ, zero, suc, _+_, _*_, _/_, _%_, _^_, _≤_, _<_}
 use lib.Dec.{T, eqb}
-use lib.Ieee.{Float, nan, inf, fin, binary64, prec, low, hid, odd, div, ne, isNan, ofFields, ofBits, toBits, nanBits}
+use lib.Ieee.{Float, nan, inf, fin, Format, binary64, prec, low, hid, ones, top, odd, div, ne, isNan, ofFields, ofBits, toBits, nanBits}
 use lib.Ieee.Bits.{nanBits-is, nanBits-above}
 use borrow.Author.Tests.{lt-ltb, le-ltb, ne-eqb}
 use Rattle.arithmetic.specs.Number
@@ -22,15 +22,15 @@ pub nan-quotient : div binary64 (ofBits binary64 0) (ofBits binary64 0) ≡ nan
 unfolding div ofBits
 nan-quotient = refl
 
-pub reads-nan : (n : ℕ) → 2047 * 2 ^ 52 < n % 2 ^ 63 → nan ≡ ofBits binary64 n
-reads-nan n h = only-nan (ofBits binary64 n) (sym (nanBits-is binary64 n) ∙ nanBits-above binary64 n ∙ lt-ltb (2047 * 2 ^ 52) (n % 2 ^ 63) h)
+-- patterns past the infinity's are a NaN's, in both formats
+pub reads-nan : (f : Format) (n : ℕ) → ones f * hid f < n % top f → nan ≡ ofBits f n
+reads-nan f n h = only-nan (ofBits f n) (sym (nanBits-is f n) ∙ nanBits-above f n ∙ lt-ltb (ones f * hid f) (n % top f) h)
 
-pub reads-number : (n : ℕ) → n % 2 ^ 63 ≤ 2047 * 2 ^ 52 → T (not (nanBits binary64 n))
-reads-number n h = subst (λ (b : Bool). T (not b)) (sym (nanBits-above binary64 n ∙ le-ltb (2047 * 2 ^ 52) (n % 2 ^ 63) h)) tt
+pub reads-number : (f : Format) (n : ℕ) → n % top f ≤ ones f * hid f → T (not (nanBits f n))
+reads-number f n h = subst (λ (b : Bool). T (not b)) (sym (nanBits-above f n ∙ le-ltb (ones f * hid f) (n % top f) h)) tt
 
-pub writes-nan : (x : Float) → ne x x ≡ true → 0x7ff8_0000_0000_0000 ≡ toBits binary64 x
-unfolding toBits
-writes-nan x h = ap (toBits binary64) (only-nan x (sym (ne-nan x) ∙ h))
+pub writes-nan : (f : Format) (x : Float) → ne x x ≡ true → toBits f nan ≡ toBits f x
+writes-nan f x h = ap (toBits f) (only-nan x (sym (ne-nan x) ∙ h))
 
 pub writes-number : (x : Float) → ne x x ≡ false → T (not (isNan x))
 writes-number x h = subst (λ (b : Bool). T (not b)) (sym (sym (ne-nan x) ∙ h)) tt

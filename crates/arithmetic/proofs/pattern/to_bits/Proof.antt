@@ -1,11 +1,13 @@
 -- `to_bits`: only a NaN differs from itself.
 use mathlib.Core.Path.{refl}
+use lib.Ieee.{binary64, toBits}
 use Rattle.arithmetic.proofs.NanPattern.{writes-nan, writes-number}
 use Rattle.arithmetic.proofs.pattern.to_bits.Statement.{statement}
 use Rattle.arithmetic.proofs.pattern.to_bits.Tie as tie
 
 returns : tie.Need-returns
-returns c = writes-nan (c .before .args .x) (c .if1 .taken)
+unfolding toBits
+returns c = writes-nan binary64 (c .before .args .x) (c .if1 .taken)
 
 float-to-bits-result : tie.Need-float-to-bits-result
 float-to-bits-result c = writes-number (c .before .args .x) (c .if1 .left)
