@@ -31,7 +31,7 @@ bytes-of-word (b ∷ bytes) h =
     let rest : (b + 256 * wordOf bytes) / 256 ≡ wordOf bytes = add-mul-div-left b (wordOf bytes) (omega arith) ∙ rw (div-eq-of-lt (h 0)) (zero-add (wordOf bytes)) in
     rw (low, rest, bytes-of-word bytes (λ (i : ℕ). h (suc i))) refl
 
--- ---- eight bytes, as the code has them
+-- ---- eight bytes, or four, as the code has them
 -- read one after the other
 first : (l : List ℕ) (n k : ℕ) → n < length l → take (suc k) (drop n l) ≡ getD l n 0 ∷ take k (drop (suc n) l)
 first l n k h = rw (drop-cons l n 0 h) refl
@@ -51,6 +51,16 @@ take-eight l at h =
       first l (suc (suc (suc (suc (suc (suc (suc at))))))) 0 (omega arith),
     ) refl)
 
+pub take-four : (l : List ℕ) (at : ℕ) → at + 4 ≤ length l → take 4 (drop at l) ≡ getD l at 0 ∷ getD l (at + 1) 0 ∷ getD l (at + 2) 0 ∷ getD l (at + 3) 0 ∷ []
+take-four l at h =
+    simp towards-suc
+    (rw (
+      first l at 3 (omega arith),
+      first l (suc at) 2 (omega arith),
+      first l (suc (suc at)) 1 (omega arith),
+      first l (suc (suc (suc at))) 0 (omega arith),
+    ) refl)
+
 -- stored one after the other
 pub put-eight : (l : List ℕ) (at b0 b1 b2 b3 b4 b5 b6 b7 : ℕ) → at + 8 ≤ length l
     → set (set (set (set (set (set (set (set l at b0) (at + 1) b1) (at + 2) b2) (at + 3) b3) (at + 4) b4) (at + 5) b5) (at + 6) b6) (at + 7) b7
@@ -58,6 +68,15 @@ pub put-eight : (l : List ℕ) (at b0 b1 b2 b3 b4 b5 b6 b7 : ℕ) → at + 8 ≤
 put-eight l at b0 b1 b2 b3 b4 b5 b6 b7 h =
     let bs = b0 ∷ b1 ∷ b2 ∷ b3 ∷ b4 ∷ b5 ∷ b6 ∷ b7 ∷ [] in
     simp towards-suc (simp towards-suc at (sets-eq bs l at h ∙ append-assoc (take at l) bs (drop (at + 8) l)))
+
+pub put-four : (l : List ℕ) (at b0 b1 b2 b3 : ℕ) → at + 4 ≤ length l → set (set (set (set l at b0) (at + 1) b1) (at + 2) b2) (at + 3) b3 ≡ put l at (b0 ∷ b1 ∷ b2 ∷ b3 ∷ [])
+put-four l at b0 b1 b2 b3 h =
+    let bs = b0 ∷ b1 ∷ b2 ∷ b3 ∷ [] in
+    simp towards-suc (simp towards-suc at (sets-eq bs l at h ∙ append-assoc (take at l) bs (drop (at + 4) l)))
+
+pub bytes-four : (w : ℕ) → bytesOf 4 w ≡ w % 256 ∷ w / 256 % 256 ∷ w / 65536 % 256 ∷ w / 16777216 % 256 ∷ []
+unfolding bytesOf
+bytes-four w = simp div-div-eq-div-mul
 
 pub bytes-eight : (w : ℕ)
     → bytesOf 8 w

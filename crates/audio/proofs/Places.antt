@@ -1,24 +1,24 @@
--- The bytes of each sample. Only `sample-some`, `bytes-for-length` and what stands under "eight bytes a sample" look at the sample type.
-use mathlib.Core.Path.{_≡_, refl, sym, ap, _∙_}
+-- The bytes of each sample. Only `sample-some` and `patterns` look at the sample type.
+use mathlib.Core.Path.{_≡_, refl, sym, ap, subst, _∙_}
 use mathlib.Core.Bool.{Bool, true, false}
 use mathlib.Core.List.{List, [], _∷_, _++_, map}
-use Prim.Native.Nat.{ℕ, zero, suc, _+_, _*_, _/_, _%_, _≤_, _<_}
+use Prim.Native.Nat.{ℕ, zero, suc, _+_, _*_, _/_, _%_, _^_, _≤_, _<_}
 use native.Mathlib.Nat.{mul-zero, mul-suc, mul-div-le, div-le-self, mul-le-mul-left, mul-div-cancel-left, mod-add-div}
 use native.Mathlib.Omega.{arith}
 use lib.Dec.{T, eqb}
 use lib.ListN.{length, getD, set, take, drop, length-append, length-drop, length-map}
 use lib.Seq.{take-at, drop-at, length-take-le}
-use lib.Ieee.{Float, nan, binary64, toBits, fits}
+use lib.Ieee.{Float, nan, top, ofBits, toBits, fits}
 use lib.Ieee.Bits.{ofBits-toBits, toBits-lt}
 use borrow.Author.Tests.{eqb-true}
-use Rattle.arithmetic.specs.Number.{bits, largest}
+use Rattle.arithmetic.specs.Number.{largest}
 use Rattle.arithmetic.specs.Sanitize.{finiteOrZero}
 use Rattle.audio.specs.Bytes.{cut, joined}
 use Rattle.audio.specs.Planar.{firstOf, othersOf, written}
-use Rattle.audio.specs.Format.{sampleBytes, sampleOf, bytesFor, sizeOf, placesOf, samplesOf, soundsOf}
+use Rattle.audio.specs.Format.{binaryOf, sampleBytes, sampleOf, bytesFor, sizeOf, placesOf, samplesOf, soundsOf}
 use Rattle.audio.specs.Inner.{put}
 use Rattle.audio.specs.declared.format.Format.{Format}
-use Rattle.audio.specs.declared.format.Format.the-variants.{F64}
+use Rattle.audio.specs.declared.format.Format.the-variants.{F64, F32}
 use Rattle.audio.proofs.Numbers.{bytes-length, word-of-bytes, put-length, cut-length, cut-at, joined-cut, cut-put}
 
 -- ---- what holds of each in a list
@@ -102,10 +102,16 @@ getD-map f (x ∷ l) (suc i) d d' h = getD-map f l i d d' (omega arith)
 -- ---- the sample type
 pub sample-some : (format : Format) → 1 ≤ sampleBytes format
 sample-some F64 = omega arith
+sample-some F32 = omega arith
+
+-- its patterns are the numbers of its bytes
+patterns : (format : Format) → 2 * top (binaryOf format) ≡ 256 ^ sampleBytes format
+patterns F64 = refl
+patterns F32 = refl
 
 pub bytes-for-length : (format : Format) (x : Float) → length (bytesFor format x) ≡ sampleBytes format
 unfolding bytesFor
-bytes-for-length F64 x = bytes-length 8 _
+bytes-for-length format x = bytes-length (sampleBytes format) (toBits (binaryOf format) x)
 
 -- ---- the places of bytes
 module _ (format : Format) where
@@ -163,6 +169,10 @@ module _ (format : Format) where
     pub sound-at : getD (soundsOf format bytes) i nan ≡ finiteOrZero (getD (samplesOf format bytes) i nan)
     sound-at = getD-map finiteOrZero (samplesOf format bytes) i nan nan (rw (samples-count bytes) h)
 
+    -- the same in an arm that knows the sample type
+    pub room-of : (known : Format) → format ≡ known → sampleBytes known * i + sampleBytes known ≤ length bytes
+    room-of known e = subst (λ (f : Format). sampleBytes f * i + sampleBytes f ≤ length bytes) e place-room
+
   -- ---- bytes that are whole samples: their size is no `largest`
   module _ (bytes : List ℕ) (size : ℕ) (fit : sizeOf format bytes ≡ size) (small : size < largest) where
     pub whole : (length bytes % sampleBytes format ≡ 0) × (length bytes / sampleBytes format ≡ size)
@@ -187,11 +197,9 @@ module _ (format : Format) where
   unfolding sizeOf
   size-same a b e = rw e refl
 
--- ---- eight bytes a sample
-pub eight-room : (format : Format) (bytes : List ℕ) (i : ℕ) → i < length (placesOf format bytes) → 8 * i + 8 ≤ length bytes
-eight-room F64 bytes i h = place-room F64 bytes i h
-
--- an output that an f64 holds is had back from its bytes
-pub sample-back : (format : Format) (x : Float) → T (fits binary64 x) → sampleOf format (bytesFor format x) ≡ x
+-- ---- a value of the sample type is had back from its bytes
+pub sample-back : (format : Format) (x : Float) → T (fits (binaryOf format) x) → sampleOf format (bytesFor format x) ≡ x
 unfolding sampleOf bytesFor
-sample-back F64 x h = ap bits (word-of-bytes 8 (toBits binary64 x) (toBits-lt binary64 x h)) ∙ ofBits-toBits binary64 x h
+sample-back format x h =
+    let f = binaryOf format in
+    ap (ofBits f) (word-of-bytes (sampleBytes format) (toBits f x) (subst (λ (n : ℕ). toBits f x < n) (patterns format) (toBits-lt f x h))) ∙ ofBits-toBits f x h

@@ -4,25 +4,32 @@ use mathlib.Core.Bool.{cond}
 use mathlib.Core.List.{List, map}
 use lib.Dec.{eqb}
 use lib.ListN.{length}
-use lib.Ieee.{Float, nan, binary64, toBits}
-use Rattle.arithmetic.specs.Number.{bits, largest}
+use lib.Ieee
+use lib.Ieee.{Float, nan, binary32, binary64, ofBits, toBits}
+use Rattle.arithmetic.specs.Number.{largest}
 use Rattle.arithmetic.specs.Sanitize.{finiteOrZero}
 use Rattle.audio.specs.Bytes.{wordOf, bytesOf, cut, joined}
 use Rattle.audio.specs.Planar.{written}
 use Rattle.audio.specs.declared.format.Format.{Format}
-use Rattle.audio.specs.declared.format.Format.the-variants.{F64}
+use Rattle.audio.specs.declared.format.Format.the-variants.{F64, F32}
 
--- "a sample being 8 bytes, low byte first"
+-- IEEE 754's format of a sample type
+abbrev pub binaryOf : Format → Ieee.Format
+binaryOf F64 = binary64
+binaryOf F32 = binary32
+
+-- "a sample being 8 bytes, low byte first"; Change 1: "an f32 crosses as 4 bytes, low byte first"
 abbrev pub sampleBytes : Format → ℕ
 sampleBytes F64 = 8
+sampleBytes F32 = 4
 
--- the value of a sample's bytes
+-- the value of a sample's bytes: an f32 is "widened exactly"
 unfoldable pub sampleOf : Format → List ℕ → Float
-sampleOf F64 place = bits (wordOf place)
+sampleOf format place = ofBits (binaryOf format) (wordOf place)
 
--- the bytes of an output
+-- the bytes of an output, which is a value of the sample type
 unfoldable pub bytesFor : Format → Float → List ℕ
-bytesFor F64 x = bytesOf 8 (toBits binary64 x)
+bytesFor format x = bytesOf (sampleBytes format) (toBits (binaryOf format) x)
 
 -- ---- a call's audio
 -- the audio length that 20 judges, in samples; bytes that are no whole number of samples have a length that no call asks for

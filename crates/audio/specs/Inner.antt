@@ -3,8 +3,9 @@ use Prim.Native.Nat.{ℕ, _+_, _*_, _≤_, _<_}
 use mathlib.Core.Path.{_≡_}
 use mathlib.Core.List.{List, [], _++_}
 use lib.ListN.{length, getD, take, drop}
-use lib.Ieee.{Float, nan}
-use Rattle.audio.specs.Format.{bytesFor, placesOf}
+use lib.Dec.{T}
+use lib.Ieee.{Float, nan, fits}
+use Rattle.audio.specs.Format.{binaryOf, bytesFor, placesOf}
 use Rattle.audio.specs.declared.format.Format.{Format}
 
 -- ---- places carried from one planar list to another; `none` stands past a list's end
@@ -24,6 +25,14 @@ abbrev pub put : List ℕ → ℕ → List ℕ → List ℕ
 put bytes at new = take at bytes ++ (new ++ drop (at + length new) bytes)
 
 -- ---- outputs in a call's audio
+-- n of them, from a place on, are values of the sample type
+abbrev pub Held : Format → ℕ → ℕ → List Float → Type 0
+Held format n from run = (i : ℕ) → i < n → T (fits (binaryOf format) (getD run (from + i) nan))
+
+-- so are the first n of each channel of a run
+abbrev pub HeldAll : Format → ℕ → ℕ → List Float → Type 0
+HeldAll format channels n run = (c : ℕ) → c < channels → Held format n (c * 32) run
+
 -- those of n frames, from frame `first` on: each as its bytes in its sample's place, and every other place as it was
 pub record Placed (format : Format) (channels n width first : ℕ) (outputs : List (List Float)) (bytes after : List ℕ) : Type 0 where
   pub as-long : length after ≡ length bytes

@@ -5,6 +5,7 @@ ghost use Rattle.audio.specs.Format.{sampleBytes, sizeOf};
 // How a sample is stored, low byte first.
 pub enum Format {
     F64,
+    F32,
 }
 
 // The bytes of a sample.
@@ -13,6 +14,7 @@ pub fn sample_bytes(format: Format) -> usize
 {
     match format {
         Format::F64 => 8,
+        Format::F32 => 4,
     }
 }
 

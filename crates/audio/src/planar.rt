@@ -4,34 +4,43 @@ ghost use mathlib.Core.Path.{_≡_};
 ghost use mathlib.Core.List.{map};
 ghost use Prim.Native.Nat.{_+_, _*_, _%_, _≤_, _<_};
 ghost use lib.ListN.{length, getD, set};
-ghost use lib.Ieee.{nan};
+ghost use lib.Dec.{T};
+ghost use lib.Ieee.{nan, fits};
 ghost use Rattle.audio.specs.Planar.{framesAt};
-ghost use Rattle.audio.specs.Format.{sampleBytes, bytesFor, sizeOf, placesOf, soundsOf};
-ghost use Rattle.audio.specs.Inner.{PlacesCopied, PlacesCarried, Placed};
+ghost use Rattle.audio.specs.Format.{binaryOf, sampleBytes, bytesFor, sizeOf, placesOf, soundsOf};
+ghost use Rattle.audio.specs.Inner.{PlacesCopied, PlacesCarried, Held, HeldAll, Placed};
 use crate::format::Format;
+use crate::words::half;
+use crate::words::put_half;
 use crate::words::put_word;
 use crate::words::word;
+use arithmetic::narrow::to_bits32;
+use arithmetic::narrow::widen;
 use arithmetic::pattern::finite_from_bits;
 use arithmetic::pattern::to_bits;
+use arithmetic::sanitize::finite_or_zero;
 
-// The sample at an index, sanitized by a test on its pattern.
+// The sample at an index, sanitized.
 fn sample(format: Format, bytes: &[u8], i: usize) -> f64
     requires { ⌜ i < length (placesOf format (now bytes)) ⌝ }
     ensures { λ r. ⌜ r ≡ getD (soundsOf format (now (bytes .entry))) i nan ⌝ }
 {
     match format {
         Format::F64 => finite_from_bits(word(bytes, 8 * i)),
+        Format::F32 => finite_or_zero(widen(half(bytes, 4 * i))),
     }
 }
 
-// A sample into its place, in bytes that are whole samples.
+// A value of the sample type into its place, in bytes that are whole samples.
 fn put_sample(format: Format, bytes: &mut [u8], i: usize, x: f64)
+    requires { ⌜ T (fits (binaryOf format) x) ⌝ }
     requires { ⌜ length (now bytes) % sampleBytes format ≡ 0 ⌝ }
     requires { ⌜ i < length (placesOf format (now bytes)) ⌝ }
     ensures { λ _. ⌜ placesOf format (now (bytes .exit)) ≡ set (placesOf format (now (bytes .entry))) i (bytesFor format x) ⌝ }
 {
     match format {
         Format::F64 => put_word(bytes, 8 * i, to_bits(x)),
+        Format::F32 => put_half(bytes, 4 * i, to_bits32(x)),
     }
 }
 
@@ -74,6 +83,7 @@ fn write_channel(format: Format, n: usize, from: usize, run: &[f64], to: usize, 
     requires { ⌜ length (now bytes) % sampleBytes format ≡ 0 ⌝ }
     requires { ⌜ from + n ≤ length (now run) ⌝ }
     requires { ⌜ to + n ≤ length (placesOf format (now bytes)) ⌝ }
+    requires { ⌜ Held format n from (now run) ⌝ }
     ensures { λ _. ⌜ PlacesCopied (bytesFor format nan) n from (map (bytesFor format) (now (run .entry)))
         to (placesOf format (now (bytes .entry))) (placesOf format (now (bytes .exit))) ⌝ }
 {
@@ -98,6 +108,7 @@ pub fn scatter(
     requires { ⌜ first + n ≤ width ⌝ }
     requires { ⌜ n ≤ 32 ⌝ }
     requires { ⌜ length (now run) ≡ 256 ⌝ }
+    requires { ⌜ HeldAll format channels n (now run) ⌝ }
     ensures { λ _. ⌜ Placed format channels n width first (framesAt nan 32 channels 0 n (now (run .entry))) (now (bytes .entry)) (now (bytes .exit)) ⌝ }
 {
     for c in 0..channels {

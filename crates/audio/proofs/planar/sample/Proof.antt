@@ -1,39 +1,88 @@
 -- `sample`: the value of the bytes of its place, sanitized.
-use mathlib.Core.Path.{_≡_, sym, ap, _∙_}
+use mathlib.Core.Path.{_≡_, sym, ap, subst, _∙_}
 use mathlib.Core.List.{List, []}
 use Prim.Native.Nat.{ℕ, _*_, _<_}
 use native.Mathlib.Omega.{arith}
 use denote.Ref.{now}
 use borrow.Author.Needs.{needs}
 use lib.ListN.{length, getD, take, drop}
-use lib.Ieee.{nan}
-use Rattle.arithmetic.specs.Number.{bits}
+use lib.Ieee.{Float, nan, binary32, binary64, ofBits}
 use Rattle.arithmetic.specs.Sanitize.{finiteOrZero}
 use Rattle.audio.specs.Bytes.{wordOf}
-use Rattle.audio.specs.Format.{sampleOf, placesOf, soundsOf}
+use Rattle.audio.specs.Format.{binaryOf, sampleBytes, sampleOf, placesOf, soundsOf}
 use Rattle.audio.specs.declared.format.Format.{Format}
-use Rattle.audio.specs.declared.format.Format.the-variants.{F64}
-use Rattle.audio.proofs.Places.{eight-room, place-at, sample-at, sound-at}
+use Rattle.audio.specs.declared.format.Format.the-variants.{F64, F32}
+use Rattle.audio.proofs.Places.{room-of, place-at, sample-at, sound-at}
 use Rattle.audio.proofs.planar.sample.Statement.{statement}
 use Rattle.audio.proofs.planar.sample.Tie as tie
 
-value : (f : Format) (bytes : List ℕ) (i : ℕ) → i < length (placesOf f bytes) → finiteOrZero (bits (wordOf (take 8 (drop (8 * i) bytes)))) ≡ getD (soundsOf f bytes) i nan
-unfolding sampleOf
-value F64 bytes i h = sym (sound-at F64 bytes i h ∙ ap finiteOrZero (sample-at F64 bytes i h [] ∙ ap (sampleOf F64) (place-at F64 bytes i h [])))
+abbrev valueAs : Format → List ℕ → ℕ → Float
+valueAs f bytes i = finiteOrZero (ofBits (binaryOf f) (wordOf (take (sampleBytes f) (drop (sampleBytes f * i) bytes))))
 
-mul-word : tie.Need-mul-word
-mul-word c = let s = c .before in omega (arith, eight-room (s .args .format) (now (s .args .bytes)) (s .args .i) (s .pre))
+value : (f : Format) (bytes : List ℕ) (i : ℕ) → i < length (placesOf f bytes) → valueAs f bytes i ≡ getD (soundsOf f bytes) i nan
+unfolding sampleOf
+value f bytes i h = sym (sound-at f bytes i h ∙ ap finiteOrZero (sample-at f bytes i h [] ∙ ap (sampleOf f) (place-at f bytes i h [])))
+
+-- in an arm that knows the sample type
+value-of : (f : Format) (bytes : List ℕ) (i : ℕ) → i < length (placesOf f bytes) → (known : Format) → f ≡ known → valueAs known bytes i ≡ getD (soundsOf f bytes) i nan
+value-of f bytes i h known e = subst (λ (g : Format). valueAs g bytes i ≡ getD (soundsOf f bytes) i nan) e (value f bytes i h)
+
+enum-told : tie.Need-enum-told
+enum-told c = search needs
 
 word-requires : tie.Need-word-requires
-word-requires c κs = let s = c .before in eight-room (s .args .format) (now (s .args .bytes)) (s .args .i) (s .pre)
+word-requires c κs = let s = c .before .before .before in room-of (s .args .format) (now (s .args .bytes)) (s .args .i) (s .pre) F64 (c .enum-told .given .1)
+
+mul-word : tie.Need-mul-word
+mul-word c = let s = c .before .before .before in omega (arith, room-of (s .args .format) (now (s .args .bytes)) (s .args .i) (s .pre) F64 (c .enum-told .given .1))
 
 finite-from-bits-requires : tie.Need-finite-from-bits-requires
 finite-from-bits-requires c κs = search needs
 
+enum-told-2 : tie.Need-enum-told-2
+enum-told-2 c = search needs
+
+half-requires : tie.Need-half-requires
+half-requires c κs = let s = c .before .before .before in room-of (s .args .format) (now (s .args .bytes)) (s .args .i) (s .pre) F32 (c .enum-told2 .given .1)
+
+mul-half : tie.Need-mul-half
+mul-half c = let s = c .before .before .before in omega (arith, room-of (s .args .format) (now (s .args .bytes)) (s .args .i) (s .pre) F32 (c .enum-told2 .given .1))
+
+widen-requires : tie.Need-widen-requires
+widen-requires c κs = search needs
+
+finite-or-zero-requires : tie.Need-finite-or-zero-requires
+finite-or-zero-requires c κs = search needs
+
 returns : tie.Need-returns
 returns c =
-    let s = c .before .before .before in
-    c .finite-from-bits .ensures ∙ ap (λ (n : ℕ). finiteOrZero (bits n)) (c .before .word .ensures) ∙ value (s .args .format) (now (s .args .bytes)) (s .args .i) (s .pre)
+    let k = c .before .before in
+    let s = k .before .before .before in
+    c .finite-from-bits .ensures
+    ∙ ap (λ (n : ℕ). finiteOrZero (ofBits binary64 n)) (c .before .word .ensures)
+    ∙ value-of (s .args .format) (now (s .args .bytes)) (s .args .i) (s .pre) F64 (k .enum-told .given .1)
+
+returns-2 : tie.Need-returns-2
+returns-2 c =
+    let k = c .before .before .before in
+    let s = k .before .before .before in
+    c .finite-or-zero .ensures
+    ∙ ap finiteOrZero (c .before .widen .ensures)
+    ∙ ap (λ (n : ℕ). finiteOrZero (ofBits binary32 n)) (c .before .before .half .ensures)
+    ∙ value-of (s .args .format) (now (s .args .bytes)) (s .args .i) (s .pre) F32 (k .enum-told2 .given .1)
 
 pub sample-spec : {M : Type 1} → statement M
-sample-spec = tie.close (tie.spec mul-word word-requires finite-from-bits-requires returns)
+sample-spec =
+    tie.close
+    (tie.spec
+    enum-told
+    mul-word
+    word-requires
+    finite-from-bits-requires
+    enum-told-2
+    mul-half
+    half-requires
+    widen-requires
+    finite-or-zero-requires
+    returns
+    returns-2)

@@ -53,7 +53,11 @@ add-write-channel : tie.Need-add-write-channel Inv-loop μ-loop
 add-write-channel c = let i = inside c in omega arith
 
 write-channel-requires : tie.Need-write-channel-requires Inv-loop μ-loop
-write-channel-requires c κs = let i = inside (c .before) in (i .2, (omega arith, omega arith))
+write-channel-requires c κs =
+    let k = c .before in
+    let s = k .before .before .before .before in
+    let i = inside k in
+    (i .2, (omega arith, (omega arith, s .pre .1 .1 .1 .1 .1 .1 (k .before .loop .c) (k .loop-test .taken))))
 
 add-c : tie.Need-add-c Inv-loop μ-loop
 add-c c = omega arith

@@ -39,7 +39,7 @@ put-sample-requires : tie.Need-put-sample-requires Inv-loop μ-loop
 put-sample-requires c κs =
     let l = c .before .before .before in
     let s = l .before .before .before in
-    (ap (λ (n : ℕ). n % sampleBytes (s .args .format)) (l .loop .inv .1) ∙ s .pre .0, omega arith)
+    (s .pre .1 .1 .1 (l .loop .i) (c .before .before .loop-test .taken), (ap (λ (n : ℕ). n % sampleBytes (s .args .format)) (l .loop .inv .1) ∙ s .pre .0, omega arith))
 
 add-i : tie.Need-add-i Inv-loop μ-loop
 add-i c = search needs
