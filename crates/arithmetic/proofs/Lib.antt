@@ -8,6 +8,7 @@ pub mod Quotient
 pub mod Whole
 pub mod Power
 pub mod Cut
+pub mod Units
 pub mod Exp
 pub mod Rows
 pub mod Wrong
