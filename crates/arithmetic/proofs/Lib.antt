@@ -22,3 +22,4 @@ pub mod UnitReduced
 pub mod Unit
 pub mod PowerExact
 pub mod InTurn
+pub mod Exact32
