@@ -23,3 +23,4 @@ pub mod Unit
 pub mod PowerExact
 pub mod InTurn
 pub mod Exact32
+pub mod Closest
