@@ -8,6 +8,7 @@ pub mod Quotient
 pub mod Whole
 pub mod Power
 pub mod Cut
+pub mod Units
 pub mod Exp
 pub mod Rows
 pub mod Wrong
@@ -21,3 +22,5 @@ pub mod UnitReduced
 pub mod Unit
 pub mod PowerExact
 pub mod InTurn
+pub mod Exact32
+pub mod Closest
