@@ -8,5 +8,6 @@ pub mod Clean
 pub mod Stretch
 pub mod Exchange
 pub mod Keeps
+pub mod Held
 pub mod Place
 pub mod Wrong

@@ -4,8 +4,9 @@ use mathlib.Core.Bool.{Bool, true}
 use mathlib.Core.List.{List}
 use lib.Ieee.{Float}
 use Rattle.arithmetic.specs.Sanitize.{flushDenormal}
+use Rattle.arithmetic.specs.Narrow.{narrowed}
 use Rattle.audio.specs.declared.format.Format.{Format}
-use Rattle.audio.specs.declared.format.Format.the-variants.{F64}
+use Rattle.audio.specs.declared.format.Format.the-variants.{F64, F32}
 use Rattle.detector.specs.Taps.{taps}
 use Rattle.settings.specs.declared.LimiterSettings.{LimiterSettings}
 
@@ -29,9 +30,10 @@ tapsOf s = taps
 unfoldable pub countsIn : LimiterSettings → ℕ → Bool
 countsIn s c = true
 
--- module 1's output rule: "an output below 1e-30 in magnitude becomes +0.0, minus zero included"
+-- module 1's output rule: "an output below 1e-30 in magnitude becomes +0.0, minus zero included"; Change 1: "each output rounded to the nearest f32, ties to even, after small values became 0.0"
 unfoldable pub leavesBy : Format → Float → Float
 leavesBy F64 x = flushDenormal x
+leavesBy F32 x = narrowed (flushDenormal x)
 
 abbrev pub linkingOf : LimiterSettings → Linking
 linkingOf s = record { taps = tapsOf s; counts = countsIn s }
