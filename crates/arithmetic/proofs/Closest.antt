@@ -31,6 +31,7 @@ compared a b = go (compare a b) (leb→le a b) (nleb→lt a b) (eqb→eq a b) (�
     go Ordering·gt h k e n = k tt
 
 -- ---- the nearest multiple
+-- how far apart two numbers lie, as `omega` reads it
 abbrev pub gap : ℕ → ℕ → ℕ
 gap a b = (a - b) + (b - a)
 
@@ -51,6 +52,7 @@ module _ (n u w r : ℕ) (e : w * u + r ≡ n) (R : r < u) where
   by-order Ordering·eq c = tie c (w % 2) refl
   by-order Ordering·gt c = omega (arith, suc-mul w u)
 
+  -- c multiples that lie at most half of u away, an even number of them where it is exactly half
   module _ (c : ℕ) (h : gap n (c * u) * 2 ≤ u) (even : gap n (c * u) * 2 ≡ u → c % 2 ≡ 0) where
     at-least : w ≤ c
     at-least = le-of-suc-le-suc (lt-of-not-le (λ (g : suc c ≤ w). absurd (omega (arith, mul-le-mul-right u g, suc-mul c u))))

@@ -63,7 +63,7 @@ at-least x y = go (Bool·beq (signOf x) (signOf y))
     go true = le-of-eq (sym (distance (unitsOf x) (unitsOf y)))
     go false = apart-le (unitsOf x) (unitsOf y)
 
--- ---- a finite f32 in units
+-- ---- a finite f32 in units: 24 digits, none below 2^−149, and all below 2^128
 record Held (z : Float) : Type 0 where
   m : ℕ
   i : ℕ
@@ -152,6 +152,7 @@ narrowed-infinite nan f p h = absurd p
 narrowed-infinite (inf s) f p h = absurd p
 narrowed-infinite (fin s m e) f p h = narrowed-over s m e f (grid-above (unitsOf (fin s m e)) h)
 
+-- and back: its value from its sign and its units
 own-value : (y : Float) (s : Bool) (n : ℕ) → T (finite y) → T (fits binary32 y) → signOf y ≡ s → unitsOf y ≡ n → HasValue y s n (2 ^ 1074)
 own-value nan s n p f h e = absurd p
 own-value (inf t) s n p f h e = absurd p
