@@ -5,7 +5,7 @@ use mathlib.Core.Path.{_≡_, refl, sym, ap, _∙_, subst}
 use mathlib.Core.Logic.{_⊎_, inl, inr}
 use mathlib.Core.Bool.{not}
 use Prim.Native.Nat.{ℕ, zero, suc, _+_, _-_, _*_, _/_, _%_, _^_, _≤_, _<_, max, compare, Ordering, Ordering·lt, Ordering·eq, Ordering·gt}
-use native.Mathlib.Nat.{le-trans, le-of-eq, le-of-lt, le-of-suc-le-suc, lt-of-not-le, lt-of-lt-of-le, not-le-of-lt, eq-or-lt-of-le, add-zero, add-mul, one-mul, suc-mul, mul-assoc, mul-le-mul-right, mod-lt, div-add-mod', le-div-iff-mul-le}
+use native.Mathlib.Nat.{le-trans, le-of-eq, le-of-lt, le-of-suc-le-suc, lt-of-not-le, lt-of-lt-of-le, not-le-of-lt, eq-or-lt-of-le, add-mul, suc-mul, mul-assoc, mul-le-mul-right, mod-lt, div-add-mod', le-div-iff-mul-le}
 use native.Mathlib.Omega.{arith}
 use native.Mathlib.Decide.{decLe}
 use lib.Dec.{T, isLe, isEq, eqb, leb→le, nleb→lt, eqb→eq, eqb-refl, lit≤}
@@ -31,6 +31,7 @@ compared a b = go (compare a b) (leb→le a b) (nleb→lt a b) (eqb→eq a b) (�
     go Ordering·gt h k e n = k tt
 
 -- ---- the nearest multiple
+-- how far apart two numbers lie, as `omega` reads it
 abbrev pub gap : ℕ → ℕ → ℕ
 gap a b = (a - b) + (b - a)
 
@@ -51,6 +52,7 @@ module _ (n u w r : ℕ) (e : w * u + r ≡ n) (R : r < u) where
   by-order Ordering·eq c = tie c (w % 2) refl
   by-order Ordering·gt c = omega (arith, suc-mul w u)
 
+  -- c multiples that lie at most half of u away, an even number of them where it is exactly half
   module _ (c : ℕ) (h : gap n (c * u) * 2 ≤ u) (even : gap n (c * u) * 2 ≡ u → c % 2 ≡ 0) where
     at-least : w ≤ c
     at-least = le-of-suc-le-suc (lt-of-not-le (λ (g : suc c ≤ w). absurd (omega (arith, mul-le-mul-right u g, suc-mul c u))))

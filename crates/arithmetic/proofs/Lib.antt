@@ -24,3 +24,4 @@ pub mod PowerExact
 pub mod InTurn
 pub mod Exact32
 pub mod Closest
+pub mod Nearest

@@ -5,10 +5,11 @@ use mathlib.Core.Bool.{true, false, cond}
 use mathlib.Core.List.{[]}
 use lib.Dec.{ltb}
 use lib.IntN.{pos}
-use lib.Ieee.{Float, nan, inf, fin, binary64, add, sub, mul, div, lt, le, neg, ofInt, ofBits, toBits, toUnsigned, isNan}
+use lib.Ieee.{Float, nan, inf, fin, binary32, binary64, round, add, sub, mul, div, lt, le, neg, ofInt, ofBits, toBits, toUnsigned, isNan}
 use lib.Ieee.Scale.{finite}
 use Rattle.arithmetic.specs.Number.{bits, zero, one, absOf, minOf, maxOf, clampOf, within, copysignOf, roundedOf, ceilOf, sameValue}
 use Rattle.arithmetic.specs.Sanitize.{finiteOrZero, denormalFloor, flushDenormal, unitGain}
+use Rattle.arithmetic.specs.Narrow.{narrowed}
 use Rattle.arithmetic.specs.Reply.{refused}
 use Rattle.arithmetic.specs.Exp.{cutting, highOf, hiOf, loOf, scaled, reduced, expOf, expReply}
 
@@ -128,3 +129,58 @@ pattern-of-nan = refl
 pub same-by-bits : (sameValue zero minusZero ≡ false) × (sameValue nan nan ≡ true)
 unfolding toBits
 same-by-bits = (refl, refl)
+
+-- ---- the nearest f32
+-- the 32 bits that an f64's become
+abbrev bits32 : ℕ → ℕ
+bits32 b = toBits binary32 (narrowed (bits b))
+
+-- ties away from zero: 3f800001 for 1 + 2^−24, midway between 1 and the next f32
+pub tie-down : bits32 0x3ff0_0000_1000_0000 ≡ 0x3f80_0000
+unfolding narrowed round ofBits toBits
+tie-down = refl
+
+-- cut instead of rounded, and ties toward zero: 3f800001 for 1 + 3 × 2^−24
+pub tie-up : bits32 0x3ff0_0000_3000_0000 ≡ 0x3f80_0002
+unfolding narrowed round ofBits toBits
+tie-up = refl
+
+-- a tie seen from fewer digits than 53: 3f800000 for the f64 after 1 + 2^−24, and 3f800002 for the one before 1 + 3 × 2^−24
+pub beside-tie : (bits32 0x3ff0_0000_1000_0001 ≡ 0x3f80_0001) × (bits32 0x3ff0_0000_2fff_ffff ≡ 0x3f80_0001)
+unfolding narrowed round ofBits toBits
+beside-tie = (refl, refl)
+
+-- an infinity too late, from 2^128 on: 7f7fffff, the largest f32, for 2^128 − 2^103
+pub overflow-starts : bits32 0x47ef_ffff_f000_0000 ≡ 0x7f80_0000
+unfolding narrowed round ofBits toBits
+overflow-starts = refl
+
+-- an infinity too early, past the largest f32: 7f800000 for the f64 before 2^128 − 2^103
+pub overflow-waits : bits32 0x47ef_ffff_efff_ffff ≡ 0x7f7f_ffff
+unfolding narrowed round ofBits toBits
+overflow-waits = refl
+
+-- ties away from zero at the least f32, 2^−149: 00000001 for its half
+pub least-tie : bits32 0x3690_0000_0000_0000 ≡ 0
+unfolding narrowed round ofBits toBits
+least-tie = refl
+
+-- subnormals flushed: 00000000 for the f64 after 2^−150
+pub least-kept : bits32 0x3690_0000_0000_0001 ≡ 1
+unfolding narrowed round ofBits toBits
+least-kept = refl
+
+-- a carry lost where the digits become 24: 007fffff for 2^−126 − 2^−151
+pub carry-kept : bits32 0x380f_ffff_f000_0000 ≡ 0x0080_0000
+unfolding narrowed round ofBits toBits
+carry-kept = refl
+
+-- a sign lost at underflow: 00000000 for −2^−150
+pub sign-kept : bits32 0xb690_0000_0000_0000 ≡ 0x8000_0000
+unfolding narrowed round ofBits toBits
+sign-kept = refl
+
+-- a NaN that keeps its sign and payload: ffc00001
+pub nan-pattern : bits32 0xfff8_0000_2000_0000 ≡ 0x7fc0_0000
+unfolding narrowed round ofBits toBits
+nan-pattern = refl

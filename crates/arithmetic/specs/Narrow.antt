@@ -1,10 +1,11 @@
 -- Change 1, 32-bit samples: "each sample widened exactly, each output rounded to the nearest f32, ties to even". One type of values serves both formats,
 -- so a widened sample is the value of its 32 bits itself.
-use Prim.Native.Nat.{ℕ, _+_, _-_, _*_, _/_, _%_, _^_, _≤_, _<_, max, Ordering}
+use Prim.Native.Nat.{ℕ, _+_, _-_, _*_, _/_, _%_, _^_, _≤_, max}
 use mathlib.Core.Path.{_≡_}
-use mathlib.Core.Bool.{Bool, cond, Bool·beq}
+use mathlib.Core.Bool.{cond, Bool·beq}
 use lib.Dec.{T, leb}
 use lib.Ieee.{Float, nan, inf, fin, binary32, up, down, size, round, fits, ofBits}
+use lib.Ieee.Scale.{finite}
 use Rattle.arithmetic.specs.Number.{signOf}
 
 -- the value of a sample's 32 bits
@@ -38,3 +39,18 @@ apart x y =
     let a = unitsOf x in
     let b = unitsOf y in
     cond (Bool·beq (signOf x) (signOf y)) (cond (leb a b) (b - a) (a - b)) (a + b)
+
+-- ---- in the request's words
+-- y is the nearest f32 to a finite x, ties to even. Below `overflow` that is `narrowed x` and nothing else; from there on no y is (proofs/Nearest.antt).
+pub record Nearest (x y : Float) : Type 0 where
+  -- y is a finite f32 with x's sign
+  pub known : T (finite y)
+  pub held : T (fits binary32 y)
+  pub signed : signOf y ≡ signOf x
+  -- no finite f32 is nearer
+  pub none-nearer : (z : Float) → T (finite z) → T (fits binary32 z) → apart x y ≤ apart x z
+  -- twice the distance is at most the spacing there
+  pub near : apart x y * 2 ≤ spacing (unitsOf x)
+  -- y is a whole number of spacings, and where twice the distance is exactly one it is an even number of them
+  pub whole : unitsOf y % spacing (unitsOf x) ≡ 0
+  pub even : apart x y * 2 ≡ spacing (unitsOf x) → unitsOf y / spacing (unitsOf x) % 2 ≡ 0
