@@ -9,7 +9,7 @@ use lib.Ieee.{Float}
 use Rattle.arithmetic.specs.Number
 use Rattle.arithmetic.specs.Number.{one, within}
 use Rattle.audio.specs.Format.{sizeOf, writtenBytes}
-use Rattle.audio.specs.Inner.{Placed}
+use Rattle.audio.specs.Inner.{HeldAll, Placed}
 use Rattle.audio.specs.declared.format.Format.{Format}
 use Rattle.audio.proofs.Written.{written-bytes-none, written-bytes-size, placed-outputs, placed-joins}
 use Rattle.detector.specs.Run.{runLength}
@@ -21,14 +21,14 @@ use Rattle.frame.proofs.Place.{silent-frames}
 use Rattle.limiter.specs.Stores.{Stores, lengthsOf, lengthsFit}
 use Rattle.limiter.specs.Order
 use Rattle.limiter.specs.Run
-use Rattle.limiter.specs.Run.{movingOf, Ran, ranAt, drainedTo, KernelReady}
+use Rattle.limiter.specs.Run.{movingOf, Ran, ranAt, renderOf, drainedTo, KernelReady}
 use Rattle.limiter.specs.declared.state.Limiter.{Limiter}
 use Rattle.limiter.proofs.Frames.{order-is}
 use Rattle.limiter.proofs.Keeping.{frames-held, drain-prepared, drain-lengths, drain-in-order}
 use Rattle.turns.specs.Block.{Rendered, rendered, outputsOf}
 use Rattle.turns.specs.Drain.{silence, withDrained}
 use Rattle.turns.specs.Inner.{RunsReady, silent, DrainAsked}
-use Rattle.turns.proofs.Rendering.{ran-as, shown-many, frames-counted, channels-kept, kernel-asks, run-room, audio-small}
+use Rattle.turns.proofs.Rendering.{ran-as, shown-many, frames-counted, channels-kept, kernel-asks, run-room, render-held, audio-small}
 
 -- ---- frames in two lists, one after the other
 -- a limiter whose gain lies within 0 and 1 keeps its look
@@ -124,6 +124,18 @@ module _ (format : Format) (l₀ : Limiter) (n width : ℕ) (s₀ : Stores) (byt
     audio-size =
         ap (sizeOf format) (d .audio-is)
         ∙ written-bytes-size format width k bytes₀ (a .lends .audio-fit) (audio-small l₀ width (a .ready .set-up) (a .lends .short)) first (outputsOf (at first .frames)) (omega (arith, d .inside, a .inside)) before-many
+
+    -- and of the run
+    pub drain-held : (after : Limiter) (stores : Stores) (run' : List Float) → ranAt after stores run' ≡ Run.drainOf (rulesOf (l .settings) format) l len s run → HeldAll format k len run'
+    unfolding Run.drainOf
+    drain-held after stores run' e =
+        let r = renderOf (rulesOf (l .settings) format) l (l .target) len s (replicate (length run) Number.zero) in
+        let c : KernelReady l len s (replicate (length run) Number.zero) =
+        kernel-asks l len s (replicate (length run) Number.zero) (record { set-up = d .ready .set-up; lengths = d .ready .lengths; order = d .ready .order; room = drain-asks .room }) (tail-inside .0) (tail-inside .1) (length-replicate (length run) Number.zero ∙ d .run-fit)
+        in
+        subst (λ (channels : ℕ). HeldAll format channels len run') channels-are
+        (subst (HeldAll format (l .channels) len) (sym (ap (λ (z : Ran). z .audio) e))
+        (render-held l format (l .target) len s (replicate (length run) Number.zero) c (r .limiter) (r .stores) (r .audio) refl))
 
     -- ---- the frames of this run join those before it
     abbrev this : Rendered

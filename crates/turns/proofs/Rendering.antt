@@ -11,7 +11,7 @@ use Rattle.arithmetic.specs.Number.{one, within, largest}
 use Rattle.arithmetic.specs.Sanitize.{finiteOrZero}
 use Rattle.audio.specs.Planar.{framesAt}
 use Rattle.audio.specs.Format.{samplesOf, soundsOf}
-use Rattle.audio.specs.Inner.{PlacesCarried, Placed}
+use Rattle.audio.specs.Inner.{PlacesCarried, HeldAll, Placed}
 use Rattle.audio.specs.declared.format.Format.{Format}
 use Rattle.audio.proofs.Planes.{frames-at-length, written-elsewhere}
 use Rattle.audio.proofs.Written.{size-small, gathered, gathered-clean, placed-outputs}
@@ -22,6 +22,7 @@ use Rattle.frame.specs.Frame.{Framed}
 use Rattle.frame.specs.Run.{framesIn, writtenIn, Sanitized, runOf}
 use Rattle.frame.proofs.Clean.{frames-clean}
 use Rattle.frame.proofs.Keeps.{frames-kept, frames-many}
+use Rattle.frame.proofs.Held.{run-held}
 use Rattle.limiter.specs.Stores.{Stores, lengthsOf, lengthsFit}
 use Rattle.limiter.specs.Order
 use Rattle.limiter.specs.Run.{movingOf, Ran, ranAt, renderOf, KernelReady}
@@ -59,6 +60,14 @@ kernel-asks l n s run r some short fit = record { set-up = r .set-up; lengths = 
 -- 8 channels have room in a run
 pub run-room : (l : Limiter) (run : List Float) → Order.prepared l ≡ true → length run ≡ 8 * runLength → l .channels * runLength ≤ length run
 run-room l run h e = let b = bounds-of l h in omega (arith, b .most, e)
+
+-- what a run gives out are values of the sample type, as scattering asks
+pub render-held : (l : Limiter) (format : Format) (target : Float) (n : ℕ) (s : Stores) (run : List Float) → KernelReady l n s run
+    → (after : Limiter) (stores : Stores) (run' : List Float) → ranAt after stores run' ≡ renderOf (rulesOf (l .settings) format) l target n s run → HeldAll format (l .channels) n run'
+unfolding renderOf
+render-held l format target n s run k after stores run' e =
+    subst (HeldAll format (l .channels) n) (sym (ap (λ (z : Ran). z .audio) e))
+    (run-held format (rulesOf (l .settings) format) refl (s .weights) (l .«release_coeff») (l .env .keeper .look) target (l .channels) n (movingOf l s) run (k .short) (run-room l run (k .set-up) (k .audio-fit)))
 
 -- nor are channels × frames as many as a call never asks for
 pub audio-small : (l : Limiter) (width : ℕ) → Order.prepared l ≡ true → width ≤ 65536 → l .channels * width < largest

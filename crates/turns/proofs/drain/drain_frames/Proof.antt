@@ -6,7 +6,7 @@ use lib.ListN.{length}
 use denote.Ref.{now}
 use Rattle.limiter.specs.Stores.{storesAt}
 use Rattle.limiter.proofs.Frames.{bounds-of}
-use Rattle.turns.proofs.Draining.{Drained, drained-start, tail-inside, drain-asks, audio-size, drained-more, drained-limiter, drained-stores, drained-audio}
+use Rattle.turns.proofs.Draining.{Drained, drained-start, tail-inside, drain-asks, audio-size, drain-held, drained-more, drained-limiter, drained-stores, drained-audio}
 use Rattle.turns.proofs.drain.drain_frames.Statement.{statement}
 use Rattle.turns.proofs.drain.drain_frames.Tie as tie
 
@@ -52,7 +52,9 @@ scatter-requires c κs =
     let l = c .before .before .before .before .before .before .before .before .before .before .before .before .before .before .before .before .before .before .before .before .before .before .loop in
     let n = tail-inside (a .format) (a .limiter) (a .n) (a .width) (storesAt (now (a .delay)) (now (a .marks)) (now (a .minima)) (now (a .weights)) (now (a .row)) (now (a .detector))) (now (a .audio)) p (l .first) (c .before .before .before .before .before .before .before .before .before .before .before .before .before .before .before .before .before .before .before .before .tail-run .result) (l .l) (storesAt (l .delay) (l .marks) (l .minima) (now (a .weights)) (l .row) (l .detector)) (l .audio) (l .run) (l .inv .0) (c .before .before .before .before .before .before .before .before .before .before .before .before .before .before .before .before .before .before .before .before .before .loop-test .taken) (c .before .before .before .before .before .before .before .before .before .before .before .before .before .before .before .before .before .before .before .before .tail-run .ensures) in
     let size = audio-size (a .format) (a .limiter) (a .n) (a .width) (storesAt (now (a .delay)) (now (a .marks)) (now (a .minima)) (now (a .weights)) (now (a .row)) (now (a .detector))) (now (a .audio)) p (l .first) (c .before .before .before .before .before .before .before .before .before .before .before .before .before .before .before .before .before .before .before .before .tail-run .result) (l .l) (storesAt (l .delay) (l .marks) (l .minima) (now (a .weights)) (l .row) (l .detector)) (l .audio) (l .run) (l .inv .0) (c .before .before .before .before .before .before .before .before .before .before .before .before .before .before .before .before .before .before .before .before .before .loop-test .taken) (c .before .before .before .before .before .before .before .before .before .before .before .before .before .before .before .before .before .before .before .before .tail-run .ensures) in
-    (bounds-of (a .limiter) (p .ready .set-up) .most, (p .lends .short, (sym size, (omega (arith, n .2, p .inside), (n .1, c .before .before .before .before .before .before .before .before .before .before .before .before .before .drain .kept .1 .1 .1 .0 ∙ l .inv .0 .run-fit)))))
+    let d = c .before .before .before .before .before .before .before .before .before .before .before .before .before .drain in
+    let held = drain-held (a .format) (a .limiter) (a .n) (a .width) (storesAt (now (a .delay)) (now (a .marks)) (now (a .minima)) (now (a .weights)) (now (a .row)) (now (a .detector))) (now (a .audio)) p (l .first) (c .before .before .before .before .before .before .before .before .before .before .before .before .before .before .before .before .before .before .before .before .tail-run .result) (l .l) (storesAt (l .delay) (l .marks) (l .minima) (now (a .weights)) (l .row) (l .detector)) (l .audio) (l .run) (l .inv .0) (c .before .before .before .before .before .before .before .before .before .before .before .before .before .before .before .before .before .before .before .before .before .loop-test .taken) (c .before .before .before .before .before .before .before .before .before .before .before .before .before .before .before .before .before .before .before .before .tail-run .ensures) (d .result) _ (d .last .1 .1 .1 .0) (d .ensures) in
+    (bounds-of (a .limiter) (p .ready .set-up) .most, (p .lends .short, (sym size, (omega (arith, n .2, p .inside), (n .1, (d .kept .1 .1 .1 .0 ∙ l .inv .0 .run-fit, held))))))
 
 add-first : tie.Need-add-first Inv-loop μ-loop
 add-first c =

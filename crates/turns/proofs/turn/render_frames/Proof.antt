@@ -4,7 +4,7 @@ use native.Mathlib.Omega.{arith}
 use denote.Ref.{now}
 use Rattle.limiter.specs.Stores.{storesAt}
 use Rattle.limiter.proofs.Frames.{bounds-of}
-use Rattle.turns.proofs.Rendering.{kernel-asks, run-clean, run-given}
+use Rattle.turns.proofs.Rendering.{kernel-asks, render-held, run-clean, run-given}
 use Rattle.turns.proofs.turn.render_frames.Statement.{statement}
 use Rattle.turns.proofs.turn.render_frames.Tie as tie
 
@@ -28,7 +28,13 @@ scatter-requires : tie.Need-scatter-requires
 scatter-requires c κs =
     let a = c .before .before .before .before .before .before .before .before .before .before .before .before .before .before .before .before .before .before .before .before .before .before .before .before .before .before .before .before .before .before .before .before .before .before .args in
     let p = c .before .before .before .before .before .before .before .before .before .before .before .before .before .before .before .before .before .before .before .before .before .before .before .before .before .before .before .before .before .before .before .before .before .before .pre in
-    (bounds-of (a .limiter) (p .ready .set-up) .most, (p .lends .short, (sym (p .lends .audio-fit), (omega (arith, p .inside), (omega (arith, p .short), c .before .before .before .before .before .before .before .before .before .before .before .before .before .before .render .kept .1 .1 .1 .1 .0 ∙ c .before .before .before .before .before .before .before .before .before .before .before .before .before .before .before .before .before .before .before .before .before .before .before .gather .kept .1 .1 .1 .1 .1 .1 .0 ∙ p .run-fit)))))
+    let g = c .before .before .before .before .before .before .before .before .before .before .before .before .before .before .before .before .before .before .before .before .before .before .before .gather in
+    let r = c .before .before .before .before .before .before .before .before .before .before .before .before .before .before .render in
+    let stores = storesAt (now (a .delay)) (now (a .marks)) (now (a .minima)) (now (a .weights)) (now (a .row)) (now (a .detector)) in
+    let fit = g .kept .1 .1 .1 .1 .1 .1 .0 ∙ p .run-fit in
+    let k = kernel-asks (a .limiter) (a .n) stores (g .last .1 .1 .1 .1 .1 .1 .0) (p .ready) (p .some) (p .short) fit in
+    let held = render-held (a .limiter) (a .format) (a .target) (a .n) stores (g .last .1 .1 .1 .1 .1 .1 .0) k (r .result) _ (r .last .1 .1 .1 .1 .0) (r .ensures) in
+    (bounds-of (a .limiter) (p .ready .set-up) .most, (p .lends .short, (sym (p .lends .audio-fit), (omega (arith, p .inside), (omega (arith, p .short), (r .kept .1 .1 .1 .1 .0 ∙ fit, held))))))
 
 same-length : tie.Need-same-length
 same-length c = c .before .before .scatter .kept .1 .1 .1 .1 .1 .1 .0
