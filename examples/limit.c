@@ -1,4 +1,5 @@
-/* Limits a second of a loud stereo tone through the C functions and prints the highest sample, in and out. */
+/* Limits a second of a loud stereo tone through the C functions and prints the highest sample, in and out: of f64
+ * samples, or of f32 where the first word is `float`. */
 #include "daggeryuzu.h"
 
 #include <math.h>
@@ -14,7 +15,8 @@ static uint64_t bits(double x) {
     return w;
 }
 
-int main(void) {
+int main(int argc, char **argv) {
+    const int is_float = argc > 1 && strcmp(argv[1], "float") == 0;
     const double pi = acos(-1.0);
     uint8_t state[DAGGERYUZU_STATE];
     uint64_t answer[DAGGERYUZU_ANSWER];
@@ -31,16 +33,19 @@ int main(void) {
     uint32_t number = daggeryuzu_setup(state, sizeof state, answer, DAGGERYUZU_ANSWER, bits(-1.0), bits(0.1), bits(1.5),
         bits(50.0), RATE, CHANNELS, BLOCK, 0, 0, delay, CHANNELS * look, marks, look + 1, minima, look + 1, weights, l,
         row, l, detector, CHANNELS * 12);
-    double in = 0, out = 0, audio[CHANNELS * BLOCK];
+    union { double f64[CHANNELS * BLOCK]; float f32[CHANNELS * BLOCK]; } audio;
+    double in = 0, out = 0;
     for (uint64_t at = 0; number == 0 && at < RATE; at += BLOCK) {
-        for (int i = 0; i < BLOCK; i++) {
-            audio[i] = audio[BLOCK + i] = 2.0 * sin(2 * pi * 997 * (double)(at + i) / RATE);
-            in = fmax(in, fabs(audio[i]));
+        for (int i = 0; i < CHANNELS * BLOCK; i++) {
+            const double x = 2.0 * sin(2 * pi * 997 * (double)(at + i % BLOCK) / RATE);
+            if (is_float) audio.f32[i] = (float)x;
+            else audio.f64[i] = x;
+            in = fmax(in, fabs(x));
         }
-        number = daggeryuzu_process(state, sizeof state, answer, DAGGERYUZU_ANSWER, at, BLOCK, NULL, 0, (uint8_t *)audio,
-            sizeof audio, delay, CHANNELS * look, marks, look + 1, minima, look + 1, weights, l, row, l, detector,
-            CHANNELS * 12);
-        for (int i = 0; i < CHANNELS * BLOCK; i++) out = fmax(out, fabs(audio[i]));
+        number = (is_float ? daggeryuzu_process_float : daggeryuzu_process)(state, sizeof state, answer,
+            DAGGERYUZU_ANSWER, at, BLOCK, NULL, 0, (uint8_t *)&audio, is_float ? sizeof audio.f32 : sizeof audio.f64,
+            delay, CHANNELS * look, marks, look + 1, minima, look + 1, weights, l, row, l, detector, CHANNELS * 12);
+        for (int i = 0; i < CHANNELS * BLOCK; i++) out = fmax(out, fabs(is_float ? audio.f32[i] : audio.f64[i]));
     }
     if (number != 0) {
         fprintf(stderr, "refused: %u\n", number);

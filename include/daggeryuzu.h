@@ -12,7 +12,10 @@
  * look - 11, at least 1): delay channels * look; marks look + 1; minima look + 1; weights L; row L;
  * detector channels * 12. Each call gets them as the last one left them. No two slices may overlap.
  *
- * Audio is planar: channel c holds frames c * frames onward; a sample is 8 bytes, low byte first.
+ * Audio is planar: channel c holds frames c * frames onward; a sample is 8 bytes, or 4 in the functions that end
+ * in _float, low byte first. An f32 is widened exactly and its output rounded to the nearest, ties to even. State
+ * and stores know no sample type: a block of one may follow a block of the other.
+ *
  * Events are three words each: offset into the block, parameter id, bits of the value. */
 #ifndef DAGGERYUZU_H
 #define DAGGERYUZU_H
@@ -49,8 +52,22 @@ uint32_t daggeryuzu_process(
     double *delay, size_t delay_len, uint64_t *marks, size_t marks_len, double *minima, size_t minima_len,
     const double *weights, size_t weights_len, double *row, size_t row_len, double *detector, size_t detector_len);
 
+/* the same of f32 samples */
+uint32_t daggeryuzu_process_float(
+    uint8_t *state, size_t state_len, uint64_t *answer, size_t answer_len,
+    uint64_t position, size_t frames, const uint64_t *events, size_t events_len, uint8_t *audio, size_t audio_len,
+    double *delay, size_t delay_len, uint64_t *marks, size_t marks_len, double *minima, size_t minima_len,
+    const double *weights, size_t weights_len, double *row, size_t row_len, double *detector, size_t detector_len);
+
 /* refusals 18, 16, 19, 20, 22; answer: frames written, whether the tail is done (0 or 1) */
 uint32_t daggeryuzu_flush(
+    uint8_t *state, size_t state_len, uint64_t *answer, size_t answer_len,
+    size_t frames, uint8_t *audio, size_t audio_len,
+    double *delay, size_t delay_len, uint64_t *marks, size_t marks_len, double *minima, size_t minima_len,
+    const double *weights, size_t weights_len, double *row, size_t row_len, double *detector, size_t detector_len);
+
+/* the same of f32 samples */
+uint32_t daggeryuzu_flush_float(
     uint8_t *state, size_t state_len, uint64_t *answer, size_t answer_len,
     size_t frames, uint8_t *audio, size_t audio_len,
     double *delay, size_t delay_len, uint64_t *marks, size_t marks_len, double *minima, size_t minima_len,

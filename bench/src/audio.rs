@@ -1,5 +1,7 @@
 //! The audio that is limited.
 
+use daggeryuzu::Sample;
+
 /// How loud it is.
 #[derive(Clone, Copy, Debug, PartialEq, Eq)]
 pub enum Level {
@@ -28,7 +30,12 @@ impl Level {
 
 /// Blocks of planar audio: harmonics of a voice that swells four times a
 /// second, with noise. No sample is 0 and none is subnormal.
-pub fn blocks(level: Level, channels: usize, block: usize, frames: usize) -> Vec<Vec<f64>> {
+pub fn blocks<T: Sample>(
+    level: Level,
+    channels: usize,
+    block: usize,
+    frames: usize,
+) -> Vec<Vec<T>> {
     let mut noise = 0x9e37_79b9_7f4a_7c15_u64;
     let mut next = || {
         noise ^= noise << 13;
@@ -46,7 +53,8 @@ pub fn blocks(level: Level, channels: usize, block: usize, frames: usize) -> Vec
                     let turn = std::f64::consts::TAU * t;
                     let swell = 0.55 + 0.45 * (4.0 * turn + c as f64).sin();
                     let voice = (130.0 * turn).sin() + 0.5 * (910.0 * turn).sin();
-                    samples.push(level.factor() * swell * (0.4 * voice + 0.2 * next() + 1e-3));
+                    let sample = level.factor() * swell * (0.4 * voice + 0.2 * next() + 1e-3);
+                    samples.push(T::from_f64(sample));
                 }
             }
             samples

@@ -41,7 +41,7 @@ pub fn version(program: &str) -> Result<Option<String>, String> {
 pub fn measure(case: &Case, effort: &Effort) -> Result<Option<Measured>, String> {
     let seconds = (effort.seconds * LONGER).min(LONGEST);
     let frames = (seconds * f64::from(case.rate)) as usize;
-    let source = blocks(case.level, case.channels, case.block, frames);
+    let source: Vec<Vec<f64>> = blocks(case.level, case.channels, case.block, frames);
     let frames = (source.len() * case.block) as f64;
     let folder = Folder::new()?;
     let input = folder.path().join("audio.f64");

@@ -4,7 +4,7 @@
 use crate::clock::timed;
 use crate::context::ProcessContext;
 use crate::mastering::limiter as rust;
-use crate::processor::{Kernel, KernelProcessor, ProcessSpec};
+use crate::processor::{Kernel, KernelProcessor, ProcessSpec, Sample};
 use crate::traits::Processor;
 
 /// What both are set up with.
@@ -43,7 +43,11 @@ impl Ours {
     }
 
     /// Limits the blocks in place: ns that it took.
-    pub fn run(&mut self, blocks: &mut [Vec<f64>], channels: usize) -> Result<f64, String> {
+    pub fn run<T: daggeryuzu::Sample>(
+        &mut self,
+        blocks: &mut [Vec<T>],
+        channels: usize,
+    ) -> Result<f64, String> {
         let mut done = Ok(());
         let time = timed(|| {
             for block in blocks.iter_mut() {
@@ -55,17 +59,17 @@ impl Ours {
     }
 }
 
-/// The Rust.
-pub struct Theirs {
-    limiter: KernelProcessor<rust::Limiter, f64>,
+/// The Rust, which is kept to one sample type.
+pub struct Theirs<T: Sample> {
+    limiter: KernelProcessor<rust::Limiter, T>,
     position: u64,
 }
 
-impl Theirs {
+impl<T: Sample> Theirs<T> {
     pub fn new(setup: &Setup) -> Result<Self, String> {
         let settings = rust::LimiterSettings::new().lookahead_ms(setup.lookahead_ms);
         let limiter = rust::Limiter::with_settings(settings);
-        let mut limiter = <rust::Limiter as Kernel<f64>>::into_processor(limiter);
+        let mut limiter = <rust::Limiter as Kernel<T>>::into_processor(limiter);
         let spec = ProcessSpec {
             sample_rate: setup.rate,
             channels: setup.channels,
@@ -83,8 +87,8 @@ impl Theirs {
 
     /// Limits the blocks in place: ns that it took. The tables of channels are
     /// laid out before.
-    pub fn run(&mut self, blocks: &mut [Vec<f64>], channels: usize) -> f64 {
-        let mut tables: Vec<Vec<&mut [f64]>> = blocks
+    pub fn run(&mut self, blocks: &mut [Vec<T>], channels: usize) -> f64 {
+        let mut tables: Vec<Vec<&mut [T]>> = blocks
             .iter_mut()
             .map(|block| {
                 let frames = block.len() / channels;

@@ -13,6 +13,7 @@ mod file;
 mod folder;
 mod machines;
 mod measure;
+mod sample_type;
 mod table;
 mod tables;
 
@@ -26,14 +27,15 @@ mod processor;
 use std::process::ExitCode;
 
 use measure::Effort;
+use sample_type::SampleType;
 
 const USAGE: &str = "bench [--seconds S] [--rounds N] [--only WORD]..
            --seconds S   of audio a round, 4; 15 times as much beside FFmpeg, at most 600
            --rounds N    that are counted, 9
            --only WORD   the rows with WORD in TITLE: ROW, in letters of either case;
                          given again, the rows with any of the words
-       bench --file RATE CHANNELS
-           raw f64 through the Rust, standard input to standard output";
+       bench --file RATE CHANNELS [TYPE]
+           raw samples, f64 or f32 (f64), through the Rust, standard input to standard output";
 
 /// What the command line asks for.
 #[derive(Debug, PartialEq)]
@@ -60,10 +62,15 @@ fn main() -> ExitCode {
 /// A file through the Rust.
 fn file(words: &[String]) -> Result<(), String> {
     let number = |i: usize| words.get(i).and_then(|w| w.parse::<u32>().ok());
-    match (number(0), number(1)) {
-        (Some(rate), Some(channels @ 1..=8)) => file::limit(rate, channels as usize),
-        _ => Err(USAGE.into()),
-    }
+    let (Some(rate), Some(channels @ 1..=8)) = (number(0), number(1)) else {
+        return Err(USAGE.into());
+    };
+    let limit = match SampleType::named(words.get(2).map_or("f64", String::as_str)) {
+        Some(SampleType::F64) => file::limit::<f64>,
+        Some(SampleType::F32) => file::limit::<f32>,
+        None => return Err(USAGE.into()),
+    };
+    limit(rate, channels as usize)
 }
 
 /// Reads the command line.

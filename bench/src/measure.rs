@@ -2,6 +2,7 @@
 
 use crate::audio::{blocks, Level};
 use crate::machines::{Ours, Setup, Theirs};
+use crate::sample_type::{Sample, SampleType};
 
 /// How much is measured.
 #[derive(Clone, Copy, Debug, PartialEq)]
@@ -17,6 +18,8 @@ pub struct Effort {
 pub struct Case {
     /// Loud or quiet.
     pub level: Level,
+    /// What a sample is.
+    pub sample: SampleType,
     /// Frames a second.
     pub rate: u32,
     /// Frames that the limiter looks ahead.
@@ -31,6 +34,7 @@ impl Default for Case {
     fn default() -> Self {
         Self {
             level: Level::Loud,
+            sample: SampleType::F64,
             rate: 48_000,
             look: 72,
             channels: 2,
@@ -109,11 +113,20 @@ pub fn turn(block: usize) -> usize {
     (TURN / block).max(1)
 }
 
-/// Times a case. The first round warms both up and is not counted; every round
-/// starts with buffers that are filled, and ends with the outputs compared.
+/// Times a case.
 pub fn measure(case: &Case, effort: &Effort) -> Result<Measured, String> {
+    match case.sample {
+        SampleType::F64 => measure_as::<f64>(case, effort),
+        SampleType::F32 => measure_as::<f32>(case, effort),
+    }
+}
+
+/// Times a case of one sample type. The first round warms both up and is not
+/// counted; every round starts with buffers that are filled, and ends with the
+/// outputs compared.
+fn measure_as<T: Sample>(case: &Case, effort: &Effort) -> Result<Measured, String> {
     let setup = case.setup();
-    let source = blocks(case.level, case.channels, case.block, frames(case, effort));
+    let source: Vec<Vec<T>> = blocks(case.level, case.channels, case.block, frames(case, effort));
     let frames = (source.len() * case.block) as f64;
     let (mut ours, mut theirs) = (Ours::new(&setup)?, Theirs::new(&setup)?);
     let mut rounds = Vec::new();
@@ -147,9 +160,9 @@ fn frames(case: &Case, effort: &Effort) -> usize {
 }
 
 /// Bit for bit.
-fn same(a: &[Vec<f64>], b: &[Vec<f64>]) -> bool {
+fn same<T: Sample>(a: &[Vec<T>], b: &[Vec<T>]) -> bool {
     let (a, b) = (a.iter().flatten(), b.iter().flatten());
-    a.zip(b).all(|(x, y)| x.to_bits() == y.to_bits())
+    a.zip(b).all(|(x, y)| x.bits() == y.bits())
 }
 
 #[cfg(test)]
@@ -201,18 +214,28 @@ mod tests {
     }
 
     #[test]
+    fn one_bit_makes_a_difference() {
+        assert!(same(&[vec![0.5_f32, 0.0]], &[vec![0.5, 0.0]]));
+        assert!(!same(&[vec![0.5_f32, 0.0]], &[vec![0.5, -0.0]]));
+        assert!(!same(&[vec![0.5]], &[vec![0.5_f64.next_up()]]));
+    }
+
+    #[test]
     fn a_short_case_is_measured_and_its_outputs_are_the_same() {
         let effort = Effort {
             seconds: 0.05,
             rounds: 2,
         };
-        for level in [Level::Loud, Level::Quiet] {
-            let case = Case {
-                level,
-                ..Case::default()
-            };
-            let seen = measure(&case, &effort).expect("measured");
-            assert!(seen.ratio.low > 0.0 && seen.ratio.low <= seen.ratio.high);
+        for sample in [SampleType::F64, SampleType::F32] {
+            for level in [Level::Loud, Level::Quiet] {
+                let case = Case {
+                    level,
+                    sample,
+                    ..Case::default()
+                };
+                let seen = measure(&case, &effort).expect("measured");
+                assert!(seen.ratio.low > 0.0 && seen.ratio.low <= seen.ratio.high);
+            }
         }
     }
 }

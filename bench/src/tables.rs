@@ -2,6 +2,7 @@
 
 use crate::audio::Level::{self, Loud, Quiet};
 use crate::measure::Case;
+use crate::sample_type::SampleType::F32;
 
 /// Whom the proved limiter is timed beside.
 #[derive(Clone, Copy, Debug, PartialEq, Eq)]
@@ -40,7 +41,12 @@ fn all() -> Vec<Table> {
     vec![
         beside_rust(
             "stereo at 48,000, default settings, blocks of 512",
-            [Loud, Quiet].map(|level| row(level.name(), at(level, usual))),
+            [
+                row("loud", usual),
+                row("f32 loud", narrow(usual)),
+                row("quiet", quiet),
+                row("f32 quiet", narrow(quiet)),
+            ],
         ),
         beside_rust(
             "look in frames, loud",
@@ -102,6 +108,14 @@ fn row(name: impl ToString, case: Case) -> Row {
 
 fn at(level: Level, case: Case) -> Case {
     Case { level, ..case }
+}
+
+/// The same of f32 samples.
+fn narrow(case: Case) -> Case {
+    Case {
+        sample: F32,
+        ..case
+    }
 }
 
 /// The tables with the rows that one of the words is found in, as `TITLE: ROW`
@@ -183,6 +197,18 @@ mod tests {
     #[test]
     fn a_word_may_span_title_and_row() {
         assert_eq!(labels(&["channels, loud: 8"]), ["channels, loud: 8"]);
+    }
+
+    #[test]
+    fn the_rows_of_f32_stand_beside_those_of_f64() {
+        let title = "stereo at 48,000, default settings, blocks of 512";
+        let seen = labels(&["blocks of 512: "]);
+        let names = ["loud", "f32 loud", "quiet", "f32 quiet"];
+        assert_eq!(seen, names.map(|name| format!("{title}: {name}")));
+        for row in chosen(&["f32".into()]).expect("rows").remove(0).rows {
+            assert_eq!(row.case.sample, F32);
+            assert_eq!(row.name, format!("f32 {}", row.case.level.name()));
+        }
     }
 
     #[test]

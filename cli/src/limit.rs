@@ -10,7 +10,7 @@ use crate::failure::Failure;
 use crate::gains::Gains;
 use crate::meter::{Measured, Meter};
 use crate::planar;
-use crate::sndfile::{Encoding, Reader};
+use crate::sndfile::{Encoding, Reader, Sample};
 
 /// What the work came to.
 #[derive(Clone, Debug)]
@@ -25,23 +25,24 @@ pub struct Outcome {
     pub elapsed: Duration,
 }
 
-/// Limits all that the reader gives. `sink` gets the output block by block,
-/// interleaved and rounded, and `tick` the frames read so far.
+/// Limits all that the reader gives, as samples of one type from the file to the
+/// sink. `sink` gets the output block by block, interleaved and rounded, and
+/// `tick` the frames read so far.
 ///
 /// # Errors
 /// What the reader, the limiter, the sink or `tick` has to say.
-pub fn limit(
+pub fn limit<T: Sample>(
     reader: &mut Reader,
     limiter: &mut Limiter,
     block: usize,
-    mut sink: impl FnMut(&[f64]) -> Result<(), Failure>,
+    mut sink: impl FnMut(&[T]) -> Result<(), Failure>,
     mut tick: impl FnMut(u64) -> Result<(), Failure>,
 ) -> Result<Outcome, Failure> {
     let started = Instant::now();
-    let channels = reader.format().channels;
+    let (channels, silence) = (reader.format().channels, T::from_f64(0.0));
     let mut input = Meter::new(channels);
     let mut out = Out::new(channels, limiter.latency(), reader.format().encoding);
-    let mut samples = vec![0.0; channels * block];
+    let mut samples = vec![silence; channels * block];
     let mut planes = Vec::with_capacity(channels * block);
     let mut position = 0;
     loop {
@@ -60,7 +61,7 @@ pub fn limit(
         position += frames as u64;
         sink(out.take(&planes, frames))?;
     }
-    planes.resize(channels * limiter.latency(), 0.0);
+    planes.resize(channels * limiter.latency(), silence);
     let tail = limiter.flush(&mut planes).map_err(refused)?;
     sink(out.take(&planes, tail.frames))?;
     Ok(Outcome {
@@ -77,19 +78,19 @@ pub fn refused(refusal: Refusal) -> Failure {
 }
 
 /// What is done with the limiter's output.
-struct Out {
+struct Out<T> {
     channels: usize,
     /// Frames of latency still to be cut off.
     late: usize,
     encoding: Encoding,
     /// Inputs whose outputs are still to come, interleaved.
-    held: VecDeque<f64>,
+    held: VecDeque<T>,
     meter: Meter,
     gains: Gains,
-    ready: Vec<f64>,
+    ready: Vec<T>,
 }
 
-impl Out {
+impl<T: Sample> Out<T> {
     fn new(channels: usize, late: usize, encoding: Encoding) -> Self {
         Self {
             channels,
@@ -102,17 +103,19 @@ impl Out {
         }
     }
 
-    /// The block's output without the latency, interleaved and rounded.
-    fn take(&mut self, planes: &[f64], frames: usize) -> &[f64] {
+    /// The block's output without the latency, interleaved and rounded; an f32
+    /// out of the limiter is already what a file of them holds.
+    fn take(&mut self, planes: &[T], frames: usize) -> &[T] {
         let cut = self.late.min(frames);
         self.late -= cut;
         planar::join(planes, self.channels, cut..frames, &mut self.ready);
         for frame in self.ready.chunks_exact(self.channels) {
             let inputs = self.held.drain(..self.channels);
-            self.gains.take(inputs.zip(frame.iter().copied()));
+            self.gains
+                .take(inputs.zip(frame).map(|(x, y)| (x.to_f64(), y.to_f64())));
         }
         for x in &mut self.ready {
-            *x = self.encoding.round(*x);
+            *x = T::from_f64(self.encoding.round(x.to_f64()));
         }
         self.meter.take(&self.ready);
         &self.ready

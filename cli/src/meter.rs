@@ -1,5 +1,7 @@
 //! Peaks of a stream, on the samples and between them.
 
+use daggeryuzu::Sample;
+
 use crate::detector::Detector;
 use crate::series::Series;
 
@@ -35,12 +37,13 @@ impl Meter {
 
     /// Takes interleaved samples. One that is not finite counts as silence, as
     /// the limiter takes it.
-    pub fn take(&mut self, samples: &[f64]) {
+    pub fn take<T: Sample>(&mut self, samples: &[T]) {
         for frame in samples.chunks_exact(self.detectors.len()) {
             let (mut sample, mut detector) = (0.0_f64, 0.0_f64);
             for (x, d) in frame.iter().zip(&mut self.detectors) {
+                let x = x.to_f64();
                 self.not_finite += u64::from(!x.is_finite());
-                let x = if x.is_finite() { *x } else { 0.0 };
+                let x = if x.is_finite() { x } else { 0.0 };
                 sample = sample.max(x.abs());
                 detector = detector.max(d.push(x));
             }

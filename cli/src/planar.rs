@@ -3,7 +3,7 @@
 use std::ops::Range;
 
 /// Replaces `planes` by the samples of `interleaved`, channel after channel.
-pub fn split(interleaved: &[f64], channels: usize, planes: &mut Vec<f64>) {
+pub fn split<T: Copy>(interleaved: &[T], channels: usize, planes: &mut Vec<T>) {
     planes.clear();
     for channel in 0..channels {
         planes.extend(interleaved.iter().skip(channel).step_by(channels));
@@ -11,7 +11,12 @@ pub fn split(interleaved: &[f64], channels: usize, planes: &mut Vec<f64>) {
 }
 
 /// Replaces `interleaved` by these frames of `planes`.
-pub fn join(planes: &[f64], channels: usize, frames: Range<usize>, interleaved: &mut Vec<f64>) {
+pub fn join<T: Copy>(
+    planes: &[T],
+    channels: usize,
+    frames: Range<usize>,
+    interleaved: &mut Vec<T>,
+) {
     interleaved.clear();
     let length = planes.len() / channels;
     for frame in frames {

@@ -7,11 +7,11 @@ use daggeryuzu::{Limiter, ProcessSpec};
 use crate::args::Job;
 use crate::failure::Failure;
 use crate::interrupt;
-use crate::limit::{limit, refused};
+use crate::limit::{limit, refused, Outcome};
 use crate::place::{same, Pending};
 use crate::progress::Progress;
 use crate::report::{json, svg, Report};
-use crate::sndfile::{Reader, Writer};
+use crate::sndfile::{Encoding, Reader, Sample, Writer};
 
 /// Does a job. Each of its files appears whole at the end, the sound first, or
 /// not at all.
@@ -35,18 +35,12 @@ pub fn run(job: &Job) -> Result<Report, Failure> {
     let mut sound = sound.take().transpose()?;
     let mut numbers = job.report.as_deref().map(Pending::start).transpose()?;
     let mut picture = job.plot.as_deref().map(Pending::start).transpose()?;
-    let mut progress = Progress::new(reader.frames(), format.rate);
-    let outcome = limit(
-        &mut reader,
-        &mut limiter,
-        job.block,
-        |samples| sound.as_mut().map_or(Ok(()), |s| s.write(samples)),
-        |frame| {
-            progress.show(frame);
-            interrupt::check()
-        },
-    )?;
-    drop(progress);
+    let limited = match format.encoding {
+        // As f32, what is written is exactly what the limiter gave out.
+        Encoding::Float => limited_as::<f32>,
+        Encoding::Pcm(_) | Encoding::Double => limited_as::<f64>,
+    };
+    let outcome = limited(&mut reader, &mut limiter, job.block, sound.as_mut())?;
     let report = Report {
         input: job.input.clone(),
         output: job.output.clone(),
@@ -73,6 +67,26 @@ pub fn run(job: &Job) -> Result<Report, Failure> {
     interrupt::check()?;
     files.into_iter().try_for_each(Pending::publish)?;
     Ok(report)
+}
+
+/// Limits the file as samples of one type, and shows how far it is.
+fn limited_as<T: Sample>(
+    reader: &mut Reader,
+    limiter: &mut Limiter,
+    block: usize,
+    mut sound: Option<&mut Sound>,
+) -> Result<Outcome, Failure> {
+    let mut progress = Progress::new(reader.frames(), reader.format().rate);
+    limit::<T>(
+        reader,
+        limiter,
+        block,
+        |samples| sound.as_mut().map_or(Ok(()), |s| s.write(samples)),
+        |frame| {
+            progress.show(frame);
+            interrupt::check()
+        },
+    )
 }
 
 /// Refuses a file that is to be two things at once.
@@ -117,7 +131,7 @@ impl Sound {
         })
     }
 
-    fn write(&mut self, samples: &[f64]) -> Result<(), Failure> {
+    fn write<T: Sample>(&mut self, samples: &[T]) -> Result<(), Failure> {
         let written = self.writer.write(samples);
         written.map_err(|e| unwritten(&self.place, &e))
     }

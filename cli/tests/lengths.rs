@@ -22,16 +22,18 @@ fn files_of_any_length_keep_it() {
 fn every_block_gives_the_same() {
     let folder = Folder::new();
     let (input, output) = (folder.at("in.wav"), folder.at("out.wav"));
-    let format = Format::numbered(WAV | DOUBLE, 48_000, 2).expect("a format");
-    write(&input, format, &swelling(5000, 2));
-    let outputs: Vec<Vec<f64>> = ["1", "7", "32", "71", "4096", "65536"]
-        .iter()
-        .map(|block| {
-            succeeds(&["--block", block, text(&input), text(&output)]);
-            read(&output).1
-        })
-        .collect();
-    assert!(outputs.iter().all(|o| *o == outputs[0]));
+    for kind in [FLOAT, DOUBLE] {
+        let format = Format::numbered(WAV | kind, 48_000, 2).expect("a format");
+        write(&input, format, &swelling(5000, 2));
+        let outputs: Vec<Vec<f64>> = ["1", "7", "32", "71", "4096", "65536"]
+            .iter()
+            .map(|block| {
+                succeeds(&["--block", block, text(&input), text(&output)]);
+                read(&output).1
+            })
+            .collect();
+        assert!(outputs.iter().all(|o| *o == outputs[0]));
+    }
 }
 
 #[test]

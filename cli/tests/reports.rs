@@ -9,8 +9,8 @@ use daggeryuzu_cli::demo;
 use daggeryuzu_cli::sndfile::Format;
 
 /// A second of silence with one loud tone in its middle.
-fn tone(folder: &Folder) {
-    let format = Format::numbered(WAV | PCM_24, 48_000, 2).expect("a format");
+fn tone(folder: &Folder, kind: i32) {
+    let format = Format::numbered(WAV | kind, 48_000, 2).expect("a format");
     let mut samples = vec![0.0; 2 * 48_000];
     for i in 24_000..24_480 {
         // a quarter of the rate, beside its peaks
@@ -34,8 +34,17 @@ fn member<'a>(json: &'a str, name: &str) -> &'a str {
 
 #[test]
 fn the_numbers_are_those_of_the_file() {
+    the_numbers(PCM_24);
+}
+
+#[test]
+fn the_numbers_are_those_of_a_file_of_floats() {
+    the_numbers(FLOAT);
+}
+
+fn the_numbers(kind: i32) {
     let folder = Folder::new();
-    tone(&folder);
+    tone(&folder, kind);
     let (input, output) = (folder.at("in.wav"), folder.at("out.wav"));
     let (json, svg) = (folder.at("r.json"), folder.at("p.svg"));
     let words = [
@@ -110,7 +119,7 @@ fn every_frame_is_metered() {
 #[test]
 fn a_dry_run_writes_no_sound() {
     let folder = Folder::new();
-    tone(&folder);
+    tone(&folder, PCM_24);
     let (input, json) = (folder.at("in.wav"), folder.at("r.json"));
     let told = succeeds(&["--dry-run", text(&input)]);
     assert!(told.contains("nothing (dry run)"), "{told}");
@@ -158,7 +167,7 @@ fn silence_has_no_level_and_no_gain() {
 #[test]
 fn an_old_output_is_replaced_also_through_a_link() {
     let folder = Folder::new();
-    tone(&folder);
+    tone(&folder, PCM_24);
     let (input, output, link) = (
         folder.at("in.wav"),
         folder.at("out.wav"),

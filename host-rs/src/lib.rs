@@ -9,9 +9,9 @@
 //!
 //! let spec = ProcessSpec { sample_rate: 48_000, channels: 2, max_block: 512, max_memory: None };
 //! let mut limiter = Limiter::prepare(LimiterSettings::default(), spec)?;
-//! let mut audio = vec![0.0; 2 * 512]; // planar: channel after channel
+//! let mut audio = vec![0.0_f32; 2 * 512]; // f32 or f64; planar: channel after channel
 //! limiter.process(0, &mut audio, &[])?;
-//! let mut tail = vec![0.0; 2 * limiter.latency()];
+//! let mut tail = vec![0.0_f32; 2 * limiter.latency()];
 //! let produced = limiter.flush(&mut tail)?;
 //! assert!(produced.done);
 //! # Ok::<(), daggeryuzu::Refusal>(())
@@ -20,11 +20,13 @@
 #![warn(missing_docs)]
 
 mod refusal;
+mod sample;
 mod settings;
 mod stores;
 pub mod sys;
 
 pub use refusal::Refusal;
+pub use sample::Sample;
 pub use settings::{LimiterSettings, ProcessSpec};
 
 use stores::Stores;
@@ -81,15 +83,16 @@ impl Limiter {
     }
 
     /// Limits a block in place: planar audio, `channels × frames` samples.
-    /// Events are sorted by their offsets.
+    /// Events are sorted by their offsets. A block of one sample type may
+    /// follow one of the other.
     ///
     /// # Errors
     /// 20, 21 or 22; 18, 16 and 19 never arise here, because nobody else
     /// writes the state and the stores.
-    pub fn process(
+    pub fn process<T: Sample>(
         &mut self,
         position: u64,
-        audio: &mut [f64],
+        audio: &mut [T],
         events: &[ParamEvent],
     ) -> Result<(), Refusal> {
         self.events.clear();
@@ -100,7 +103,7 @@ impl Limiter {
         let frames = audio.len() / self.spec.channels;
         let (state, events, stores) = (&mut self.state, &self.events, self.stores.lent());
         let audio = sys::bytes(audio);
-        told(|answer| sys::process(state, answer, position, frames, events, audio, stores))?;
+        told(|answer| T::PROCESS(state, answer, position, frames, events, audio, stores))?;
         Ok(())
     }
 
@@ -108,10 +111,10 @@ impl Limiter {
     ///
     /// # Errors
     /// 20 or 22.
-    pub fn flush(&mut self, audio: &mut [f64]) -> Result<Produced, Refusal> {
+    pub fn flush<T: Sample>(&mut self, audio: &mut [T]) -> Result<Produced, Refusal> {
         let frames = audio.len() / self.spec.channels;
         let (state, audio, stores) = (&mut self.state, sys::bytes(audio), self.stores.lent());
-        let words = told(|answer| sys::flush(state, answer, frames, audio, stores))?;
+        let words = told(|answer| T::FLUSH(state, answer, frames, audio, stores))?;
         Ok(Produced {
             frames: words[0] as usize,
             done: words[1] == 1,

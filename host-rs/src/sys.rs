@@ -5,6 +5,7 @@
 //! All of this crate's unsafe code is here. Each slice is handed over by its own
 //! pointer and length, and no two of them overlap, because each is borrowed.
 
+use crate::sample::Sample;
 use crate::settings::{LimiterSettings, ProcessSpec};
 
 /// Bytes of a state.
@@ -69,7 +70,52 @@ extern "C" {
         detector: *mut f64,
         detector_len: usize,
     ) -> u32;
+    fn daggeryuzu_process_float(
+        state: *mut u8,
+        state_len: usize,
+        answer: *mut u64,
+        answer_len: usize,
+        position: u64,
+        frames: usize,
+        events: *const u64,
+        events_len: usize,
+        audio: *mut u8,
+        audio_len: usize,
+        delay: *mut f64,
+        delay_len: usize,
+        marks: *mut u64,
+        marks_len: usize,
+        minima: *mut f64,
+        minima_len: usize,
+        weights: *const f64,
+        weights_len: usize,
+        row: *mut f64,
+        row_len: usize,
+        detector: *mut f64,
+        detector_len: usize,
+    ) -> u32;
     fn daggeryuzu_flush(
+        state: *mut u8,
+        state_len: usize,
+        answer: *mut u64,
+        answer_len: usize,
+        frames: usize,
+        audio: *mut u8,
+        audio_len: usize,
+        delay: *mut f64,
+        delay_len: usize,
+        marks: *mut u64,
+        marks_len: usize,
+        minima: *mut f64,
+        minima_len: usize,
+        weights: *const f64,
+        weights_len: usize,
+        row: *mut f64,
+        row_len: usize,
+        detector: *mut f64,
+        detector_len: usize,
+    ) -> u32;
+    fn daggeryuzu_flush_float(
         state: *mut u8,
         state_len: usize,
         answer: *mut u64,
@@ -212,79 +258,102 @@ pub fn setup(
     }
 }
 
-/// Limits a block in place: 18, 16, 19, 20, 21 (its index), 22. Events are three
-/// words each: offset, id, bits of the value.
-pub fn process(
-    state: &mut [u8],
-    answer: &mut [u64],
-    position: u64,
-    frames: usize,
-    events: &[u64],
-    audio: &mut [u8],
-    stores: LentStores<'_>,
-) -> u32 {
-    // SAFETY: pointers and lengths are those of slices that are borrowed apart.
-    unsafe {
-        daggeryuzu_process(
-            state.as_mut_ptr(),
-            state.len(),
-            answer.as_mut_ptr(),
-            answer.len(),
-            position,
-            frames,
-            events.as_ptr(),
-            events.len(),
-            audio.as_mut_ptr(),
-            audio.len(),
-            stores.delay.as_mut_ptr(),
-            stores.delay.len(),
-            stores.marks.as_mut_ptr(),
-            stores.marks.len(),
-            stores.minima.as_mut_ptr(),
-            stores.minima.len(),
-            stores.weights.as_ptr(),
-            stores.weights.len(),
-            stores.row.as_mut_ptr(),
-            stores.row.len(),
-            stores.detector.as_mut_ptr(),
-            stores.detector.len(),
-        )
-    }
+/// Blocks and drains of one sample type. The types differ in the C functions alone,
+/// and so in the bytes that a sample is.
+macro_rules! blocks_and_drains {
+    (
+        $(#[$process_says:meta])* $process:ident: $c_process:ident,
+        $(#[$flush_says:meta])* $flush:ident: $c_flush:ident,
+    ) => {
+        $(#[$process_says])*
+        pub fn $process(
+            state: &mut [u8],
+            answer: &mut [u64],
+            position: u64,
+            frames: usize,
+            events: &[u64],
+            audio: &mut [u8],
+            stores: LentStores<'_>,
+        ) -> u32 {
+            // SAFETY: pointers and lengths are those of slices that are borrowed apart.
+            unsafe {
+                $c_process(
+                    state.as_mut_ptr(),
+                    state.len(),
+                    answer.as_mut_ptr(),
+                    answer.len(),
+                    position,
+                    frames,
+                    events.as_ptr(),
+                    events.len(),
+                    audio.as_mut_ptr(),
+                    audio.len(),
+                    stores.delay.as_mut_ptr(),
+                    stores.delay.len(),
+                    stores.marks.as_mut_ptr(),
+                    stores.marks.len(),
+                    stores.minima.as_mut_ptr(),
+                    stores.minima.len(),
+                    stores.weights.as_ptr(),
+                    stores.weights.len(),
+                    stores.row.as_mut_ptr(),
+                    stores.row.len(),
+                    stores.detector.as_mut_ptr(),
+                    stores.detector.len(),
+                )
+            }
+        }
+
+        $(#[$flush_says])*
+        pub fn $flush(
+            state: &mut [u8],
+            answer: &mut [u64],
+            frames: usize,
+            audio: &mut [u8],
+            stores: LentStores<'_>,
+        ) -> u32 {
+            // SAFETY: pointers and lengths are those of slices that are borrowed apart.
+            unsafe {
+                $c_flush(
+                    state.as_mut_ptr(),
+                    state.len(),
+                    answer.as_mut_ptr(),
+                    answer.len(),
+                    frames,
+                    audio.as_mut_ptr(),
+                    audio.len(),
+                    stores.delay.as_mut_ptr(),
+                    stores.delay.len(),
+                    stores.marks.as_mut_ptr(),
+                    stores.marks.len(),
+                    stores.minima.as_mut_ptr(),
+                    stores.minima.len(),
+                    stores.weights.as_ptr(),
+                    stores.weights.len(),
+                    stores.row.as_mut_ptr(),
+                    stores.row.len(),
+                    stores.detector.as_mut_ptr(),
+                    stores.detector.len(),
+                )
+            }
+        }
+    };
 }
 
-/// Drains the tail: 18, 16, 19, 20, 22. It tells the frames written and whether
-/// the tail is done.
-pub fn flush(
-    state: &mut [u8],
-    answer: &mut [u64],
-    frames: usize,
-    audio: &mut [u8],
-    stores: LentStores<'_>,
-) -> u32 {
-    // SAFETY: pointers and lengths are those of slices that are borrowed apart.
-    unsafe {
-        daggeryuzu_flush(
-            state.as_mut_ptr(),
-            state.len(),
-            answer.as_mut_ptr(),
-            answer.len(),
-            frames,
-            audio.as_mut_ptr(),
-            audio.len(),
-            stores.delay.as_mut_ptr(),
-            stores.delay.len(),
-            stores.marks.as_mut_ptr(),
-            stores.marks.len(),
-            stores.minima.as_mut_ptr(),
-            stores.minima.len(),
-            stores.weights.as_ptr(),
-            stores.weights.len(),
-            stores.row.as_mut_ptr(),
-            stores.row.len(),
-            stores.detector.as_mut_ptr(),
-            stores.detector.len(),
-        )
-    }
+blocks_and_drains! {
+    /// Limits a block in place: 18, 16, 19, 20, 21 (its index), 22. Events are three
+    /// words each: offset, id, bits of the value. A sample is 8 bytes, low byte first.
+    process: daggeryuzu_process,
+    /// Drains the tail: 18, 16, 19, 20, 22. It tells the frames written and whether
+    /// the tail is done. A sample is 8 bytes, low byte first.
+    flush: daggeryuzu_flush,
+}
+
+blocks_and_drains! {
+    /// [`process`] of f32 samples: 4 bytes each, low byte first.
+    process_float: daggeryuzu_process_float,
+    /// [`flush`] of f32 samples: 4 bytes each, low byte first.
+    flush_float: daggeryuzu_flush_float,
 }
 
 /// Sets a parameter, its value as bits, at once: 18, 23 (id and bits), 24.
@@ -364,8 +433,10 @@ pub fn gain_step(state: &mut [u8], answer: &mut [u64], gain: u64, stores: LentSt
     }
 }
 
-/// Samples as the bytes that they are: 8 each, low byte first.
-pub(crate) fn bytes(samples: &mut [f64]) -> &mut [u8] {
-    // SAFETY: the bytes are those of the samples, and every byte is good for both.
-    unsafe { std::slice::from_raw_parts_mut(samples.as_mut_ptr().cast(), 8 * samples.len()) }
+/// Samples as the bytes that they are, low byte first.
+pub(crate) fn bytes<T: Sample>(samples: &mut [T]) -> &mut [u8] {
+    let length = size_of_val(samples);
+    // SAFETY: the bytes are those of the samples, f32 or f64, and every byte is
+    // good for both.
+    unsafe { std::slice::from_raw_parts_mut(samples.as_mut_ptr().cast(), length) }
 }

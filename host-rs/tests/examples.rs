@@ -1,10 +1,14 @@
-//! The examples of README.md, compiled and run: from C and from Rust the same
-//! answer. Without a C compiler the C part says so and is passed over.
+//! The examples of README.md, compiled and run: from C and from Rust, of f64 and
+//! of f32 samples the same answer. Without a C compiler the C part says so and is
+//! passed over.
 
 use std::path::{Path, PathBuf};
 use std::process::Command;
 
 const ANSWER: &str = "highest sample in 2.000, out 0.881\n";
+
+/// What the examples are given: nothing for f64.
+const WORDS: [&[&str]; 2] = [&[], &["float"]];
 
 fn root() -> PathBuf {
     Path::new(env!("CARGO_MANIFEST_DIR")).join("..")
@@ -44,14 +48,19 @@ fn from_c() {
             .args(["-lm", "-o"])
             .arg(&program),
     );
-    assert_eq!(said(&mut Command::new(program)), ANSWER);
+    for words in WORDS {
+        assert_eq!(said(Command::new(&program).args(words)), ANSWER);
+    }
 }
 
 #[test]
 fn from_rust() {
     let cargo = std::env::var_os("CARGO").unwrap_or_else(|| "cargo".into());
-    let mut run = Command::new(cargo);
-    run.args(["run", "--quiet", "--example", "limit"])
-        .current_dir(env!("CARGO_MANIFEST_DIR"));
-    assert_eq!(said(&mut run), ANSWER);
+    for words in WORDS {
+        let mut run = Command::new(&cargo);
+        run.args(["run", "--quiet", "--example", "limit", "--"])
+            .args(words)
+            .current_dir(env!("CARGO_MANIFEST_DIR"));
+        assert_eq!(said(&mut run), ANSWER);
+    }
 }

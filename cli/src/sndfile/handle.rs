@@ -20,8 +20,9 @@ pub(super) struct Info {
     pub seekable: c_int,
 }
 
+/// libsndfile's SNDFILE.
 #[repr(C)]
-struct SndFile {
+pub struct SndFile {
     _opaque: [u8; 0],
 }
 
@@ -37,11 +38,38 @@ extern "C" {
     fn sf_format_check(info: *const Info) -> c_int;
     fn sf_command(file: *mut SndFile, command: c_int, data: *mut c_void, size: c_int) -> c_int;
     fn sf_readf_int(file: *mut SndFile, to: *mut c_int, frames: i64) -> i64;
+    fn sf_readf_float(file: *mut SndFile, to: *mut f32, frames: i64) -> i64;
     fn sf_readf_double(file: *mut SndFile, to: *mut f64, frames: i64) -> i64;
     fn sf_writef_int(file: *mut SndFile, from: *const c_int, frames: i64) -> i64;
+    fn sf_writef_float(file: *mut SndFile, from: *const f32, frames: i64) -> i64;
     fn sf_writef_double(file: *mut SndFile, from: *const f64, frames: i64) -> i64;
     fn sf_get_string(file: *mut SndFile, kind: c_int) -> *const c_char;
     fn sf_set_string(file: *mut SndFile, kind: c_int, text: *const c_char) -> c_int;
+}
+
+type Readf<T> = unsafe extern "C" fn(*mut SndFile, *mut T, i64) -> i64;
+type Writef<T> = unsafe extern "C" fn(*mut SndFile, *const T, i64) -> i64;
+
+/// What libsndfile reads and writes samples as: whole numbers, left-justified in
+/// 32 bits, or floats.
+pub trait Item: Copy {
+    const READF: Readf<Self>;
+    const WRITEF: Writef<Self>;
+}
+
+impl Item for i32 {
+    const READF: Readf<Self> = sf_readf_int;
+    const WRITEF: Writef<Self> = sf_writef_int;
+}
+
+impl Item for f32 {
+    const READF: Readf<Self> = sf_readf_float;
+    const WRITEF: Writef<Self> = sf_writef_float;
+}
+
+impl Item for f64 {
+    const READF: Readf<Self> = sf_readf_double;
+    const WRITEF: Writef<Self> = sf_writef_double;
 }
 
 /// Whether libsndfile can write such a file.
@@ -89,31 +117,17 @@ impl Handle {
         (samples.len() / self.channels) as i64
     }
 
-    /// Reads interleaved samples, left-justified in 32 bits; the frames read.
-    pub(super) fn read_int(&mut self, to: &mut [i32]) -> usize {
-        let frames = self.frames(to);
-        let read = unsafe { sf_readf_int(self.sound, to.as_mut_ptr(), frames) };
-        usize::try_from(read).unwrap_or(0)
-    }
-
     /// Reads interleaved samples; the frames read.
-    pub(super) fn read_double(&mut self, to: &mut [f64]) -> usize {
+    pub(super) fn readf<T: Item>(&mut self, to: &mut [T]) -> usize {
         let frames = self.frames(to);
-        let read = unsafe { sf_readf_double(self.sound, to.as_mut_ptr(), frames) };
+        let read = unsafe { T::READF(self.sound, to.as_mut_ptr(), frames) };
         usize::try_from(read).unwrap_or(0)
-    }
-
-    /// Writes interleaved samples, left-justified in 32 bits.
-    pub(super) fn write_int(&mut self, from: &[i32]) -> Result<(), String> {
-        let frames = self.frames(from);
-        let written = unsafe { sf_writef_int(self.sound, from.as_ptr(), frames) };
-        self.whole(written, frames)
     }
 
     /// Writes interleaved samples.
-    pub(super) fn write_double(&mut self, from: &[f64]) -> Result<(), String> {
+    pub(super) fn writef<T: Item>(&mut self, from: &[T]) -> Result<(), String> {
         let frames = self.frames(from);
-        let written = unsafe { sf_writef_double(self.sound, from.as_ptr(), frames) };
+        let written = unsafe { T::WRITEF(self.sound, from.as_ptr(), frames) };
         self.whole(written, frames)
     }
 

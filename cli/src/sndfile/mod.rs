@@ -1,5 +1,5 @@
-//! Sound files through libsndfile: streams of interleaved f64 samples, each the
-//! very number that the file holds.
+//! Sound files through libsndfile: streams of interleaved samples, each the very
+//! number that the file holds.
 
 mod extras;
 mod format;
@@ -11,6 +11,14 @@ mod writer;
 pub use format::{Encoding, Format};
 pub use reader::Reader;
 pub use writer::Writer;
+
+/// A sample type that is read, limited and written: an f64 holds every file's
+/// samples, an f32 those of 32-bit floats.
+pub trait Sample: daggeryuzu::Sample + handle::Item {}
+
+impl Sample for f32 {}
+
+impl Sample for f64 {}
 
 /// What samples left-justified in 32 bits are multiples of.
 const STEP: f64 = 1.0 / 2_147_483_648.0;

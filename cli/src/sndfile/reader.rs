@@ -5,7 +5,7 @@ use std::path::{Path, PathBuf};
 
 use super::extras::Extras;
 use super::handle::Handle;
-use super::{whole, Encoding, Format, STEP};
+use super::{whole, Encoding, Format, Sample, STEP};
 use crate::failure::Failure;
 
 /// libsndfile's number of frames where a header does not say it.
@@ -77,17 +77,17 @@ impl Reader {
     ///
     /// # Errors
     /// A file that ends early or cannot be decoded.
-    pub fn read(&mut self, to: &mut [f64]) -> Result<usize, Failure> {
+    pub fn read<T: Sample>(&mut self, to: &mut [T]) -> Result<usize, Failure> {
         let frames = match self.format.encoding {
             Encoding::Pcm(_) => {
                 self.whole_numbers.resize(to.len(), 0);
-                let frames = self.handle.read_int(&mut self.whole_numbers);
+                let frames = self.handle.readf(&mut self.whole_numbers);
                 for (x, n) in to.iter_mut().zip(&self.whole_numbers) {
-                    *x = f64::from(*n) * STEP;
+                    *x = T::from_f64(f64::from(*n) * STEP);
                 }
                 frames
             }
-            Encoding::Float | Encoding::Double => self.handle.read_double(to),
+            Encoding::Float | Encoding::Double => self.handle.readf(to),
         };
         if let Some(line) = self.handle.error() {
             return Err(self.damaged(&line));

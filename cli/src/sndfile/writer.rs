@@ -3,7 +3,7 @@
 use std::fs::File;
 
 use super::handle::{writable, Handle};
-use super::{Encoding, Format, Reader, STEP};
+use super::{Encoding, Format, Reader, Sample, STEP};
 
 /// A sound file that is written from its start to its end.
 #[derive(Debug)]
@@ -46,15 +46,15 @@ impl Writer {
     ///
     /// # Errors
     /// The line that says why not.
-    pub fn write(&mut self, samples: &[f64]) -> Result<(), String> {
+    pub fn write<T: Sample>(&mut self, samples: &[T]) -> Result<(), String> {
         match self.format.encoding {
             Encoding::Pcm(_) => {
                 self.whole_numbers.clear();
-                let numbers = samples.iter().map(|x| (x / STEP) as i32);
+                let numbers = samples.iter().map(|x| (x.to_f64() / STEP) as i32);
                 self.whole_numbers.extend(numbers);
-                self.handle.write_int(&self.whole_numbers)
+                self.handle.writef(&self.whole_numbers)
             }
-            Encoding::Float | Encoding::Double => self.handle.write_double(samples),
+            Encoding::Float | Encoding::Double => self.handle.writef(samples),
         }
     }
 

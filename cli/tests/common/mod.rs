@@ -7,7 +7,7 @@ use std::path::{Path, PathBuf};
 use std::process::{self, Command, Output};
 use std::sync::atomic::{AtomicU32, Ordering};
 
-use daggeryuzu_cli::sndfile::{Format, Reader, Writer};
+use daggeryuzu_cli::sndfile::{Format, Reader, Sample, Writer};
 
 pub const WAV: i32 = 0x01_0000;
 pub const WAVEX: i32 = 0x13_0000;
@@ -109,10 +109,15 @@ pub fn write(path: &Path, format: Format, samples: &[f64]) {
 
 /// All samples of a sound file, with its format.
 pub fn read(path: &Path) -> (Format, Vec<f64>) {
+    read_as(path)
+}
+
+/// The same as samples of another type.
+pub fn read_as<T: Sample>(path: &Path) -> (Format, Vec<T>) {
     let mut reader = Reader::open(path).expect("a sound file");
     let format = reader.format();
     let mut all = Vec::new();
-    let mut block = vec![0.0; 1000 * format.channels];
+    let mut block = vec![T::from_f64(0.0); 1000 * format.channels];
     loop {
         let frames = reader.read(&mut block).expect("samples");
         all.extend(&block[..frames * format.channels]);
