@@ -17,12 +17,12 @@ use lib.Ieee.Nearest.{closest, closest-mono, nearest-ge}
 use Rattle.arithmetic.specs.Narrow.{spacing, overflow}
 
 -- ---- what `compare` says
-abbrev Compared : Ordering → ℕ → ℕ → Type 0
+abbrev pub Compared : Ordering → ℕ → ℕ → Type 0
 Compared Ordering·lt a b = a < b
 Compared Ordering·eq a b = a ≡ b
 Compared Ordering·gt a b = b < a
 
-compared : (a b : ℕ) → Compared (compare a b) a b
+pub compared : (a b : ℕ) → Compared (compare a b) a b
 compared a b = go (compare a b) (leb→le a b) (nleb→lt a b) (eqb→eq a b) (λ (e : a ≡ b). subst (λ (x : ℕ). T (eqb a x)) e (eqb-refl a))
   where
     go : (o : Ordering) → (T (isLe o) → a ≤ b) → (T (not (isLe o)) → b < a) → (T (isEq o) → a ≡ b) → (a ≡ b → T (isEq o)) → Compared o a b

@@ -8,11 +8,13 @@ pub mod Quotient
 pub mod Whole
 pub mod Power
 pub mod Cut
-pub mod Units
 pub mod Exp
 pub mod Rows
 pub mod Wrong
 pub mod NanPattern
+pub mod Units
+pub mod Places32
+pub mod Ways32
 pub mod Same
 pub mod Passed
 pub mod UnitBound

@@ -2,47 +2,36 @@
 -- that is the rounded value where it is below 2^128 (`narrowed-value`), and from there on the result is an infinity (`narrowed-over`).
 use mathlib.Core.Path.{_≡_, refl, sym, ap, _∙_, subst}
 use mathlib.Core.Logic.{_⊎_, inl, inr}
-use mathlib.Core.Bool.{Bool, _&&_, cond}
-use Prim.Native.Nat.{ℕ, zero, suc, _+_, _-_, _*_, _/_, _%_, _^_, _≤_, _<_, max}
-use native.Mathlib.Nat.{mul-one, div-one, mul-div-cancel, le-of-mul-le-mul-right, le-antisymm, le-trans, le-of-eq, lt-of-lt-of-le, lt-of-not-le, not-le-of-lt, eq-zero-or-pos, zero-mul, zero-div, mul-assoc, mul-comm, mul-right-comm, mul-pos, lt-of-mul-lt-mul-right, eq-of-mul-eq-mul-right, le-div-iff-mul-le}
+use mathlib.Core.Bool.{Bool, cond}
+use Prim.Native.Nat.{ℕ, _+_, _-_, _*_, _/_, _^_, _≤_, _<_, max}
+use native.Mathlib.Nat.{mul-div-cancel, le-of-mul-le-mul-right, le-antisymm, le-trans, le-of-eq, lt-of-lt-of-le, lt-of-not-le, not-le-of-lt, eq-zero-or-pos, mul-assoc, mul-comm, mul-right-comm, mul-pos, lt-of-mul-lt-mul-right, eq-of-mul-eq-mul-right, le-div-iff-mul-le}
 use native.Mathlib.Omega.{arith}
-use lib.Dec.{T, leb, ltb, eqb, leb→le}
-use lib.Pow.{pow-add, pow-pos, pow-mono, pow-lt, shr-lt}
-use lib.IntN.{ℤ, pos, negsuc}
+use lib.Dec.{T}
+use lib.Pow.{pow-add, pow-pos, pow-mono, shr-lt}
+use lib.IntN.{ℤ}
 use lib.Ieee.{Float, nan, inf, fin, binary32, binary64, up, down, size, odd, units, round, fits}
 use lib.Ieee.Digits.{size-lt, size-le, size-reaches}
-use lib.Ieee.Fits.{down-pos, and-l, and-r, round-is}
+use lib.Ieee.Fits.{down-pos, round-is}
 use lib.Ieee.Exact.{HasValue, units-val}
 use lib.Ieee.Nearest.{closest, closest-same, div-same}
 use lib.Ieee.Scale.{round-same}
 use borrow.Author.Tests.{le-ltb}
 use Rattle.arithmetic.specs.Narrow.{narrowed, unitsOf, spacing}
+use Rattle.arithmetic.proofs.Exact32.{Digits, digits}
 
 -- n to the nearest multiple of the spacing there, a tie to the even one
 abbrev pub grid : ℕ → ℕ
 grid n = closest n (spacing n) * spacing n
 
 -- ---- a value that fits is a whole number of units
-powers : (a b c : ℕ) → a ≡ b + c → 2 ^ a ≡ 2 ^ b * 2 ^ c
+pub powers : (a b c : ℕ) → a ≡ b + c → 2 ^ a ≡ 2 ^ b * 2 ^ c
 powers a b c e = ap (λ (z : ℕ). 2 ^ z) e ∙ pow-add 2 b c
 
-pow-le-back : (a b : ℕ) → 2 ^ a ≤ 2 ^ b → a ≤ b
-pow-le-back a b h = omega (arith, lt-of-not-le (λ (g : suc b ≤ a). not-le-of-lt (pow-lt g) h))
-
-divided : (m k l : ℕ) → k ≤ l → m * 2 ^ l ≡ m * 2 ^ l / 2 ^ k * 2 ^ k
-divided m k l h =
-    let e : m * 2 ^ l ≡ m * 2 ^ (l - k) * 2 ^ k = ap (λ (z : ℕ). m * z) (powers l (l - k) k (omega arith)) ∙ sym (mul-assoc m (2 ^ (l - k)) (2 ^ k)) in
-    e ∙ ap (λ (z : ℕ). z * 2 ^ k) (sym (ap (λ (z : ℕ). z / 2 ^ k) e ∙ mul-div-cancel (m * 2 ^ (l - k)) (pow-pos k)))
+pub units-shifted : (s : Bool) (m : ℕ) (e : ℤ) (d : Digits binary64 m e) → unitsOf (fin s m e) ≡ m * 2 ^ d .j
+units-shifted s m e d = ap (λ (z : ℕ). z / down e) (d .is) ∙ mul-div-cancel (m * 2 ^ d .j) (down-pos e)
 
 units-is : (s : Bool) (m : ℕ) (e : ℤ) → T (fits binary64 (fin s m e)) → m * up e * 2 ^ 1074 ≡ unitsOf (fin s m e) * down e
-unfolding fits
-units-is s m (pos k) f = sym (mul-one (m * 2 ^ k * 2 ^ 1074 / 1) ∙ div-one (m * 2 ^ k * 2 ^ 1074))
-units-is s zero (negsuc k) f = sym (ap (λ (z : ℕ). z * 2 ^ suc k) (zero-div (2 ^ suc k)) ∙ zero-mul (2 ^ suc k))
-units-is s (suc m) (negsuc k) f =
-    let a = eqb (suc m % 2) 1 && ltb (suc m) (2 ^ 53) in
-    let b = leb (2 ^ suc k) (2 ^ 1074) in
-    let c = ltb (suc m * 1) (2 ^ 1024 * 2 ^ suc k) in
-    divided (suc m * 1) (suc k) 1074 (pow-le-back (suc k) 1074 (leb→le (2 ^ suc k) (2 ^ 1074) (and-r a b (and-l (a && b) c f))))
+units-is s m e f = let d = digits binary64 s m e f in d .is ∙ ap (λ (z : ℕ). z * down e) (sym (units-shifted s m e d))
 
 pub units-value : (s : Bool) (m : ℕ) (e : ℤ) → T (fits binary64 (fin s m e)) → HasValue (fin s m e) s (unitsOf (fin s m e)) (2 ^ 1074)
 units-value s m e f = (refl, units-is s m e f)
@@ -94,7 +83,7 @@ grid-is : (n : ℕ) → grid n ≡ closest n (spacing n) * 2 ^ dropped n * 2 ^ 9
 grid-is n = ap (λ (z : ℕ). closest n (spacing n) * z) (spacing-is n ∙ mul-comm (2 ^ 925) (2 ^ dropped n)) ∙ sym (mul-assoc (closest n (spacing n)) (2 ^ dropped n) (2 ^ 925))
 
 -- from one fraction to another of the same size
-rescale : (x : Float) (s : Bool) (a c b d : ℕ) → 0 < c → b * c ≡ a * d → HasValue x s a c → HasValue x s b d
+pub rescale : (x : Float) (s : Bool) (a c b d : ℕ) → 0 < c → b * c ≡ a * d → HasValue x s a c → HasValue x s b d
 rescale nan s a c b d p h v = v
 rescale (inf t) s a c b d p h v = v
 rescale (fin t m e) s a c b d p h v = (
