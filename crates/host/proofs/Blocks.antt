@@ -38,9 +38,9 @@ never-prepared : prepared notSetUp unset ≡ false
 unfolding prepared
 never-prepared = rw not-prepared refl
 
-module _ (answer state : List ℕ) (position frames : ℕ) (words bytes : List ℕ) (stores : Stores) where
+module _ (format : Format) (answer state : List ℕ) (position frames : ℕ) (words bytes : List ℕ) (stores : Stores) where
   abbrev call : Machine → List ℕ → Outcome
-  call m bytes = blockOf Format.F64 m position frames (eventsOf words) bytes
+  call m bytes = blockOf format m position frames (eventsOf words) bytes
 
   -- what is left, from what a caller of the driver sees
   module _ (q : KernelProcessor) (e : q ≡ processorIn state) (r : ℕ) (after : List ℕ) where
@@ -62,10 +62,10 @@ module _ (answer state : List ℕ) (position frames : ℕ) (words bytes : List �
   pub no-state : isState state ≡ false → (r : ℕ) → r ≡ 18 → (after : List ℕ) → after ≡ answeredBy answer (numbered 18) → returnedWith (returnedAt r after state stores) bytes ≡ audioBy call answer state stores bytes
   no-state h r R after A =
       told never (sym (read-other state h)) r after (numbered 18)
-      (block-left Format.F64 (machineAt never stores) position frames (eventsOf words) bytes (sizeOf Format.F64 bytes) refl (numbered 18) (never-told (sizeOf Format.F64 bytes)) false refl refl) refl R A
+      (block-left format (machineAt never stores) position frames (eventsOf words) bytes (sizeOf format bytes) refl (numbered 18) (never-told (sizeOf format bytes)) false refl refl) refl R A
 
   -- ---- a state: its limiter, and what its bank shows, judged
-  module _ (h : isState state ≡ true) (l : Limiter) (L : l ≡ limiterIn (wordsIn 8 stateWords state)) (t : Threshold) (T : t ≡ shownOf (bankIn (wordsIn 8 stateWords state))) (size : ℕ) (S : size ≡ sizeOf Format.F64 bytes) (reply : Reply)
+  module _ (h : isState state ≡ true) (l : Limiter) (L : l ≡ limiterIn (wordsIn 8 stateWords state)) (t : Threshold) (T : t ≡ shownOf (bankIn (wordsIn 8 stateWords state))) (size : ℕ) (S : size ≡ sizeOf format bytes) (reply : Reply)
       (J : (b : SmootherBank) → shownOf b ≡ t → reply ≡ blockReply (machineOf l b stores) position frames (eventsOf words) size) (f : Bool) (F : f ≡ eqb (reply .number) 0) where
     abbrev q : KernelProcessor
     q = record { limiter = l; bank = bankWith t }
@@ -75,17 +75,17 @@ module _ (answer state : List ℕ) (position frames : ℕ) (words bytes : List �
 
     pub refused-block : not f ≡ true → (r : ℕ) → r ≡ reply .number → (after : List ℕ) → after ≡ answeredBy answer reply → returnedWith (returnedAt r after state stores) bytes ≡ audioBy call answer state stores bytes
     refused-block z r R after A =
-        told q held r after reply (block-left Format.F64 (machineAt q stores) position frames (eventsOf words) bytes size S reply (J (bankWith t) refl) f F z) (sym F ∙ not-true f z) R A
+        told q held r after reply (block-left format (machineAt q stores) position frames (eventsOf words) bytes size S reply (J (bankWith t) refl) f F z) (sym F ∙ not-true f z) R A
 
-    pub block-may : not f ≡ false → BlockAsked (machineOf l (bankWith t) stores) Format.F64 position frames bytes
-    block-may z = block-asks Format.F64 (machineAt q stores) position frames (eventsOf words) bytes size S reply (J (bankWith t) refl) f F z
+    pub block-may : not f ≡ false → BlockAsked (machineOf l (bankWith t) stores) format position frames bytes
+    block-may z = block-asks format (machineAt q stores) position frames (eventsOf words) bytes size S reply (J (bankWith t) refl) f F z
 
     pub rendered-block : not f ≡ false → (done : RenderedBlock) (later : Stores) (bytes' : List ℕ)
-        → (let o = driven Format.F64 (machineOf l (bankWith t) stores) position frames words bytes in renderedAt done later ≡ showing (o .machine) → bytes' ≡ o .bytes
+        → (let o = driven format (machineOf l (bankWith t) stores) position frames words bytes in renderedAt done later ≡ showing (o .machine) → bytes' ≡ o .bytes
         → (r : ℕ) → r ≡ 0 → (after : List ℕ) → after ≡ answeredBy answer (finished []) → (next : List ℕ) → ((b : SmootherBank) → shownOf b ≡ done .threshold → next ≡ stateOut (record { limiter = done .limiter; bank = b }))
         → returnedWith (returnedAt r after next later) bytes' ≡ audioBy call answer state stores bytes)
     rendered-block z done later bytes' D B r R after A next N =
-        let m = driven Format.F64 (machineOf l (bankWith t) stores) position frames words bytes .machine in
+        let m = driven format (machineOf l (bankWith t) stores) position frames words bytes .machine in
         ap (λ (s : Showing). returnedWith (returnedAt r after next (s .stores)) bytes') D
-        ∙ kept q held r after m bytes' (block-finished Format.F64 (machineAt q stores) position frames (eventsOf words) bytes size S reply (J (bankWith t) refl) f F m bytes' z refl B) R A next
+        ∙ kept q held r after m bytes' (block-finished format (machineAt q stores) position frames (eventsOf words) bytes size S reply (J (bankWith t) refl) f F m bytes' z refl B) R A next
         (N (m .bank) (ap (λ (s : Showing). s .threshold) (sym D)) ∙ ap (λ (s : Showing). stateOut (record { limiter = s .limiter; bank = m .bank })) D)

@@ -196,7 +196,67 @@ pub extern "C" fn daggeryuzu_gain_step(
 }
 
 // A block of so many frames a channel, planar, that starts at an absolute position: three words an
-// event, eight bytes a sample.
+// event.
+fn process_as(
+    format: Format,
+    state: &mut [u8],
+    answer: &mut [u64],
+    position: u64,
+    frames: usize,
+    events: &[u64],
+    audio: &mut [u8],
+    delay: &mut [f64],
+    marks: &mut [u64],
+    minima: &mut [f64],
+    weights: &[f64],
+    row: &mut [f64],
+    detector: &mut [f64],
+) -> u32
+    ensures { λ r. ⌜ returnedWith (returnedAt r (now (answer .exit)) (now (state .exit)) (atExit delay marks minima weights row detector)) (now (audio .exit))
+        ≡ audioBy (λ (m : Machine) (bytes : List ℕ). blockOf format m position frames (eventsOf (now (events .entry))) bytes)
+        (now (answer .entry)) (now (state .entry)) (atEntry delay marks minima weights row detector) (now (audio .entry)) ⌝ }
+{
+    if !is_state(state) {
+        return refuse(answer, Answer::Refused(Refusal::NotSetUp));
+    }
+    let l = limiter_in(state);
+    let t = threshold_in(state);
+    let told = judge_block(
+        l,
+        t,
+        position,
+        frames,
+        events,
+        size_of(format, audio),
+        delay,
+        marks,
+        minima,
+        weights,
+        row,
+        detector,
+    );
+    if !told.is_finished() {
+        return refuse(answer, told);
+    }
+    let done = render_block(
+        l,
+        t,
+        format,
+        position,
+        frames,
+        events,
+        audio,
+        delay,
+        marks,
+        minima,
+        weights,
+        row,
+        detector,
+    );
+    finish(state, answer, done)
+}
+
+// A block of f64 samples, eight bytes each.
 #[no_mangle]
 pub extern "C" fn daggeryuzu_process(
     state: &mut [u8],
@@ -216,32 +276,10 @@ pub extern "C" fn daggeryuzu_process(
         ≡ audioBy (λ (m : Machine) (bytes : List ℕ). blockOf Format.F64 m position frames (eventsOf (now (events .entry))) bytes)
         (now (answer .entry)) (now (state .entry)) (atEntry delay marks minima weights row detector) (now (audio .entry)) ⌝ }
 {
-    if !is_state(state) {
-        return refuse(answer, Answer::Refused(Refusal::NotSetUp));
-    }
-    let l = limiter_in(state);
-    let t = threshold_in(state);
-    let told = judge_block(
-        l,
-        t,
-        position,
-        frames,
-        events,
-        size_of(Format::F64, audio),
-        delay,
-        marks,
-        minima,
-        weights,
-        row,
-        detector,
-    );
-    if !told.is_finished() {
-        return refuse(answer, told);
-    }
-    let done = render_block(
-        l,
-        t,
+    process_as(
         Format::F64,
+        state,
+        answer,
         position,
         frames,
         events,
@@ -252,11 +290,82 @@ pub extern "C" fn daggeryuzu_process(
         weights,
         row,
         detector,
-    );
-    finish(state, answer, done)
+    )
+}
+
+// A block of f32 samples, four bytes each.
+#[no_mangle]
+pub extern "C" fn daggeryuzu_process_float(
+    state: &mut [u8],
+    answer: &mut [u64],
+    position: u64,
+    frames: usize,
+    events: &[u64],
+    audio: &mut [u8],
+    delay: &mut [f64],
+    marks: &mut [u64],
+    minima: &mut [f64],
+    weights: &[f64],
+    row: &mut [f64],
+    detector: &mut [f64],
+) -> u32
+    ensures { λ r. ⌜ returnedWith (returnedAt r (now (answer .exit)) (now (state .exit)) (atExit delay marks minima weights row detector)) (now (audio .exit))
+        ≡ audioBy (λ (m : Machine) (bytes : List ℕ). blockOf Format.F32 m position frames (eventsOf (now (events .entry))) bytes)
+        (now (answer .entry)) (now (state .entry)) (atEntry delay marks minima weights row detector) (now (audio .entry)) ⌝ }
+{
+    process_as(
+        Format::F32,
+        state,
+        answer,
+        position,
+        frames,
+        events,
+        audio,
+        delay,
+        marks,
+        minima,
+        weights,
+        row,
+        detector,
+    )
 }
 
 // A drain of so many frames a channel, planar: how many it wrote, and whether the tail is done.
+fn flush_as(
+    format: Format,
+    state: &mut [u8],
+    answer: &mut [u64],
+    frames: usize,
+    audio: &mut [u8],
+    delay: &mut [f64],
+    marks: &mut [u64],
+    minima: &mut [f64],
+    weights: &[f64],
+    row: &mut [f64],
+    detector: &mut [f64],
+) -> u32
+    ensures { λ r. ⌜ returnedWith (returnedAt r (now (answer .exit)) (now (state .exit)) (atExit delay marks minima weights row detector)) (now (audio .exit))
+        ≡ audioBy (λ (m : Machine) (bytes : List ℕ). drainOf format m frames bytes)
+        (now (answer .entry)) (now (state .entry)) (atEntry delay marks minima weights row detector) (now (audio .entry)) ⌝ }
+{
+    let p = read_state(state);
+    let done = p.flush(
+        format,
+        frames,
+        audio,
+        delay,
+        marks,
+        minima,
+        weights,
+        row,
+        detector,
+    );
+    let told = done.answer;
+    let next = done.processor;
+    leave(state, answer, of_flush(told), next)
+}
+
+// A drain into f64 samples.
 #[no_mangle]
 pub extern "C" fn daggeryuzu_flush(
     state: &mut [u8],
@@ -274,9 +383,10 @@ pub extern "C" fn daggeryuzu_flush(
         ≡ audioBy (λ (m : Machine) (bytes : List ℕ). drainOf Format.F64 m frames bytes)
         (now (answer .entry)) (now (state .entry)) (atEntry delay marks minima weights row detector) (now (audio .entry)) ⌝ }
 {
-    let p = read_state(state);
-    let done = p.flush(
+    flush_as(
         Format::F64,
+        state,
+        answer,
         frames,
         audio,
         delay,
@@ -285,10 +395,40 @@ pub extern "C" fn daggeryuzu_flush(
         weights,
         row,
         detector,
-    );
-    let told = done.answer;
-    let next = done.processor;
-    leave(state, answer, of_flush(told), next)
+    )
+}
+
+// A drain into f32 samples.
+#[no_mangle]
+pub extern "C" fn daggeryuzu_flush_float(
+    state: &mut [u8],
+    answer: &mut [u64],
+    frames: usize,
+    audio: &mut [u8],
+    delay: &mut [f64],
+    marks: &mut [u64],
+    minima: &mut [f64],
+    weights: &[f64],
+    row: &mut [f64],
+    detector: &mut [f64],
+) -> u32
+    ensures { λ r. ⌜ returnedWith (returnedAt r (now (answer .exit)) (now (state .exit)) (atExit delay marks minima weights row detector)) (now (audio .exit))
+        ≡ audioBy (λ (m : Machine) (bytes : List ℕ). drainOf Format.F32 m frames bytes)
+        (now (answer .entry)) (now (state .entry)) (atEntry delay marks minima weights row detector) (now (audio .entry)) ⌝ }
+{
+    flush_as(
+        Format::F32,
+        state,
+        answer,
+        frames,
+        audio,
+        delay,
+        marks,
+        minima,
+        weights,
+        row,
+        detector,
+    )
 }
 
 fn cap_of(capped: u32, cap: u64) -> Cap

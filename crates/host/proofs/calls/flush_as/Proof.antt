@@ -1,9 +1,8 @@
--- `daggeryuzu_flush`: a drain through bytes.
+-- `flush_as`: a drain through bytes.
 use mathlib.Core.Path.{ap}
 use mathlib.Core.List.{List}
 use Prim.Native.Nat.{ℕ}
 use denote.Ref.{now}
-use Rattle.audio.specs.declared.format.Format.{Format}
 use Rattle.limiter.specs.Stores.{Stores, storesAt}
 use Rattle.turns.specs.Machine.{Machine}
 use Rattle.turns.specs.Drain.{drainOf}
@@ -11,8 +10,8 @@ use Rattle.driver.specs.Answers.{machineAt, flushReply, Seen}
 use Rattle.state_bytes.proofs.Finished.{drain-set-up}
 use Rattle.host.proofs.Through.{finished-long, rendered}
 use borrow.Author.Needs.{needs}
-use Rattle.host.proofs.calls.daggeryuzu_flush.Statement.{statement}
-use Rattle.host.proofs.calls.daggeryuzu_flush.Tie as tie
+use Rattle.host.proofs.calls.flush_as.Statement.{statement}
+use Rattle.host.proofs.calls.flush_as.Tie as tie
 
 abbrev stores : tie.Start → Stores
 stores s =
@@ -34,8 +33,8 @@ leave-requires c κs =
     let k2 = k1 .before .before .before .before .before .before .before in
     let k3 = k2 .before .before .before .before .before .before .before .before .before .before .before in
     let m = machineAt (k2 .read-state .result) (stores k3) in
-    finished-long (now (k3 .args .answer)) (now (k3 .args .state)) (k2 .read-state .result) (k2 .read-state .ensures) (flushReply (k1 .flush .result .answer)) (drainOf Format.F64 m (k3 .args .frames) (now (k3 .args .audio)) .reply) (c .of-flush .result)
-    (drain-set-up m Format.F64 (k3 .args .frames) (now (k3 .args .audio))) (ap (λ (s : Seen). s .reply) (k1 .flush .ensures)) (c .of-flush .ensures)
+    finished-long (now (k3 .args .answer)) (now (k3 .args .state)) (k2 .read-state .result) (k2 .read-state .ensures) (flushReply (k1 .flush .result .answer)) (drainOf (k3 .args .format) m (k3 .args .frames) (now (k3 .args .audio)) .reply) (c .of-flush .result)
+    (drain-set-up m (k3 .args .format) (k3 .args .frames) (now (k3 .args .audio))) (ap (λ (s : Seen). s .reply) (k1 .flush .ensures)) (c .of-flush .ensures)
 
 same-length : tie.Need-same-length
 same-length c = search needs
@@ -70,10 +69,10 @@ returns c =
     let k5 = k4 .before .before .before .before .before .before .before .before .before .before .before in
     rendered (now (k5 .args .answer)) (now (k5 .args .state)) (k4 .read-state .result) (k4 .read-state .ensures) (flushReply (k3 .flush .result .answer)) (k3 .flush .result .processor) _ (k2 .of-flush .result) _ _ _
     (k2 .of-flush .ensures) (k1 .leave .ensures .0) (k1 .leave .ensures .1 .0) (k1 .leave .ensures .1 .1)
-    (λ (m : Machine) (bytes : List ℕ). drainOf Format.F64 m (k5 .args .frames) bytes) (stores k5) (now (k5 .args .audio)) _ (k3 .flush .ensures)
+    (λ (m : Machine) (bytes : List ℕ). drainOf (k5 .args .format) m (k5 .args .frames) bytes) (stores k5) (now (k5 .args .audio)) _ (k3 .flush .ensures)
 
-pub daggeryuzu-flush-spec : {M : Type 1} → statement M
-daggeryuzu-flush-spec =
+pub flush-as-spec : {M : Type 1} → statement M
+flush-as-spec =
     tie.close
     (tie.spec
     read-state-requires
