@@ -1,17 +1,18 @@
--- The claim is false of each of the twenty limiters of specs/Controls.antt, and `GainClaim` of each of its three gain steps: a few calls after a start (`mono`, or `stereo` where the comment says so; ControlsStart), and the one place of the claim that two constants contradict.
+-- The claim is false of each of the twenty-one limiters of specs/Controls.antt, and `GainClaim` of each of its three gain steps: a few calls after a start (`mono`, or `stereo` where the comment says so; ControlsStart), and the one place of the claim that two constants contradict.
 use Prim.Native.Nat.{ℕ}
 use mathlib.Core.Path.{refl, ap, sym}
 use mathlib.Core.Bool.{true}
 use mathlib.Core.List.{List, [], _∷_}
 use native.Mathlib.Omega.{arith}
 use lib.ListN.{length, getD, replicate}
-use lib.Ieee.{Float, nan, binary64, toBits, lt}
+use lib.Ieee.{Float, nan, binary64, toBits, lt, round}
 use borrow.Author.Tests.{eqb-false}
 use Rattle.arithmetic.specs.Number.{bits, one}
+use Rattle.arithmetic.specs.Narrow.{narrowed}
 use Rattle.arithmetic.specs.Reply.{Reply, Value, count, float}
 use Rattle.arithmetic.proofs.Order.{clash}
 use Rattle.audio.specs.Bytes.{bytesOut}
-use Rattle.audio.specs.declared.format.Format.the-variants.{F64}
+use Rattle.audio.specs.declared.format.Format.the-variants.{F64, F32}
 use Rattle.frame.specs.Frame.{Moving}
 use Rattle.turns.specs.Machine.{Machine, lowest}
 use Rattle.driver.specs.Calls.{gainReply}
@@ -20,7 +21,7 @@ use Rattle.claims.specs.Claim.{Claim}
 use Rattle.claims.specs.GainSteps.{GainClaim}
 use Rattle.claims.specs.Controls.{steppedBy, gainStepBy, frameBy, framesBy, renderedBy, storedFirst}
 use Rattle.claims.specs.Controls.{shortWindow, equalsStay, detectorStopped, rowKept, drainedKept, targetLost, noDelay, lateEvents, refusing, doneAtOnce, fullGain}
-use Rattle.claims.specs.Controls.{noGain, onlySilence, reversedWeights, firstLinked, releaseExchanged, tallyKept, dropInvented, stepInvents, ringInvented, ringHidden, stepForgets, stepForges}
+use Rattle.claims.specs.Controls.{noGain, onlySilence, reversedWeights, firstLinked, releaseExchanged, tallyKept, dropInvented, stepInvents, ringInvented, ringHidden, stepForgets, stepForges, cutNotRounded}
 use Rattle.claims.proofs.ControlsStart.{calling, booking, after-mono, after-stereo, gains-after-mono}
 
 -- a value as a number: a count, or a float's bits
@@ -190,3 +191,11 @@ no-step-forgets claim = eqb-false 0 11 refl (ap (λ (m : Machine). length (m .st
 pub no-step-forges : GainClaim stepForges → ⊥
 unfolding calling gainReply booking
 no-step-forges claim = eqb-false 0 1 refl (gains-after-mono stepForges claim (one ∷ []) .0 .told (omega arith) .kept)
+
+-- 24: 1 − 2^-26 in a block of f64, which asks for no less than full gain; then a drain of f32. Its eleventh frame should give out 1, the nearest f32; it gives out 1 − 2^-24.
+pub no-cut-off : Claim cutNotRounded → ⊥
+unfolding calling booking narrowed round
+no-cut-off claim =
+    eqb-false 0x3fef_ffff_e000_0000 0x3ff0_0000_0000_0000 refl
+    (ap (λ (xs : List Float). bitsAt 0 xs)
+    (after-mono cutNotRounded refl claim (block F64 0 1 [] (audioOf (0x3fef_ffff_f800_0000 ∷ [])) ∷ drain F32 11 (replicate 44 0) ∷ []) .1 .0 .frames .1 .1 .1 .1 .1 .1 .1 .1 .1 .1 .0 .outputs))

@@ -3,17 +3,13 @@ use mathlib.Core.Path.{_≡_, sym, ap, _∙_}
 use mathlib.Core.List.{List, [], _∷_, map}
 use Prim.Native.Nat.{ℕ, zero, suc, _+_, _*_, _≤_, _<_}
 use native.Mathlib.Omega.{arith}
-use lib.Dec.{T}
 use lib.ListN.{length, getD, length-map, List·getD-map}
-use lib.Ieee.{Float, nan, inf, fin, binary64, fits, mul, lt}
-use lib.Ieee.Fits.{cond-fits, nan-fits, mul-fits}
-use Rattle.arithmetic.specs.Number
-use Rattle.arithmetic.specs.Number.{absOf, largest}
-use Rattle.arithmetic.specs.Sanitize.{finiteOrZero, denormalFloor, flushDenormal}
+use lib.Ieee.{Float, nan, binary64, mul}
+use lib.Ieee.Fits.{nan-fits}
+use Rattle.arithmetic.specs.Number.{largest}
 use Rattle.audio.specs.Planar.{written}
-use Rattle.audio.specs.Format.{sampleOf, bytesFor, sizeOf, placesOf, writtenBytes}
+use Rattle.audio.specs.Format.{binaryOf, sampleOf, bytesFor, sizeOf, placesOf, writtenBytes}
 use Rattle.audio.specs.declared.format.Format.{Format}
-use Rattle.audio.specs.declared.format.Format.the-variants.{F64}
 use Rattle.audio.proofs.Carry.{places-end}
 use Rattle.audio.proofs.Places.{places-fit, place-at, sample-back}
 use Rattle.audio.proofs.Planes.{written-there, written-past}
@@ -21,6 +17,7 @@ use Rattle.audio.proofs.Written.{places-written, written-bytes-length, written-
 use Rattle.settings.specs.declared.LimiterSettings.{LimiterSettings}
 use Rattle.frame.specs.Rules.{leavesBy, rulesOf}
 use Rattle.frame.specs.Frame.{Framed}
+use Rattle.frame.proofs.Held.{leaves-fits}
 use Rattle.turns.specs.Block.{outputsOf}
 use Rattle.claims.specs.Book.{Joined, earlier, leavingFrom}
 use Rattle.claims.specs.Claim.{FramesHold, Given}
@@ -32,25 +29,13 @@ Back format x = sampleOf format (bytesFor format x) ≡ x
 abbrev AllBack : Format → List (List Float) → Type 0
 AllBack format outputs = (i c : ℕ) → Back format (getD (getD outputs i []) c nan)
 
-zero-fits : T (fits binary64 Number.zero)
-unfolding fits
-zero-fits = tt
-
-finite-fits : (x : Float) → T (fits binary64 x) → T (fits binary64 (finiteOrZero x))
-finite-fits nan h = zero-fits
-finite-fits (inf s) h = zero-fits
-finite-fits (fin s m e) h = h
-
 -- what the output rule of a sample type makes of a product
 leaves-back : (format : Format) (d gain : Float) → Back format (leavesBy format (mul binary64 d gain))
-unfolding leavesBy
-leaves-back F64 d gain =
-    let x = mul binary64 d gain in
-    sample-back F64 (flushDenormal x) (cond-fits binary64 (lt (absOf (finiteOrZero x)) denormalFloor) Number.zero (finiteOrZero x) zero-fits (finite-fits x (mul-fits binary64 d gain)))
+leaves-back format d gain = sample-back format (leavesBy format (mul binary64 d gain)) (leaves-fits format d gain)
 
 -- what stands for an output that is missing
 nan-back : (format : Format) → Back format nan
-nan-back F64 = sample-back F64 nan (nan-fits binary64)
+nan-back format = sample-back format nan (nan-fits (binaryOf format))
 
 module _ (s : LimiterSettings) (format : Format) (look channels : ℕ) where
   leaving-back : (gain : Float) (fs : List Joined) (first k c : ℕ) → Back format (getD (leavingFrom (rulesOf s format) look gain first k fs) c nan)

@@ -1,16 +1,17 @@
--- THE CONTROLS: twenty limiters of which the claim is false, and three gain steps of which `GainClaim` is false (proofs/Controls.antt). Each is `limiting`, or `gainStep`, but for the one place that its comment names.
-use Prim.Native.Nat.{ℕ, _+_, _-_}
+-- THE CONTROLS: twenty-one limiters of which the claim is false, and three gain steps of which `GainClaim` is false (proofs/Controls.antt). Each is `limiting`, or `gainStep`, but for the one place that its comment names.
+use Prim.Native.Nat.{ℕ, _+_, _-_, _*_, _/_, _^_}
 use mathlib.Core.Bool.{false, cond, _&&_}
 use mathlib.Core.List.{List, [], _∷_, _++_, map, reverse}
 use lib.Dec.{eqb}
 use lib.ListN.{length, take, drop, getD, set}
-use lib.Ieee.{Float, nan, binary64, le, add, sub, mul}
+use lib.Ieee.{Float, nan, binary64, toBits, le, add, sub, mul}
 use Rattle.arithmetic.specs.Number
-use Rattle.arithmetic.specs.Number.{one}
-use Rattle.arithmetic.specs.Sanitize.{finiteOrZero, unitGain}
+use Rattle.arithmetic.specs.Number.{bits, one}
+use Rattle.arithmetic.specs.Sanitize.{finiteOrZero, flushDenormal, unitGain}
 use Rattle.arithmetic.specs.Reply.{Reply, finished, numbered, count}
 use Rattle.audio.specs.Format.{sizeOf}
 use Rattle.audio.specs.declared.format.Format.{Format}
+use Rattle.audio.specs.declared.format.Format.the-variants.{F64, F32}
 use Rattle.keeper.specs.Ring.{Entry, wrap, dropBack, dropFront, frontOf}
 use Rattle.keeper.specs.declared.FloorKeeper.{FloorKeeper}
 use Rattle.keeper.specs.Keeper.{Keeping, keepingAt, freshKeeper, Stepped, entriesOf}
@@ -19,7 +20,7 @@ use Rattle.envelope.specs.declared.row.AttackRow.{AttackRow}
 use Rattle.envelope.specs.Mean.{meanOf}
 use Rattle.envelope.specs.Follow.{followed}
 use Rattle.envelope.specs.Step.{Enveloped, enveloped, GainStepped, gainStepped}
-use Rattle.frame.specs.Rules.{Linking, Rules, rulesOf}
+use Rattle.frame.specs.Rules.{Linking, Rules, linkingOf, rulesOf}
 use Rattle.frame.specs.Frame.{Linked, linkedFrom, requiredGain, givenOut, Delayed, delayedFrom, Moving, Framed}
 use Rattle.frame.specs.Run.{Frames, frameFirst}
 use Rattle.limiter.specs.Stores.{storesAt}
@@ -377,3 +378,19 @@ withoutEntry k = keepingAt (record { look = k .keeper .look; head = k .keeper .h
 
 abbrev pub stepForges : GainStepping
 stepForges = stepBy (λ m g. gainDone m (gainStepped (g .floor) 1 (g .mean) (enveloped (withoutEntry (g .env .keeping)) (g .env .rowed) (g .env .gain))))
+
+-- ---- 24: an output that leaves as f32 is cut off after 24 digits, and not rounded
+abbrev pub cutOff : Float → Float
+cutOff x = bits (toBits binary64 x / 2 ^ 29 * 2 ^ 29)
+
+abbrev pub leavesCut : Format → Float → Float
+leavesCut F64 x = flushDenormal x
+leavesCut F32 x = cutOff (flushDenormal x)
+
+abbrev pub cutRules : Machine → Format → Rules
+cutRules m format = record { linking = linkingOf (m .limiter .settings); leaves = leavesCut format }
+
+abbrev pub cutNotRounded : Limiting
+cutNotRounded =
+    limitingWith (λ format m position frames events bytes. blockBy (rendered (cutRules m format)) format m position frames events bytes)
+    (λ format m frames bytes. drainBy (rendered (cutRules m format)) format m frames bytes) (λ m. resetOf m)

@@ -10,7 +10,6 @@ use borrow.Author.Tests.{eqb-true, eqb-false, eq-eqb, ne-eqb}
 use Rattle.arithmetic.specs.Number.{bits}
 use Rattle.arithmetic.specs.Reply.{Reply, refused, numbered, count}
 use Rattle.audio.specs.Format.{sizeOf}
-use Rattle.audio.specs.declared.format.Format.the-variants.{F64}
 use Rattle.limiter.specs.Stores.{Stores}
 use Rattle.turns.specs.Machine.{Machine}
 use Rattle.turns.specs.Events.{eventsOf}
@@ -38,15 +37,15 @@ outcomeOf call state stores = called limiting (machineIn state stores) (claimed 
 pub returns : (call : HostCall) (answer state : List ℕ) (stores : Stores)
     → (let o = outcomeOf call state stores in hostCalled call answer state stores ≡ returnedWith (returned answer state (toldBy call (o .reply)) (o .machine)) (o .bytes))
 unfolding audioBy calledBy
-returns (process position frames words bytes) answer state stores = refl
-returns (flush frames bytes) answer state stores = refl
+returns (process format position frames words bytes) answer state stores = refl
+returns (flush format frames bytes) answer state stores = refl
 returns (setParameter id word) answer state stores = refl
 returns reset answer state stores = refl
 
 -- the answer buffer's reply has the reply's number
 pub told-number : (call : HostCall) (reply : Reply) → toldBy call reply .number ≡ reply .number
-told-number (process position frames words bytes) reply = refl
-told-number (flush frames bytes) reply = refl
+told-number (process format position frames words bytes) reply = refl
+told-number (flush format frames bytes) reply = refl
 told-number (setParameter id word) reply = go (eqb (reply .number) 23) refl
   where
     go : (b : Bool) → eqb (reply .number) 23 ≡ b → cond b (refused 23 (count id ∷ count word ∷ [])) reply .number ≡ reply .number
@@ -62,13 +61,13 @@ kept false done r m bytes z some = (refl, refl)
 
 refused-kept : (m : Machine) (call : HostCall) → (let o = called limiting m (claimed call) in (o .reply .number ≡ 0 → ⊥) → (o .machine ≡ m) × (o .bytes ≡ bytesIn (claimed call)))
 unfolding blockBy drainBy parameterOf resetOf
-refused-kept m (process position frames words bytes) some =
+refused-kept m (process format position frames words bytes) some =
     let events = eventsOf words in
-    let r = blockReply m position frames events (sizeOf F64 bytes) in
-    kept (eqb (r .number) 0) (blockDone (renderedIn F64 m) F64 m position frames events bytes) r m bytes refl some
-refused-kept m (flush frames bytes) some =
-    let r = drainReply m frames (sizeOf F64 bytes) in
-    kept (eqb (r .number) 0) (drainDone (renderedIn F64 m) F64 m frames bytes) r m bytes refl some
+    let r = blockReply m position frames events (sizeOf format bytes) in
+    kept (eqb (r .number) 0) (blockDone (renderedIn format m) format m position frames events bytes) r m bytes refl some
+refused-kept m (flush format frames bytes) some =
+    let r = drainReply m frames (sizeOf format bytes) in
+    kept (eqb (r .number) 0) (drainDone (renderedIn format m) format m frames bytes) r m bytes refl some
 refused-kept m (setParameter id word) some = (rw (ne-eqb (parameterReply m id (bits word) .number) 0 some) refl, refl)
 refused-kept m reset some = (rw (ne-eqb _ 0 some) refl, refl)
 
@@ -113,8 +112,8 @@ gain-returns gain answer state stores =
 
 -- ---- what it leaves can be stored, and is what is read
 pub called-storable : (m : Machine) → Storable (processorOf m) → (call : HostCall) → Storable (processorOf (called limiting m (claimed call) .machine))
-called-storable m h (process position frames words bytes) = block-storable m h F64 position frames (eventsOf words) bytes (events-fit words 0 (length words / 3))
-called-storable m h (flush frames bytes) = drain-storable m h F64 frames bytes
+called-storable m h (process format position frames words bytes) = block-storable m h format position frames (eventsOf words) bytes (events-fit words 0 (length words / 3))
+called-storable m h (flush format frames bytes) = drain-storable m h format frames bytes
 called-storable m h (setParameter id word) = parameter-storable m h id (bits word) (bits-fit word)
 called-storable m h reset = reset-storable m h
 

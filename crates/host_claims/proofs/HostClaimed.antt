@@ -151,8 +151,8 @@ module _ (answer state : List ℕ) (stores : Stores) (bytes : Bytes state) where
 
 -- ---- bytes that hold no limiter: 18
 told-18 : (call : HostCall) → toldBy call (numbered 18) ≡ numbered 18
-told-18 (process position frames words bytes) = refl
-told-18 (flush frames bytes) = refl
+told-18 (process format position frames words bytes) = refl
+told-18 (flush format frames bytes) = refl
 told-18 (setParameter id word) = refl
 told-18 reset = refl
 

@@ -8,6 +8,7 @@ use borrow.Author.Tests.{eqb-false}
 use Rattle.arithmetic.specs.Number
 use Rattle.arithmetic.specs.Reply.{Reply}
 use Rattle.audio.specs.Bytes.{bytesOf, joined}
+use Rattle.audio.specs.declared.format.Format.the-variants.{F64}
 use Rattle.settings.specs.Settings.{settingsOf, processSpec, defaults}
 use Rattle.settings.specs.declared.LimiterSettings.{LimiterSettings}
 use Rattle.settings.specs.declared.ProcessSpec.{ProcessSpec}
@@ -51,7 +52,7 @@ no-state-forgotten claim = eqb-false 0 68 refl (ap (λ (bytes : List ℕ). getD 
 -- 3: no bytes are no state: 18
 pub no-bytes-unjudged : HostClaim limiting gainStep bytesUnjudged → ⊥
 unfolding processorIn isState drainBy drainReply readyRefusal prepared Order.prepared
-no-bytes-unjudged claim = eqb-false 0 18 refl (claim .call (flush 0 []) [] [] stores .replied)
+no-bytes-unjudged claim = eqb-false 0 18 refl (claim .call (flush F64 0 []) [] [] stores .replied)
 
 -- 4: the same
 pub no-gain-untold : HostClaim limiting gainStep gainUntold → ⊥

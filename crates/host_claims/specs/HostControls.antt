@@ -28,8 +28,8 @@ stateForgotten = record {
 
 -- ---- 3: a drain finds fault with no bytes: where they are no state it says that the work is finished, and gives out no audio
 abbrev pub drainsAnything : HostCall → List ℕ → List ℕ → Stores → ReturnedAudio
-drainsAnything (process position frames words bytes) answer state stores = hosting .calls (process position frames words bytes) answer state stores
-drainsAnything (flush frames bytes) answer state stores = cond (isState state) (hosting .calls (flush frames bytes) answer state stores) (returnedWith (returnedAt 0 answer state stores) [])
+drainsAnything (process format position frames words bytes) answer state stores = hosting .calls (process format position frames words bytes) answer state stores
+drainsAnything (flush format frames bytes) answer state stores = cond (isState state) (hosting .calls (flush format frames bytes) answer state stores) (returnedWith (returnedAt 0 answer state stores) [])
 drainsAnything (setParameter id word) answer state stores = hosting .calls (setParameter id word) answer state stores
 drainsAnything reset answer state stores = hosting .calls reset answer state stores
 

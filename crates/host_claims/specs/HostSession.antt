@@ -5,7 +5,7 @@ use mathlib.Core.List.{List, [], _∷_}
 use lib.Dec.{eqb}
 use Rattle.arithmetic.specs.Number.{bits}
 use Rattle.arithmetic.specs.Reply.{Reply, refused, count}
-use Rattle.audio.specs.declared.format.Format.the-variants.{F64}
+use Rattle.audio.specs.declared.format.Format.{Format}
 use Rattle.settings.specs.declared.LimiterSettings.{LimiterSettings}
 use Rattle.settings.specs.declared.ProcessSpec.{ProcessSpec}
 use Rattle.limiter.specs.Stores.{Stores}
@@ -19,10 +19,10 @@ use Rattle.claims.specs.Session.{Call}
 
 -- ---- the C functions that act, each with its arguments beside state, stores and answer buffer
 pub data HostCall : Type 0 where
-  -- daggeryuzu_process: position, frames, three words an event, audio
-  process : ℕ → ℕ → List ℕ → List ℕ → HostCall
-  -- daggeryuzu_flush: frames, audio
-  flush : ℕ → List ℕ → HostCall
+  -- daggeryuzu_process, or daggeryuzu_process_float, by the sample type: position, frames, three words an event, audio
+  process : Format → ℕ → ℕ → List ℕ → List ℕ → HostCall
+  -- daggeryuzu_flush, or daggeryuzu_flush_float: frames, audio
+  flush : Format → ℕ → List ℕ → HostCall
   -- daggeryuzu_set_parameter: id, the value's bits
   setParameter : ℕ → ℕ → HostCall
   -- daggeryuzu_reset
@@ -30,15 +30,15 @@ pub data HostCall : Type 0 where
 
 -- the claim's call of the same arguments
 abbrev pub claimed : HostCall → Call
-claimed (process position frames words bytes) = Call.block F64 position frames (eventsOf words) bytes
-claimed (flush frames bytes) = Call.drain F64 frames bytes
+claimed (process format position frames words bytes) = Call.block format position frames (eventsOf words) bytes
+claimed (flush format frames bytes) = Call.drain format frames bytes
 claimed (setParameter id word) = Call.parameter id (bits word)
 claimed reset = Call.reset
 
 -- the reply as the answer buffer tells it: 23 gives back the word that came in
 abbrev pub toldBy : HostCall → Reply → Reply
-toldBy (process position frames words bytes) reply = reply
-toldBy (flush frames bytes) reply = reply
+toldBy (process format position frames words bytes) reply = reply
+toldBy (flush format frames bytes) reply = reply
 toldBy (setParameter id word) reply = cond (eqb (reply .number) 23) (refused 23 (count id ∷ count word ∷ [])) reply
 toldBy reset reply = reply
 
@@ -60,8 +60,8 @@ pub record Hosting : Type 0 where
 
 -- the one that the code meets: the definitions that the contracts of `host` cite
 abbrev pub hostCalled : HostCall → List ℕ → List ℕ → Stores → ReturnedAudio
-hostCalled (process position frames words bytes) answer state stores = audioBy (λ (m : Machine) (audio : List ℕ). blockOf F64 m position frames (eventsOf words) audio) answer state stores bytes
-hostCalled (flush frames bytes) answer state stores = audioBy (λ (m : Machine) (audio : List ℕ). drainOf F64 m frames audio) answer state stores bytes
+hostCalled (process format position frames words bytes) answer state stores = audioBy (λ (m : Machine) (audio : List ℕ). blockOf format m position frames (eventsOf words) audio) answer state stores bytes
+hostCalled (flush format frames bytes) answer state stores = audioBy (λ (m : Machine) (audio : List ℕ). drainOf format m frames audio) answer state stores bytes
 hostCalled (setParameter id word) answer state stores = returnedWith (calledBy (parameterBy id word) answer state stores) []
 hostCalled reset answer state stores = returnedWith (calledBy resetOf answer state stores) []
 
