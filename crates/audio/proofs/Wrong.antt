@@ -3,15 +3,15 @@ use Prim.Native.Nat.{ℕ}
 use mathlib.Core.Path.{_≡_, refl, ap}
 use mathlib.Core.List.{List, [], _∷_, _++_}
 use lib.ListN.{getD, replicate}
-use lib.Ieee.{toBits}
+use lib.Ieee.{binary64, ofBits, toBits}
 use borrow.Author.Tests.{eqb-false}
 use native.Mathlib.Omega.{arith}
 use Rattle.arithmetic.specs.Number.{one, largest}
 use Rattle.audio.specs.Bytes.{wordOf, bytesOf, cut}
 use Rattle.audio.specs.Planar.{frameAt, framesAt}
-use Rattle.audio.specs.Format.{sampleBytes, bytesFor, sizeOf, placesOf}
+use Rattle.audio.specs.Format.{sampleBytes, sampleOf, bytesFor, sizeOf, placesOf}
 use Rattle.audio.specs.Inner.{PlacesCarried, Placed, put}
-use Rattle.audio.specs.declared.format.Format.the-variants.{F64}
+use Rattle.audio.specs.declared.format.Format.the-variants.{F64, F32}
 
 -- ---- numbers in bytes
 -- the high byte first: 258, and 2 before 1
@@ -24,14 +24,20 @@ pub neighbours-left : put (7 ∷ 7 ∷ 7 ∷ []) 1 (5 ∷ []) ≡ 7 ∷ 5 ∷ 7 
 neighbours-left = refl
 
 -- ---- the length of a call's audio
--- a sample of 4 bytes
-pub eight-bytes : sampleBytes F64 ≡ 8
-eight-bytes = refl
+-- the other type's bytes: 4 and 8
+pub sample-sizes : (sampleBytes F64 ≡ 8) × (sampleBytes F32 ≡ 4)
+sample-sizes = (refl, refl)
 
--- nine bytes: the one past the last whole sample unjudged, a length of 1; a part of a sample rounded up, a length of 2
-pub nine-bytes : sizeOf F64 (replicate 9 0) ≡ largest
+-- nine bytes: the one past the last whole sample unjudged, a length of 1, of f32 2; a part of a sample rounded up, a length of 2, of f32 3
+pub nine-bytes : (sizeOf F64 (replicate 9 0) ≡ largest) × (sizeOf F32 (replicate 9 0) ≡ largest)
 unfolding sizeOf
-nine-bytes = refl
+nine-bytes = (refl, refl)
+
+-- ---- the value of a sample's bytes
+-- an f32's 32 bits taken for the upper half of an f64's: 1.0 would be 0.0078125; a subnormal f32 read as 0.0: 2^-149 is 36a0000000000000
+pub widened-exactly : (toBits binary64 (sampleOf F32 (0 ∷ 0 ∷ 0x80 ∷ 0x3f ∷ [])) ≡ 0x3ff0_0000_0000_0000) × (toBits binary64 (sampleOf F32 (1 ∷ 0 ∷ 0 ∷ 0 ∷ [])) ≡ 0x36a0_0000_0000_0000)
+unfolding sampleOf wordOf ofBits toBits
+widened-exactly = (refl, refl)
 
 -- ---- planar audio
 -- interleaved audio: of 2 channels of 4 frames, from frame 2 on, it would be 4 with 5, and 6 with 7

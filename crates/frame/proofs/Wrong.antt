@@ -4,17 +4,19 @@ use mathlib.Core.Path.{_≡_, refl}
 use mathlib.Core.Bool.{true}
 use mathlib.Core.List.{[], _∷_}
 use lib.ListN.{replicate}
-use lib.Ieee.{Float, add, sub, mul, div, lt, le, ne, eq, isNan, ofBits}
+use lib.Ieee.{Float, round, add, sub, mul, div, lt, le, ne, eq, isNan, ofBits}
 use Rattle.arithmetic.specs.Number
 use Rattle.arithmetic.specs.Number.{bits, one}
 use Rattle.arithmetic.specs.Sanitize.{flushDenormal}
+use Rattle.arithmetic.specs.Narrow.{narrowed}
+use Rattle.audio.specs.declared.format.Format.the-variants.{F32}
 use Rattle.detector.specs.Oversample.{peakAbsOf, detected, shifted, sumsOf, largestFrom, largestOf}
 use Rattle.keeper.specs.Keeper.{keepingAt, freshKeeper, steppedOf}
 use Rattle.envelope.specs.Row.{rowedAt, pushed}
 use Rattle.envelope.specs.Mean.{meanOf}
 use Rattle.envelope.specs.Follow.{followed}
 use Rattle.envelope.specs.Step.{Enveloped, enveloped, gainStepOf}
-use Rattle.frame.specs.Rules.{Rules}
+use Rattle.frame.specs.Rules.{Rules, leavesBy}
 use Rattle.frame.specs.Frame.{requiredGain, linkedFrom, delayedFrom, Moving, Framed, frameOf}
 use Rattle.frame.specs.Passes.{gainsOf}
 
@@ -35,6 +37,12 @@ two = bits 0x4000_0000_0000_0000
 pub silent-frame : (requiredGain one Number.zero ≡ one) × (requiredGain Number.zero Number.zero ≡ one)
 unfolding div lt isNan
 silent-frame = (refl, refl)
+
+-- ---- the output rule of f32
+-- small values flushed after the narrowing: the f64 before 1e-30, whose nearest f32 is above it, would leave. And no narrowing: 1 + 2^-30 would leave as it is.
+pub small-then-nearest : (leavesBy F32 (bits 0x39b4_484b_feeb_c29f) ≡ Number.zero) × (leavesBy F32 (bits 0x3ff0_0000_0040_0000) ≡ one)
+unfolding leavesBy narrowed round lt ofBits
+small-then-nearest = (refl, refl)
 
 -- ---- gain steps
 -- before any frame, one weight, a coefficient of 1
