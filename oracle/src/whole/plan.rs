@@ -171,8 +171,10 @@ impl Block {
     fn samples<T>(&self, of: impl Fn(Signal, f64, &mut Rng) -> T) -> Vec<T> {
         let mut samples = Vec::new();
         for (channel, &kind) in self.kinds.iter().enumerate() {
-            let mut rng = Rng::new(self.seed ^ (channel as u64) << 56);
-            let wide = signal(kind, lent(self.frames), &mut rng);
+            let seed = self.seed ^ (channel as u64) << 56;
+            let wide = signal(kind, lent(self.frames), &mut Rng::new(seed));
+            // Apart, so that the first frames stay when later ones are cut off.
+            let mut rng = Rng::new(!seed);
             samples.extend(wide.into_iter().map(|x| of(kind, x, &mut rng)));
         }
         samples
