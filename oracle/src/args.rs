@@ -2,6 +2,7 @@
 
 use std::path::PathBuf;
 
+use crate::audio::Types;
 use crate::whole::{Mode, Settings, DAMAGED};
 
 /// What `oracle` can do.
@@ -9,14 +10,15 @@ pub const USAGE: &str = "usage:
   oracle record [--out DIR]       write the recorded answers
   oracle compare [--layer NAME] [--seed N] [--count N]
                                   run the proved code beside the Rust
-  oracle whole [--rust] [--sessions N] [--seed N]
+  oracle whole [--rust] [--sample TYPE] [--sessions N] [--seed N]
                                   play sessions of the whole limiter: the Rust,
                                   the plain model, the proved code; with --rust
-                                  longer ones, which the model only judges
-  oracle damage [--calls N] [--seed N]
+                                  longer ones, which the model only judges.
+                                  TYPE: f64, f32, mixed (call by call) or any
+  oracle damage [--sample TYPE] [--calls N] [--seed N]
                                   the same, with states and stores changed
-  oracle model [--sessions N] [--seed N]
-  oracle model-damage [--calls N] [--seed N]
+  oracle model [--sample TYPE] [--sessions N] [--seed N]
+  oracle model-damage [--sample TYPE] [--calls N] [--seed N]
                                   both, the plain model beside the Rust alone
   oracle record-whole FILE        write recorded sessions of the whole limiter
   oracle taps                     print the detector's taps, one phase to a line
@@ -166,13 +168,13 @@ fn whole(rest: &[String]) -> Result<Settings, String> {
 }
 
 fn sessions(rest: &[String], mode: Mode) -> Result<Settings, String> {
-    let words = Words::read(rest, &["--sessions", "--seed"])?;
+    let words = Words::read(rest, &["--sample", "--sessions", "--seed"])?;
     let sessions = words.number("--sessions", 1_000)?;
     settings(&words, mode, sessions)
 }
 
 fn damaged_calls(rest: &[String]) -> Result<Settings, String> {
-    let words = Words::read(rest, &["--calls", "--seed"])?;
+    let words = Words::read(rest, &["--sample", "--calls", "--seed"])?;
     let calls: u64 = words.number("--calls", 100_000)?;
     settings(&words, Mode::Damage, calls.div_ceil(DAMAGED))
 }
@@ -181,9 +183,21 @@ fn settings(words: &Words, mode: Mode, sessions: u64) -> Result<Settings, String
     words.no_plain()?;
     Ok(Settings {
         mode,
+        types: types(words.option("--sample").unwrap_or("any"))?,
         sessions,
         seed: words.number("--seed", 1)?,
     })
+}
+
+/// Sample types by their name.
+fn types(name: &str) -> Result<Types, String> {
+    match name {
+        "f64" => Ok(Types::F64),
+        "f32" => Ok(Types::F32),
+        "mixed" => Ok(Types::Mixed),
+        "any" => Ok(Types::Any),
+        other => Err(format!("no sample type {other}")),
+    }
 }
 
 fn record(words: &Words) -> Result<Command, String> {
@@ -229,6 +243,7 @@ mod tests {
         assert_eq!(read("weights 72"), Ok(Command::Weights { look: 72 }));
         let settings = |mode, sessions, seed| Settings {
             mode,
+            types: Types::Any,
             sessions,
             seed,
         };
@@ -236,6 +251,11 @@ mod tests {
         assert_eq!(read("whole --sessions 9 --seed 3"), Ok(whole));
         let direct = Command::Whole(settings(Mode::Direct, 9, 1));
         assert_eq!(read("whole --rust --sessions 9"), Ok(direct));
+        let narrow = Command::Whole(Settings {
+            types: Types::F32,
+            ..settings(Mode::Direct, 9, 1)
+        });
+        assert_eq!(read("whole --rust --sample f32 --sessions 9"), Ok(narrow));
         let model = Command::Model(settings(Mode::Whole, 1_000, 1));
         assert_eq!(read("model"), Ok(model));
         let damage = Command::Model(settings(Mode::Damage, 1, 1));
@@ -272,6 +292,7 @@ mod tests {
             "whole --calls 3",
             "model --rust",
             "damage --sessions 3",
+            "damage --sample f16",
             "record --in x",
             "compare --seed",
             "compare --seed x",

@@ -3,8 +3,10 @@
 use std::f64::consts::LN_2;
 
 use crate::leaf::{Case, Op};
+use crate::nearest;
 use crate::numbers::{any, any_number, edge, log_uniform, near, not_finite, subnormal, uniform};
 use crate::rng::Rng;
+use crate::singles;
 
 /// Upper halves of |x| at which `exp` changes its way (document 01). The
 /// change lies at the start of the half itself or of the next one.
@@ -73,6 +75,8 @@ pub fn draw(op: Op, rng: &mut Rng) -> Case {
             Case::new(op, &[a, partner(a, rng)])
         }
         Op::Clamp => clamp_case(rng),
+        Op::Narrow => Case::new(op, &[nearest::narrowed(rng)]),
+        Op::Widen => Case::widen(singles::any(rng).to_bits()),
     }
 }
 

@@ -1,6 +1,7 @@
 //! The limiter's calls as they cross by the C functions: what a host lends, what
 //! it asks, and whether two sides left the same.
 
+use crate::audio::{Audio, Format};
 use crate::layout::state;
 use crate::model::setup::Setup;
 use crate::numbers::canonical;
@@ -8,9 +9,6 @@ use crate::numbers::canonical;
 /// The bytes of a state and the words of an answer.
 pub const STATE: usize = 8 * state::WORDS;
 pub const ANSWER: usize = 8;
-
-/// The bytes of a sample.
-pub const SAMPLE: usize = 8;
 
 /// The stores' names, in document 01's order; the second holds whole numbers.
 pub const STORES: [&str; 6] = ["delay", "marks", "minima", "weights", "row", "detector"];
@@ -31,7 +29,7 @@ pub struct Lent {
     pub stores: Stores,
 }
 
-/// A call with its arguments. Events are three words each; audio is bytes.
+/// A call with its arguments. Events are three words each.
 #[derive(Clone, Debug)]
 pub enum Call {
     Setup {
@@ -42,11 +40,11 @@ pub enum Call {
         position: u64,
         frames: u64,
         events: Vec<u64>,
-        audio: Vec<u8>,
+        audio: Audio,
     },
     Flush {
         frames: u64,
-        audio: Vec<u8>,
+        audio: Audio,
     },
     Set {
         id: u32,
@@ -86,19 +84,24 @@ pub type Side = fn(&mut Lent, &mut Call) -> u32;
 
 impl Call {
     /// The audio that the call is lent.
-    pub fn audio(&self) -> &[u8] {
-        match self {
-            Self::Process { audio, .. } | Self::Flush { audio, .. } => audio,
-            _ => &[],
-        }
-    }
-
-    /// The same, to change it.
-    pub fn audio_mut(&mut self) -> Option<&mut Vec<u8>> {
+    pub fn audio(&self) -> Option<&Audio> {
         match self {
             Self::Process { audio, .. } | Self::Flush { audio, .. } => Some(audio),
             _ => None,
         }
+    }
+
+    /// The same, to change it.
+    pub fn audio_mut(&mut self) -> Option<&mut Audio> {
+        match self {
+            Self::Process { audio, .. } | Self::Flush { audio, .. } => Some(audio),
+            _ => None,
+        }
+    }
+
+    /// The sample type of that audio.
+    pub fn format(&self) -> Option<Format> {
+        self.audio().map(|audio| audio.format)
     }
 
     /// Whether an answer's word is a float, so that any NaN is as good.
@@ -109,15 +112,6 @@ impl Call {
             _ => false,
         }
     }
-}
-
-/// Samples as their bytes.
-pub fn bytes(samples: &[f64]) -> Vec<u8> {
-    let mut bytes = Vec::with_capacity(SAMPLE * samples.len());
-    for sample in samples {
-        bytes.extend_from_slice(&sample.to_le_bytes());
-    }
-    bytes
 }
 
 /// Bytes as words, low byte first; a last one may be short of bytes.
@@ -131,11 +125,6 @@ pub fn floats(words: &[u64]) -> Vec<f64> {
     words.iter().map(|&word| f64::from_bits(word)).collect()
 }
 
-/// The sample in the first eight bytes.
-pub fn sample(bytes: &[u8]) -> f64 {
-    f64::from_le_bytes(*bytes.first_chunk().expect("eight bytes"))
-}
-
 /// Where two answers of one call differ.
 pub fn answers_differ(call: &Call, due: &[u64], seen: &[u64]) -> Option<String> {
     let differs = |at: &usize| !alike(due[*at], seen[*at], call.tells_float(*at));
@@ -147,13 +136,15 @@ pub fn answers_differ(call: &Call, due: &[u64], seen: &[u64]) -> Option<String> 
 }
 
 /// Where two sides' audio differs, in any bit.
-pub fn audio_differs(due: &[u8], seen: &[u8]) -> Option<String> {
+pub fn audio_differs(due: Option<&Audio>, seen: Option<&Audio>) -> Option<String> {
+    let (due, seen) = (due?, seen?);
     if due == seen {
         return None;
     }
-    let at = due.iter().zip(seen).position(|(d, s)| d != s)?;
-    let [due, seen] = [due, seen].map(|bytes| words(&bytes[at / 8 * 8..])[0]);
-    Some(told(&format!("audio, sample {}", at / 8), due, seen))
+    let mut pairs = due.bytes.iter().zip(&seen.bytes);
+    let at = pairs.position(|(d, s)| d != s)? / due.format.size();
+    let (due, seen) = (due.shown(at), seen.shown(at));
+    Some(format!("audio, sample {at}: due {due}, seen {seen}"))
 }
 
 /// Where states and stores differ; where the call finished, any NaN is as good

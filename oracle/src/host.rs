@@ -3,6 +3,7 @@
 use daggeryuzu::sys::{self, LentStores};
 use daggeryuzu::{LimiterSettings, ProcessSpec};
 
+use crate::audio::Format;
 use crate::calls::{Call, Lent, Stores};
 use crate::model::setup::Setup;
 
@@ -20,10 +21,20 @@ pub fn call(lent: &mut Lent, call: &mut Call) -> u32 {
             events,
             audio,
         } => {
-            let frames = *frames as usize;
-            sys::process(state, answer, *position, frames, events, audio, stores)
+            let process = match audio.format {
+                Format::F64 => sys::process,
+                Format::F32 => sys::process_float,
+            };
+            let (frames, audio) = (*frames as usize, &mut audio.bytes);
+            process(state, answer, *position, frames, events, audio, stores)
         }
-        Call::Flush { frames, audio } => sys::flush(state, answer, *frames as usize, audio, stores),
+        Call::Flush { frames, audio } => {
+            let flush = match audio.format {
+                Format::F64 => sys::flush,
+                Format::F32 => sys::flush_float,
+            };
+            flush(state, answer, *frames as usize, &mut audio.bytes, stores)
+        }
         Call::Set { id, bits } => sys::set_parameter(state, answer, *id, *bits),
         Call::Read { id } => sys::parameter(state, answer, *id),
         Call::Reset => sys::reset(state, answer, stores),

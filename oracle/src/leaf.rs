@@ -2,6 +2,8 @@
 
 use crate::dsp::{math, sanitize};
 use crate::numbers::canonical;
+use crate::sample::Sample;
+use crate::singles;
 
 /// The number by which document 01 refuses an argument of `exp`.
 pub const REFUSED: u64 = 26;
@@ -19,9 +21,13 @@ pub enum Op {
     Copysign = 8,
     Round = 9,
     Ceil = 10,
+    /// The nearest f32, as its 32 bits.
+    Narrow = 11,
+    /// The value of 32 bits.
+    Widen = 12,
 }
 
-/// All leaf functions but `exp`, which has a layer of its own.
+/// All leaf functions but `exp` and those of f32, which have layers of their own.
 pub const LEAVES: [Op; 9] = [
     Op::FiniteOrZero,
     Op::FlushDenormal,
@@ -87,16 +93,28 @@ impl Case {
         Self { op, words }
     }
 
+    /// The case that widens 32 bits.
+    pub fn widen(bits: u32) -> Self {
+        Self {
+            op: Op::Widen,
+            words: [u64::from(bits), 0, 0],
+        }
+    }
+
     /// The three arguments as floats.
     pub fn args(&self) -> [f64; 3] {
         self.words.map(f64::from_bits)
     }
 
     /// Whether the Rust takes this call at all: `clamp` panics unless its
-    /// limits are numbers in order.
+    /// limits are numbers in order, and an f32 has 32 bits.
     pub fn allowed(&self) -> bool {
         let [_, low, high] = self.args();
-        self.op != Op::Clamp || low <= high
+        match self.op {
+            Op::Clamp => low <= high,
+            Op::Widen => self.words[0] <= u64::from(u32::MAX),
+            _ => true,
+        }
     }
 
     /// The running Rust's answer. Outside document 01's domain of `exp` the
@@ -115,6 +133,8 @@ impl Case {
             Op::Copysign => Answer::float(a.copysign(b)),
             Op::Round => Answer::count(a.round() as u64),
             Op::Ceil => Answer::count(a.ceil() as u64),
+            Op::Narrow => Answer::count(u64::from(singles::canonical(f32::from_f64(a)))),
+            Op::Widen => Answer::float(f32::from_bits(self.words[0] as u32).to_f64()),
         }
     }
 

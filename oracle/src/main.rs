@@ -7,6 +7,7 @@
 
 mod args;
 mod arguments;
+mod audio;
 mod bank;
 mod calls;
 #[cfg(feature = "probe")]
@@ -18,6 +19,7 @@ mod host;
 mod layout;
 mod leaf;
 mod model;
+mod nearest;
 mod numbers;
 mod params;
 #[cfg(feature = "probe")]
@@ -30,6 +32,7 @@ mod setups;
 mod show;
 mod shrink;
 mod signals;
+mod singles;
 #[cfg(any(test, feature = "probe"))]
 mod tables;
 #[cfg(feature = "probe")]

@@ -8,6 +8,7 @@ use crate::arguments::{draw, exp_argument, EXP_HALVES, EXP_KINDS};
 use crate::bank::{self, Answer, Call};
 use crate::dsp::oversample::PolyphaseUpsampler;
 use crate::leaf::{Case, Op, LEAVES};
+use crate::nearest::{hard, OVERFLOW};
 use crate::numbers::{edge, edges, near, stepped};
 use crate::params;
 use crate::rng::Rng;
@@ -18,6 +19,9 @@ const SEED: u64 = 1;
 
 /// Cases of each leaf function but `exp`.
 const EACH: usize = 150;
+
+/// One in so many of the places that are hard to round to f32.
+const HARD: usize = 29;
 
 /// The word at which a sequence starts, from a detector as setup leaves it. It
 /// is a NaN that no sequence has, so it can be told from a sample.
@@ -31,11 +35,7 @@ const CALLS: usize = 40;
 pub fn record(folder: &Path) -> Result<String, String> {
     fs::create_dir_all(folder).map_err(|e| format!("{}: {e}", folder.display()))?;
     let mut text = String::new();
-    for (name, words) in [
-        ("leaves", leaves()),
-        ("peaks", peaks()),
-        ("bank", bank()),
-    ] {
+    for (name, words) in [("leaves", leaves()), ("peaks", peaks()), ("bank", bank())] {
         let bytes: Vec<u8> = words.iter().flat_map(|w| w.to_le_bytes()).collect();
         let path = folder.join(name);
         fs::write(&path, &bytes).map_err(|e| format!("{}: {e}", path.display()))?;
@@ -51,6 +51,8 @@ fn leaves() -> Vec<u64> {
     for op in LEAVES {
         cases.extend(leaf_cases(op, &mut rng));
     }
+    cases.extend(narrow_cases(&mut rng));
+    cases.extend((0..EACH).map(|_| draw(Op::Widen, &mut rng)));
     let words = |case: Case| {
         let ([a, b, c], answer) = (case.words, case.rust());
         [case.op as u64, a, b, c, answer.status, answer.word]
@@ -103,6 +105,17 @@ fn leaf_cases(op: Op, rng: &mut Rng) -> Vec<Case> {
             cases.push(case);
         }
     }
+    cases
+}
+
+/// Roundings to f32: a share of the hard places, the ends, and random ones.
+fn narrow_cases(rng: &mut Rng) -> Vec<Case> {
+    let smallest = f64::from(f32::MIN_POSITIVE).to_bits();
+    let ends = [OVERFLOW, smallest].into_iter().map(f64::from_bits);
+    let ends = ends.flat_map(|x| [-1, 0, 1].map(|ulps| stepped(x, ulps)));
+    let places = hard().step_by(HARD).chain(ends).chain(edges());
+    let mut cases: Vec<Case> = places.map(|x| Case::new(Op::Narrow, &[x])).collect();
+    cases.extend((0..EACH).map(|_| draw(Op::Narrow, rng)));
     cases
 }
 
@@ -184,6 +197,20 @@ mod tests {
             .map(|r| r[5] >> 52)
             .collect();
         assert!((14..=1023).all(|e| exponents.contains(&e)));
+    }
+
+    /// Those of f32, from the middle between 0 and the smallest to the infinities.
+    #[test]
+    fn every_exponent_is_among_the_roundings() {
+        let words = leaves();
+        let of = |op: Op| words.chunks(6).filter(move |r| r[0] == op as u64);
+        let exponents: std::collections::BTreeSet<u64> =
+            of(Op::Narrow).map(|r| r[1] >> 52 & 0x7ff).collect();
+        assert!((1023 - 150..=1023 + 128).all(|e| exponents.contains(&e)));
+        let fields: std::collections::BTreeSet<u64> =
+            of(Op::Narrow).map(|r| r[5] >> 23 & 0xff).collect();
+        assert_eq!(fields.len(), 256);
+        assert!(of(Op::Widen).count() >= EACH);
     }
 
     #[test]

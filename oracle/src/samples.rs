@@ -1,8 +1,11 @@
 //! The samples of recorded sessions, which whoever replays them draws too, and
 //! the digest of their outputs.
 
+use crate::audio::{Audio, Format};
+
 /// The samples that a session renders, drawn by xorshift.
 pub struct Source {
+    pub format: Format,
     pub state: u64,
     pub kind: u64,
 }
@@ -15,13 +18,20 @@ impl Source {
         self.state
     }
 
-    /// The samples of the next frames, channel after channel.
-    pub fn planes(&mut self, channels: usize, frames: usize) -> Vec<Vec<f64>> {
-        let mut plane = || {
-            let words = (0..frames).map(|_| f64::from_bits(shape(self.kind, self.next())));
-            words.collect()
-        };
-        (0..channels).map(|_| plane()).collect()
+    /// The next samples, as the bytes of planar audio.
+    pub fn audio(&mut self, samples: usize) -> Audio {
+        let mut bytes = Vec::with_capacity(8 * samples);
+        for _ in 0..samples {
+            let word = shape(self.kind, self.next());
+            match self.format {
+                Format::F64 => bytes.extend(word.to_le_bytes()),
+                Format::F32 => bytes.extend(single(self.kind, word).to_le_bytes()),
+            }
+        }
+        Audio {
+            format: self.format,
+            bytes,
+        }
     }
 }
 
@@ -41,11 +51,22 @@ fn shape(kind: u64, word: u64) -> u64 {
     }
 }
 
-/// FNV-1a over the first `frames` of each channel, a whole sample at a step.
-pub fn digest(planes: &[Vec<f64>], frames: usize) -> u64 {
-    let samples = planes.iter().flat_map(|plane| &plane[..frames]);
-    samples.fold(0xcbf2_9ce4_8422_2325, |d: u64, x| {
-        (d ^ x.to_bits()).wrapping_mul(0x0000_0100_0000_01b3)
+/// The same at 32 bits: the sign, the low seven digits of the exponent and the
+/// first 23 of the fraction, which is the same number for exponents from 896 to
+/// 1023 and as small a one for 0 and 1; where any pattern may stand, the low half.
+fn single(kind: u64, bits: u64) -> u32 {
+    match kind {
+        0 | 4 => bits as u32,
+        _ => (bits >> 32) as u32 & 0x8000_0000 | (bits >> 29) as u32 & 0x3fff_ffff,
+    }
+}
+
+/// FNV-1a over the first `frames` of each channel of `width` frames, a whole
+/// sample at a step.
+pub fn digest(audio: &Audio, width: usize, frames: usize) -> u64 {
+    let places = (0..audio.len()).filter(|at| at % width < frames);
+    places.fold(0xcbf2_9ce4_8422_2325, |d: u64, at| {
+        (d ^ audio.bits(at)).wrapping_mul(0x0000_0100_0000_01b3)
     })
 }
 
@@ -53,11 +74,19 @@ pub fn digest(planes: &[Vec<f64>], frames: usize) -> u64 {
 mod tests {
     use super::*;
 
+    fn source(kind: u64, state: u64, format: Format) -> Source {
+        Source {
+            format,
+            state,
+            kind,
+        }
+    }
+
     #[test]
     fn samples_are_those_of_the_format() {
-        let mut source = Source { state: 1, kind: 0 };
-        assert_eq!(source.next(), 0x4082_2041);
-        assert_eq!(source.next(), 0x1000_4106_0c01_1441);
+        let mut drawn = source(0, 1, Format::F64);
+        assert_eq!(drawn.next(), 0x4082_2041);
+        assert_eq!(drawn.next(), 0x1000_4106_0c01_1441);
         let word = 0xc0a5_0000_0000_0007;
         let shapes = [0, 1, 2, 3, 4, 5].map(|kind| shape(kind, word));
         let expected = [
@@ -73,22 +102,36 @@ mod tests {
         assert_eq!(shape(5, u64::MAX), 0x801f_ffff_ffff_ffff);
     }
 
+    /// Loud samples are the same numbers but for the digits that are cut off.
     #[test]
-    fn planes_go_on_from_channel_to_channel() {
-        let planes = Source { state: 9, kind: 3 }.planes(3, 4);
-        let line = Source { state: 9, kind: 3 }.planes(1, 12);
-        assert_eq!(planes.concat(), line[0]);
+    fn single_samples_are_those_of_the_format() {
+        for word in [0xc0a5_0000_0000_0007, u64::MAX, 0x1234_5678_9abc_def0] {
+            for kind in [1, 2, 3] {
+                let bits = shape(kind, word);
+                let cut = f64::from_bits(bits & !0x1fff_ffff);
+                assert_eq!(f64::from(f32::from_bits(single(kind, bits))), cut);
+            }
+            let tiny = f32::from_bits(single(5, shape(5, word)));
+            assert!(tiny.abs() < 2.0 * f32::MIN_POSITIVE && tiny != 0.0);
+            assert_eq!(single(0, shape(0, word)), word as u32);
+        }
+        let drawn = source(0, 1, Format::F32).audio(2);
+        assert_eq!([drawn.bits(0), drawn.bits(1)], [0x4082_2041, 0x0c01_1441]);
     }
 
     /// The published hashes of no byte, a zero byte and the letter a.
     #[test]
     fn digests_are_the_published_ones() {
         let letter = f64::from_bits(u64::from(b'a'));
-        assert_eq!(digest(&[vec![]], 0), 0xcbf2_9ce4_8422_2325);
-        assert_eq!(digest(&[vec![0.0, 1.0]], 1), 0xaf63_bd4c_8601_b7df);
-        assert_eq!(digest(&[vec![letter]], 1), 0xaf63_dc4c_8601_ec8c);
-        let channels = [vec![0.5, 0.25], vec![1.0, 2.0]];
-        assert_eq!(digest(&channels, 2), digest(&[channels.concat()], 4));
-        assert_eq!(digest(&channels, 1), digest(&[vec![0.5, 1.0]], 2));
+        let of = |samples: &[f64], width, frames| digest(&Audio::of(samples), width, frames);
+        assert_eq!(of(&[], 0, 0), 0xcbf2_9ce4_8422_2325);
+        assert_eq!(of(&[0.0, 1.0], 2, 1), 0xaf63_bd4c_8601_b7df);
+        assert_eq!(of(&[letter], 1, 1), 0xaf63_dc4c_8601_ec8c);
+        let channels = [0.5, 0.25, 1.0, 2.0];
+        assert_eq!(of(&channels, 2, 2), of(&channels, 4, 4));
+        assert_eq!(of(&channels, 2, 1), of(&[0.5, 1.0], 2, 2));
+        let narrow = Audio::of(&[0.0f32, f32::from_bits(u32::from(b'a'))]);
+        assert_eq!(digest(&narrow, 2, 1), of(&[0.0], 1, 1));
+        assert_eq!(digest(&narrow, 2, 2), of(&[0.0, letter], 2, 2));
     }
 }

@@ -5,6 +5,7 @@ use std::f64::consts::TAU;
 use crate::dsp::math;
 use crate::numbers::{any, huge, log_uniform, not_finite, subnormal, uniform};
 use crate::rng::Rng;
+use crate::singles;
 
 /// What a sequence of samples is like.
 #[derive(Clone, Copy, Debug, PartialEq, Eq)]
@@ -61,6 +62,28 @@ pub fn signal(kind: Signal, length: usize, rng: &mut Rng) -> Vec<f64> {
             Signal::Anything => any(rng),
         })
         .collect()
+}
+
+/// A sample of a kind at 32 bits, times a level: `x`, but that kinds at the ends
+/// of the format are at those of this one.
+pub fn narrowed(kind: Signal, x: f64, level: f64, rng: &mut Rng) -> f32 {
+    match kind {
+        Signal::Subnormal => singles::faint(rng),
+        Signal::Huge => singles::huge(rng).copysign(x as f32),
+        Signal::Overflow if x.abs() == f64::MAX => f32::MAX.copysign(x as f32),
+        Signal::Damaged if !x.is_finite() => singles::not_finite(rng),
+        Signal::Levels => singles::log_uniform(rng),
+        Signal::Anything => singles::any(rng),
+        _ => (x * level) as f32,
+    }
+}
+
+/// `x`, moved to the middle of two f32, where it has all the digits of one, or to
+/// a neighbour of that.
+pub fn tied(x: f64, rng: &mut Rng) -> f64 {
+    let middle = 1 << 28;
+    let low = middle - 1 + rng.below(3);
+    f64::from_bits(x.to_bits() & !(2 * middle - 1) | low)
 }
 
 /// `x`, negated at every odd `turn`.

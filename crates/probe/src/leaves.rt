@@ -1,8 +1,10 @@
 // The leaves of `arithmetic`.
 ghost use mathlib.Core.Path.{_≡_};
+ghost use lib.Ieee.{binary32, toBits};
 ghost use Rattle.arithmetic.specs.Number.{absOf, minOf, maxOf, clampOf, copysignOf, roundedOf, ceilOf};
 ghost use Rattle.arithmetic.specs.Sanitize.{finiteOrZero, flushDenormal};
 ghost use Rattle.arithmetic.specs.Exp.{expReply};
+ghost use Rattle.arithmetic.specs.Narrow.{widened, narrowed};
 ghost use Rattle.probe.specs.Out.{valueOr};
 use arithmetic::math::ExpAnswer;
 
@@ -81,4 +83,20 @@ pub extern "C" fn probe_ceil(x: f64) -> u64
     ensures { λ r. ⌜ r ≡ ceilOf x ⌝ }
 {
     arithmetic::number::ceil(x)
+}
+
+// The value of 32 bits.
+#[no_mangle]
+pub extern "C" fn probe_widen(n: u32) -> f64
+    ensures { λ r. ⌜ r ≡ widened n ⌝ }
+{
+    arithmetic::narrow::widen(n)
+}
+
+// The 32 bits of the nearest f32.
+#[no_mangle]
+pub extern "C" fn probe_narrow(x: f64) -> u32
+    ensures { λ r. ⌜ r ≡ toBits binary32 (narrowed x) ⌝ }
+{
+    arithmetic::narrow::to_bits32(arithmetic::narrow::narrow(x))
 }

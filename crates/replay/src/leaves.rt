@@ -1,6 +1,7 @@
 // The file `leaves`: records of six words, op, a, b, c, status and answer. An f64 is its bits, and
 // every NaN answer is the canonical one.
 use arithmetic::math::ExpAnswer;
+use arithmetic::narrow::to_bits32;
 use arithmetic::pattern::from_bits;
 use arithmetic::pattern::to_bits;
 use records::tally::Step;
@@ -39,8 +40,26 @@ fn exp(x: f64) -> Answered {
     }
 }
 
+fn count(word: u64) -> Answered {
+    Answered { status: 0, word }
+}
+
+// The 32 bits of the nearest f32.
+fn narrow(x: f64) -> Answered {
+    count(to_bits32(arithmetic::narrow::narrow(x)) as u64)
+}
+
+// The value of the low 32 bits.
+fn widen(n: u64) -> Answered {
+    value(arithmetic::narrow::widen((n % 4294967296) as u32))
+}
+
 // The ops by their numbers in the file; another number is answered as no record is.
-fn answer(op: u64, a: f64, b: f64, c: f64) -> Answered {
+fn answer(leaf: Leaf) -> Answered {
+    let a = from_bits(leaf.a);
+    let b = from_bits(leaf.b);
+    let c = from_bits(leaf.c);
+    let op = leaf.op;
     match op {
         1 => value(arithmetic::sanitize::finite_or_zero(a)),
         2 => value(arithmetic::sanitize::flush_denormal(a)),
@@ -50,25 +69,16 @@ fn answer(op: u64, a: f64, b: f64, c: f64) -> Answered {
         6 => value(arithmetic::number::max(a, b)),
         7 => value(arithmetic::number::clamp(a, b, c)),
         8 => value(arithmetic::number::copysign(a, b)),
-        9 => Answered {
-            status: 0,
-            word: arithmetic::number::round(a),
-        },
-        10 => Answered {
-            status: 0,
-            word: arithmetic::number::ceil(a),
-        },
+        9 => count(arithmetic::number::round(a)),
+        10 => count(arithmetic::number::ceil(a)),
+        11 => narrow(a),
+        12 => widen(leaf.a),
         _ => Answered { status: 1, word: 0 },
     }
 }
 
 fn same(leaf: Leaf) -> bool {
-    let got = answer(
-        leaf.op,
-        from_bits(leaf.a),
-        from_bits(leaf.b),
-        from_bits(leaf.c),
-    );
+    let got = answer(leaf);
     got.status == leaf.status && got.word == leaf.answer
 }
 

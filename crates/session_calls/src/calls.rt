@@ -21,7 +21,8 @@ pub struct Played {
     pub same: bool,
 }
 
-// Room for a call's audio. Eight bytes of 64 are a number over 32, which no output is, so a place that is left out is told.
+// Room for a call's audio. Eight bytes of 64 are a number over 32, and four of them one over 3, which no output is, so a place
+// that is left out is told.
 fn audio_room() -> [u8; 32768]
     ensures { λ r. ⌜ length r ≡ 32768 ⌝ }
 {
@@ -59,6 +60,17 @@ fn events(fd: i32, told: usize) -> [u64; 192]
     events
 }
 
+// The bytes of so many samples.
+fn bytes_of(format: Format, samples: usize) -> usize
+    requires { ⌜ samples ≤ 4096 ⌝ }
+    ensures { λ r. ⌜ r ≤ 32768 ⌝ }
+{
+    match format {
+        Format::F64 => 8 * samples,
+        Format::F32 => 4 * samples,
+    }
+}
+
 // A block of so many frames, on bytes that it fills.
 fn process(
     fd: i32,
@@ -76,9 +88,10 @@ fn process(
     row: &mut [f64],
     detector: &mut [f64],
 ) -> Played {
-    let x = samples::fill(audio, before, h.kind);
+    let format = h.format;
+    let x = samples::fill(audio, format, before, h.kind);
     let done = p.process(
-        Format::F64,
+        format,
         position,
         frames,
         events,
@@ -91,7 +104,7 @@ fn process(
         detector,
     );
     let answer = done.answer;
-    let digest = samples::digest(audio, frames, frames);
+    let digest = samples::digest(audio, format, frames, frames);
     let same = answer.is_finished() & (digest == next(fd).word);
     let processor = done.processor;
     Played { processor, x, same }
@@ -113,7 +126,8 @@ pub fn block(
     let frames = next(fd).word as usize;
     let told = 3 * count(fd, 64) as usize;
     let events = events(fd, told);
-    let bytes = 8 * places(h.spec.channels, frames, 512);
+    let format = h.format;
+    let bytes = bytes_of(format, places(h.spec.channels, frames, 512));
     let mut audio = audio_room();
     process(
         fd,
@@ -136,6 +150,7 @@ pub fn block(
 // A drain of so many frames into these bytes.
 fn flush(
     fd: i32,
+    format: Format,
     p: KernelProcessor,
     x: u64,
     frames: usize,
@@ -148,7 +163,7 @@ fn flush(
     detector: &mut [f64],
 ) -> Played {
     let done = p.flush(
-        Format::F64,
+        format,
         frames,
         audio,
         delay,
@@ -160,7 +175,7 @@ fn flush(
     );
     let answer = done.answer;
     let told = answers::drained(answer);
-    let digest = samples::digest(audio, frames, told.written);
+    let digest = samples::digest(audio, format, frames, told.written);
     let same = answers::drained_same(fd, told, digest);
     let processor = done.processor;
     Played { processor, x, same }
@@ -179,10 +194,12 @@ pub fn drain(
     detector: &mut [f64],
 ) -> Played {
     let frames = next(fd).word as usize;
-    let bytes = 8 * places(h.spec.channels, frames, 512);
+    let format = h.format;
+    let bytes = bytes_of(format, places(h.spec.channels, frames, 512));
     let mut audio = audio_room();
     flush(
         fd,
+        format,
         p,
         x,
         frames,

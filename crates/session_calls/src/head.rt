@@ -1,12 +1,14 @@
 // The head of a recorded session: what the limiter was set up with.
 ghost use Prim.Native.Nat.{_≤_, _*_};
 use arithmetic::pattern::from_bits;
+use audio::format::Format;
 use records::words::next;
 use settings::LimiterSettings;
 use settings::ProcessSpec;
 use settings::memory::Cap;
 
 pub struct Head {
+    pub format: Format,
     pub settings: LimiterSettings,
     pub spec: ProcessSpec,
     pub look: usize,
@@ -53,7 +55,12 @@ fn settings(fd: i32) -> LimiterSettings {
     }
 }
 
-pub fn read(fd: i32) -> Head
+// The sample type that a session's first word tells.
+fn format(first: u64) -> Format {
+    if first == 9 { Format::F32 } else { Format::F64 }
+}
+
+pub fn read(fd: i32, first: u64) -> Head
     ensures { λ r. ⌜ (r .look ≤ 4096) × (r .rows ≤ 4096) ⌝ }
 {
     let rate = count(fd, 192000) as u32;
@@ -71,6 +78,7 @@ pub fn read(fd: i32) -> Head
         cap: Cap::Unlimited,
     };
     Head {
+        format: format(first),
         settings: s,
         spec,
         look,

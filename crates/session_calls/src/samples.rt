@@ -1,4 +1,7 @@
 // The samples of a recorded session, which both sides make from a seed, and the digest of a call's outputs.
+use audio::format::Format;
+use audio::words::half;
+use audio::words::put_half;
 use audio::words::put_word;
 use audio::words::word;
 
@@ -35,13 +38,62 @@ fn shaped(kind: u64, r: u64) -> u64 {
     r & 0x801f_ffff_ffff_ffff
 }
 
+// The same at 32 bits: the sign, the low seven digits of the exponent and the first 23 of the fraction;
+// where any pattern may stand, the low half.
+fn single(kind: u64, bits: u64) -> u32 {
+    let cut = ((bits >> 32) & 0x8000_0000) | ((bits >> 29) & 0x3fff_ffff);
+    let any = (kind == 0) | (kind == 4);
+    let chosen = if any { bits } else { cut };
+    (chosen % 4294967296) as u32
+}
+
+// How many samples bytes are.
+fn samples(bytes: &[u8], format: Format) -> usize {
+    match format {
+        Format::F64 => bytes.len() / 8,
+        Format::F32 => bytes.len() / 4,
+    }
+}
+
+// The bits of a sample into its place, if there is one.
+fn put(bytes: &mut [u8], format: Format, i: usize, kind: u64, bits: u64) {
+    let n = bytes.len();
+    match format {
+        Format::F64 => {
+            if i < n / 8 {
+                put_word(bytes, 8 * i, bits);
+            }
+        }
+        Format::F32 => {
+            if i < n / 4 {
+                put_half(bytes, 4 * i, single(kind, bits));
+            }
+        }
+    }
+}
+
+// The bits of the sample at a place, if there is one.
+fn at(bytes: &[u8], format: Format, i: usize) -> u64 {
+    let n = bytes.len();
+    match format {
+        Format::F64 => { if i < n / 8 { word(bytes, 8 * i) } else { 0 } }
+        Format::F32 => {
+            if i < n / 4 {
+                half(bytes, 4 * i) as u64
+            } else {
+                0
+            }
+        }
+    }
+}
+
 // The samples of a block, channel after channel, as bytes; the state afterwards.
-pub fn fill(bytes: &mut [u8], x: u64, kind: u64) -> u64 {
-    let n = bytes.len() / 8;
+pub fn fill(bytes: &mut [u8], format: Format, x: u64, kind: u64) -> u64 {
+    let n = samples(bytes, format);
     let mut state = x;
     for i in 0..n {
         state = drawn(state);
-        put_word(bytes, 8 * i, shaped(kind, state));
+        put(bytes, format, i, kind, shaped(kind, state));
     }
     state
 }
@@ -65,11 +117,11 @@ fn added(d: u64, bits: u64, i: usize, width: usize, n: usize) -> u64 {
 }
 
 // The digest of the first n frames of planar audio, in bytes, that has `width` frames a channel.
-pub fn digest(bytes: &[u8], width: usize, n: usize) -> u64 {
-    let size = bytes.len() / 8;
+pub fn digest(bytes: &[u8], format: Format, width: usize, n: usize) -> u64 {
+    let size = samples(bytes, format);
     let mut d: u64 = 0xcbf2_9ce4_8422_2325;
     for i in 0..size {
-        d = added(d, word(bytes, 8 * i), i, width, n);
+        d = added(d, at(bytes, format, i), i, width, n);
     }
     d
 }

@@ -43,8 +43,8 @@ fn weights(fd: i32, rows: usize) -> [f64; 4097]
 }
 
 // A session whose first word was read, on stores of its lengths.
-fn replayed(fd: i32, before: Tally) -> Tally {
-    let h = head::read(fd);
+fn replayed(fd: i32, first: u64, before: Tally) -> Tally {
+    let h = head::read(fd, first);
     let rows = h.rows;
     let entries = h.look + 1;
     let lines = head::places(h.spec.channels, h.look, 4096);
@@ -79,7 +79,7 @@ fn each(fd: i32) -> Replayed {
                 rest: first.rest,
             };
         }
-        tally = replayed(fd, tally);
+        tally = replayed(fd, first.word, tally);
     }
     Replayed { tally, rest: 0 }
 }

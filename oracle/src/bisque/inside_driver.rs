@@ -1,6 +1,8 @@
 //! A child of the Rust's own module `driver`: it reads and sets what a smoother
 //! holds, and reaches the parts of a processor.
 
+use std::marker::PhantomData;
+
 use super::{KernelProcessor, SmootherBank};
 use crate::bank::Slot;
 use crate::sample::Sample;
@@ -23,6 +25,19 @@ pub(crate) fn bank<K, T: Sample>(processor: &KernelProcessor<K, T>) -> &Smoother
 /// The same, to forge it.
 pub(crate) fn bank_mut<K, T: Sample>(processor: &mut KernelProcessor<K, T>) -> &mut SmootherBank {
     &mut processor.bank
+}
+
+/// All that a processor holds, in one of another sample type: none of it knows
+/// the type.
+pub(crate) fn retyped<K, T: Sample, U: Sample>(
+    processor: KernelProcessor<K, T>,
+) -> KernelProcessor<K, U> {
+    KernelProcessor {
+        kernel: processor.kernel,
+        bank: processor.bank,
+        prepared: processor.prepared,
+        _sample: PhantomData,
+    }
 }
 
 /// The largest block that a processor was prepared for.

@@ -67,7 +67,7 @@ fn same(case: &Case, one: Answer, other: Answer) -> bool {
 }
 
 /// Compare one case and count it.
-fn check(case: &Case, compared: &mut u64) -> Result<(), Difference> {
+pub fn check(case: &Case, compared: &mut u64) -> Result<(), Difference> {
     *compared += 1;
     if agree(case) {
         return Ok(());
@@ -82,8 +82,9 @@ fn check(case: &Case, compared: &mut u64) -> Result<(), Difference> {
 fn report(case: &Case) -> String {
     let op = case.op;
     let rebuilt = |words: &[u64]| {
-        let args: Vec<f64> = words.iter().map(|&w| f64::from_bits(w)).collect();
-        Case::new(op, &args)
+        let mut case = Case { op, words: [0; 3] };
+        case.words[..words.len()].copy_from_slice(words);
+        case
     };
     let found = case.words[..op.arity()].to_vec();
     let small = shrink::words(found, &|words| !agree(&rebuilt(words)));
@@ -96,7 +97,11 @@ fn report(case: &Case) -> String {
 
 /// A case with both answers, one line each.
 fn described(case: &Case) -> String {
-    let args = case.words[..case.op.arity()].iter().map(|&w| shown(w));
+    let argument = |&w: &u64| match case.op {
+        Op::Widen => format!("{w:08x}"),
+        _ => shown(w),
+    };
+    let args = case.words[..case.op.arity()].iter().map(argument);
     format!(
         "  {:?}({})\n    rust:  {}\n    probe: {}\n",
         case.op,
@@ -113,6 +118,7 @@ fn answered(op: Op, answer: Answer) -> String {
         _ if status != 0 && word != 0 => format!("refused {status}, but wrote an answer"),
         _ if status != 0 => format!("refused {status}"),
         Op::Round | Op::Ceil => format!("{word:016x} ({word})"),
+        Op::Narrow => format!("{word:08x} ({:?})", f32::from_bits(word as u32)),
         _ => shown(word),
     }
 }

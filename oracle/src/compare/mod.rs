@@ -3,6 +3,7 @@
 mod bank;
 mod floors;
 mod leaves;
+mod narrow;
 mod peak;
 mod runs;
 mod setup;
@@ -26,9 +27,11 @@ pub struct Difference {
 type Layer = fn(&Settings) -> Result<u64, Difference>;
 
 /// Every layer, leaves first.
-const LAYERS: [(&str, Layer); 8] = [
+const LAYERS: [(&str, Layer); 10] = [
     ("exp", leaves::exp),
     ("leaves", leaves::others),
+    ("narrow", narrow::narrow),
+    ("widen", narrow::widen),
     ("peak_abs", peak::run),
     ("peaks_abs", runs::run),
     ("weights", weights::run),

@@ -5,7 +5,8 @@ use super::frames::Machine;
 use super::judge::{self, Told};
 use super::setup::{look, Setup};
 use super::state::State;
-use crate::calls::{sample, Call, Lent, ROW, SAMPLE, STATE};
+use crate::audio::Audio;
+use crate::calls::{Call, Lent, ROW, STATE};
 
 pub use super::judge::{needed, BANK_BYTES};
 
@@ -122,7 +123,7 @@ fn process(
     position: u64,
     frames: u64,
     events: &[u64],
-    audio: &mut [u8],
+    audio: &mut Audio,
 ) -> Told {
     let mut machine = Machine::new(state, &lent.stores);
     let mut waiting: Vec<&[u64]> = events.chunks_exact(3).rev().collect();
@@ -134,7 +135,7 @@ fn process(
         }
         let target = machine.state.target;
         let places = places(state.setup.channels, frames, i);
-        let samples: Vec<f64> = places.iter().map(|&at| sample(&audio[at..])).collect();
+        let samples: Vec<f64> = places.iter().map(|&at| audio.sample(at)).collect();
         put(audio, &places, &machine.frame(&samples, target));
     }
     latch(&mut machine.state, &mut waiting, u64::MAX);
@@ -165,21 +166,21 @@ fn latch(state: &mut State, waiting: &mut Vec<&[u64]>, upto: u64) {
     }
 }
 
-/// Where each channel's sample of a frame begins.
+/// The place of each channel's sample of a frame.
 fn places(channels: usize, frames: u64, frame: u64) -> Vec<usize> {
-    let place = |channel: usize| SAMPLE * (channel * frames as usize + frame as usize);
+    let place = |channel: usize| channel * frames as usize + frame as usize;
     (0..channels).map(place).collect()
 }
 
 /// Outputs into their places.
-fn put(audio: &mut [u8], places: &[usize], outputs: &[f64]) {
-    for (&at, output) in places.iter().zip(outputs) {
-        audio[at..at + SAMPLE].copy_from_slice(&output.to_le_bytes());
+fn put(audio: &mut Audio, places: &[usize], outputs: &[f64]) {
+    for (&at, &output) in places.iter().zip(outputs) {
+        audio.put(at, output);
     }
 }
 
 /// A drain: silence at the kept target.
-fn flush(state: &State, lent: &mut Lent, frames: u64, audio: &mut [u8]) -> Told {
+fn flush(state: &State, lent: &mut Lent, frames: u64, audio: &mut Audio) -> Told {
     let mut machine = Machine::new(state, &lent.stores);
     let written = frames.min(state.look - state.drained);
     let silence = vec![0.0; state.setup.channels];
@@ -234,7 +235,8 @@ fn gain_step(state: &State, lent: &mut Lent, gain: f64) -> Told {
 #[cfg(test)]
 mod tests {
     use super::*;
-    use crate::calls::{bytes, ANSWER};
+    use crate::audio::{Crossing as _, Format};
+    use crate::calls::ANSWER;
     use crate::layout::{smoother, state as at};
     use crate::whole::Rust;
 
@@ -250,7 +252,9 @@ mod tests {
     };
 
     fn fresh() -> Lent {
-        Rust::new(&STEREO, None).expect("good settings").lent()
+        Rust::new(&STEREO, None, Format::F64)
+            .expect("good settings")
+            .lent()
     }
 
     fn told(lent: &mut Lent, mut asked: Call) -> (u32, Vec<u64>) {
@@ -263,13 +267,13 @@ mod tests {
             position,
             frames,
             events: events.to_vec(),
-            audio: bytes(&vec![0.5; 2 * frames as usize]),
+            audio: Audio::of(&vec![0.5; 2 * frames as usize]),
         }
     }
 
     /// A word of the threshold's smoother.
     fn of_threshold(lent: &Lent, at: usize) -> u64 {
-        sample(&lent.state[8 * (at::SMOOTHER + at)..]).to_bits()
+        f64::read(&lent.state[8 * (at::SMOOTHER + at)..]).to_bits()
     }
 
     #[test]
@@ -282,7 +286,7 @@ mod tests {
             let cap = Some(cap);
             let (seen, answer) = told(&mut fresh(), Call::Setup { setup: STEREO, cap });
             assert_eq!((seen, &answer[..2]), (number, &values[..]));
-            let refused = Rust::new(&STEREO, cap).err();
+            let refused = Rust::new(&STEREO, cap, Format::F64).err();
             let expected = format!("needs {} bytes, cap is {}", values[0], values[1]);
             assert_eq!(refused.is_some(), number != 0);
             assert!(refused.is_none_or(|line| line.contains(&expected)));
@@ -294,7 +298,7 @@ mod tests {
         let mut lent = fresh();
         for (written, done) in [(50, 0), (22, 1), (0, 1)] {
             let frames = 50;
-            let audio = bytes(&[7.0; 100]);
+            let audio = Audio::of(&[7.0; 100]);
             let (number, answer) = told(&mut lent, Call::Flush { frames, audio });
             assert_eq!((number, answer[0], answer[1]), (0, written, done));
         }
@@ -421,6 +425,7 @@ mod tests {
                 ..STEREO
             },
             None,
+            Format::F64,
         )
         .expect("good settings")
         .lent();
@@ -430,7 +435,7 @@ mod tests {
             position: 0,
             frames: 8,
             events: Vec::new(),
-            audio: bytes(&samples),
+            audio: Audio::of(&samples),
         };
         assert_eq!(told(&mut lent, asked).0, 0);
         let minima = lent.stores.0[2].iter().map(|&w| f64::from_bits(w));

@@ -5,8 +5,9 @@ use super::setup::{look, Setup};
 use super::state::State;
 use super::threshold::declared;
 use super::weights::accepted;
+use crate::audio::Audio;
 use crate::bank::judged;
-use crate::calls::{floats, Lent, Stores, ROW, SAMPLE, STATE, WEIGHTS};
+use crate::calls::{floats, Lent, Stores, ROW, STATE, WEIGHTS};
 
 /// A block ends at 2^62 at the latest.
 const FARTHEST: u64 = 1 << 62;
@@ -177,7 +178,7 @@ pub fn block(
     position: u64,
     frames: u64,
     events: &[u64],
-    audio: &[u8],
+    audio: &Audio,
 ) -> Result<(), Told> {
     ready(state, lent)?;
     sized(state, state.setup.block as u64, frames, audio)?;
@@ -195,17 +196,18 @@ pub fn block(
 }
 
 /// A drain: 18, 16, 19, 20, 22.
-pub fn drain(state: &State, lent: &Lent, frames: u64, audio: &[u8]) -> Result<(), Told> {
+pub fn drain(state: &State, lent: &Lent, frames: u64, audio: &Audio) -> Result<(), Told> {
     ready(state, lent)?;
     sized(state, LONGEST_DRAIN, frames, audio)?;
     has_room(state, frames)
 }
 
 /// 20: too many frames, or audio of another length.
-fn sized(state: &State, most: u64, frames: u64, audio: &[u8]) -> Result<(), Told> {
-    let bytes = |frames| SAMPLE as u64 * state.setup.channels as u64 * frames;
+fn sized(state: &State, most: u64, frames: u64, audio: &Audio) -> Result<(), Told> {
+    let sample = audio.format.size() as u64;
+    let bytes = |frames| sample * state.setup.channels as u64 * frames;
     first(&[(20, &|| {
-        frames <= most && audio.len() as u64 == bytes(frames)
+        frames <= most && audio.bytes.len() as u64 == bytes(frames)
     })])
 }
 

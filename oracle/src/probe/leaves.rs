@@ -13,6 +13,8 @@ extern "C" {
     fn probe_copysign(a: f64, b: f64) -> f64;
     fn probe_round(x: f64) -> u64;
     fn probe_ceil(x: f64) -> u64;
+    fn probe_narrow(x: f64) -> u32;
+    fn probe_widen(n: u32) -> f64;
 }
 
 /// The proved code's answer to a leaf case.
@@ -33,6 +35,9 @@ pub fn leaf(case: &Case) -> Answer {
             Op::Copysign => Answer::float(probe_copysign(a, b)),
             Op::Round => Answer::count(probe_round(a)),
             Op::Ceil => Answer::count(probe_ceil(a)),
+            // One pattern is due for every NaN, so these bits stand as they are.
+            Op::Narrow => Answer::count(u64::from(probe_narrow(a))),
+            Op::Widen => Answer::float(probe_widen(case.words[0] as u32)),
             Op::Exp => unreachable!("answered above"),
         }
     }

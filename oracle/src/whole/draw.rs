@@ -5,6 +5,7 @@ mod settings;
 
 use super::faults::{careless, damage, weights, Fault};
 use super::plan::{Block, Part, Session, Turn, LARGEST};
+use crate::audio::{Format, Types};
 use crate::calls::ANSWER;
 use crate::model::calls::{needed, BANK_BYTES};
 use crate::model::setup::{look, Setup};
@@ -12,7 +13,7 @@ use crate::numbers::{any, not_finite};
 use crate::rng::Rng;
 use crate::setups;
 use crate::signals::{Signal, SIGNALS};
-use events::{events, gain, spoil, value};
+use events::{events, gain, short_gain, spoil, value};
 use settings::{accepted, threshold};
 
 /// What sessions are for: every call as a host may make it; the same with more
@@ -54,8 +55,8 @@ pub const RECORDED: u64 = 512;
 /// The most frames in long sessions of a block or a drain that is slow to play.
 const SLOW: u64 = 512;
 
-/// A random session.
-pub fn session(mode: Mode, rng: &mut Rng) -> Session {
+/// A random session. `formats` decides what its sample types have a say in.
+pub fn session(mode: Mode, types: Types, rng: &mut Rng, mut formats: Rng) -> Session {
     let setup = accepted(mode, rng);
     let look = look(setup.lookahead, setup.rate);
     let bytes = BANK_BYTES + needed(setup.channels as u64, look);
@@ -63,8 +64,11 @@ pub fn session(mode: Mode, rng: &mut Rng) -> Session {
     let costs = mode == Mode::Direct && look > 400;
     let usual = rng.below(if costs { 32 } else { 4 }) > 0;
     let kinds: &[Signal] = if usual { &USUAL } else { &SIGNALS };
+    let types = types.of_session(&mut formats);
     let mut planner = Planner {
         mode,
+        types,
+        formats,
         setup,
         position: start(rng),
         palette: [0; 3].map(|_| rng.pick(kinds)),
@@ -80,6 +84,7 @@ pub fn session(mode: Mode, rng: &mut Rng) -> Session {
             Some(2 * bytes),
             Some(u64::MAX),
         ]),
+        types,
         turns: match mode {
             Mode::Whole | Mode::Direct => planner.whole(rng),
             Mode::Damage => planner.damaged(rng),
@@ -149,6 +154,8 @@ fn answer(rng: &mut Rng) -> usize {
 /// Draws the turns of a session.
 struct Planner {
     mode: Mode,
+    types: Types,
+    formats: Rng,
     setup: Setup,
     /// Where the next block starts if it is in sequence.
     position: u64,
@@ -188,11 +195,19 @@ impl Planner {
     }
 
     /// Mostly a careless host's, at times damage.
-    fn fault(&self, rng: &mut Rng) -> Fault {
+    fn fault(&mut self, rng: &mut Rng) -> Fault {
         match rng.below(8) {
             0 => damage(rng),
-            _ => careless(rng),
+            _ => match careless(rng) {
+                Fault::AudioLength { .. } if self.typed() => Fault::AudioType,
+                fault => fault,
+            },
         }
+    }
+
+    /// In half of the cases of a session that has f32: one that is about types.
+    fn typed(&mut self) -> bool {
+        self.types != Types::F64 && self.formats.below(2) == 0
     }
 
     /// Blocks that keep the session going, and damaged calls between them.
@@ -236,9 +251,7 @@ impl Planner {
                 bits: threshold(rng).to_bits(),
             },
             3 => Part::Read { id: 0 },
-            4 | 5 => Part::GainStep {
-                bits: rng.unit().to_bits(),
-            },
+            4 | 5 => self.gain_step(rng.unit()),
             6 | 7 => self.drain(rng),
             _ => Part::Block(self.block(rng)),
         }
@@ -253,9 +266,7 @@ impl Planner {
             9 | 10 => Part::Read {
                 id: rng.pick(&[0, 0, 0, 1, 7, u32::MAX]),
             },
-            11 | 12 => Part::GainStep {
-                bits: gain(rng).to_bits(),
-            },
+            11 | 12 => self.gain_step(gain(rng)),
             21 => self.number(rng),
             13..=18 => self.drain(rng),
             19 | 20 => self.bad_block(rng),
@@ -312,7 +323,16 @@ impl Planner {
         }
     }
 
-    fn drain(&self, rng: &mut Rng) -> Part {
+    /// A lone gain step; gains of few digits lead to products that lie between
+    /// two f32.
+    fn gain_step(&mut self, drawn: f64) -> Part {
+        let short = self.typed().then(|| short_gain(&mut self.formats));
+        Part::GainStep {
+            bits: short.unwrap_or(drawn).to_bits(),
+        }
+    }
+
+    fn drain(&mut self, rng: &mut Rng) -> Part {
         let look = look(self.setup.lookahead, self.setup.rate);
         let frames = match rng.below(64) {
             0 => rng.pick(&[LARGEST, LARGEST + 1, u64::MAX, 1 << 61]),
@@ -322,6 +342,7 @@ impl Planner {
             _ => rng.below(look),
         };
         let drain = Part::Drain {
+            format: self.types.of_call(&mut self.formats),
             frames,
             seed: rng.word(),
         };
@@ -344,22 +365,27 @@ impl Planner {
         if self.position > FARTHEST / 2 && rng.below(4) == 0 {
             self.position = FARTHEST - frames;
         }
-        let block = self.cheaper(Block {
+        let format = self.types.of_call(&mut self.formats);
+        let block = Block {
+            format,
             position: self.position,
             frames,
             events: events(frames, rng),
             kinds: self.kinds(rng),
             level: rng.pick(&LEVELS),
+            ties: format == Format::F64 && self.typed(),
             seed: rng.word(),
-        });
+        };
+        let block = self.cheaper(block);
         self.position = (self.position + block.frames) % FARTHEST;
         block
     }
 
     /// Subnormal samples cost the processor many times as much as others, so
-    /// that long sessions have fewer of them.
+    /// that long sessions have fewer of them. Those of f32 are none once widened.
     fn cheaper(&self, block: Block) -> Block {
-        let costs = self.mode == Mode::Direct && block.kinds.contains(&Signal::Subnormal);
+        let wide = block.format == Format::F64;
+        let costs = wide && self.mode == Mode::Direct && block.kinds.contains(&Signal::Subnormal);
         if costs && block.frames > SLOW {
             block.cut(SLOW)
         } else {

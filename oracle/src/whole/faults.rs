@@ -30,6 +30,8 @@ pub enum Fault {
     AudioLength {
         by: i64,
     },
+    /// The same bytes as samples of the other type.
+    AudioType,
     StoreLength {
         which: usize,
         by: i64,
@@ -91,7 +93,19 @@ impl Fault {
             Self::StateLength { by } => resize(&mut lent.state, by),
             Self::AudioLength { by } => {
                 if let Some(audio) = call.audio_mut() {
-                    resize(audio, by);
+                    // 8 bytes are a sample: half of them are one of 32 bits.
+                    let whole = by % 8 == 0;
+                    let by = if whole {
+                        by / 8 * audio.format.size() as i64
+                    } else {
+                        by
+                    };
+                    resize(&mut audio.bytes, by);
+                }
+            }
+            Self::AudioType => {
+                if let Some(audio) = call.audio_mut() {
+                    audio.format = audio.format.other();
                 }
             }
             Self::StoreLength { which, by } => resize(&mut lent.stores.0[which], by),

@@ -19,6 +19,7 @@ pub use rust::Rust;
 use std::sync::atomic::{AtomicU64, Ordering};
 use std::thread;
 
+use crate::audio::Types;
 use crate::calls::Side;
 use crate::rng::Rng;
 use plan::Session;
@@ -31,6 +32,7 @@ const THREADS: u64 = 2;
 #[derive(Clone, Copy, Debug, PartialEq, Eq)]
 pub struct Settings {
     pub mode: Mode,
+    pub types: Types,
     pub sessions: u64,
     pub seed: u64,
 }
@@ -56,10 +58,13 @@ pub fn run(settings: &Settings, proved: Option<Side>) -> (bool, String) {
     }
 }
 
-/// Session `number` of a run, whatever was played before it.
+/// Session `number` of a run, whatever was played before it. Its sample types
+/// are drawn apart, so that those of f64 alone are what they were without types.
 fn drawn(settings: &Settings, number: u64) -> Session {
     let mut start = Rng::new(settings.seed ^ number.rotate_left(32));
-    draw::session(settings.mode, &mut Rng::new(start.word()))
+    let mut calls = Rng::new(start.word());
+    let formats = Rng::new(start.word());
+    draw::session(settings.mode, settings.types, &mut calls, formats)
 }
 
 /// All sessions, in turns of the threads.

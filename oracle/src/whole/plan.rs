@@ -2,10 +2,11 @@
 //! they need, so that any of them can be left out.
 
 use super::faults::Fault;
-use crate::calls::{bytes, Call, SAMPLE};
+use crate::audio::{Audio, Format, Types};
+use crate::calls::Call;
 use crate::model::setup::Setup;
 use crate::rng::Rng;
-use crate::signals::{signal, Signal};
+use crate::signals::{narrowed, signal, tied, Signal};
 
 /// The most frames that a block has.
 pub const LARGEST: u64 = 65_536;
@@ -15,6 +16,7 @@ pub const LARGEST: u64 = 65_536;
 pub struct Session {
     pub setup: Setup,
     pub cap: Option<u64>,
+    pub types: Types,
     pub turns: Vec<Turn>,
 }
 
@@ -39,6 +41,7 @@ pub enum Part {
     },
     Block(Block),
     Drain {
+        format: Format,
         frames: u64,
         seed: u64,
     },
@@ -65,12 +68,15 @@ pub enum Part {
 
 #[derive(Clone, Debug)]
 pub struct Block {
+    pub format: Format,
     pub position: u64,
     pub frames: u64,
     pub events: Vec<u64>,
     /// What each channel's samples are like, and what they are multiplied with.
     pub kinds: Vec<Signal>,
     pub level: f64,
+    /// Whether f64 samples are moved to where two f32 are as near, or beside.
+    pub ties: bool,
     pub seed: u64,
 }
 
@@ -97,9 +103,16 @@ impl Part {
                 frames: block.frames,
                 events: block.events,
             },
-            Self::Drain { frames, seed } => Call::Flush {
+            Self::Drain {
+                format,
                 frames,
-                audio: rubbish(SAMPLE * channels * lent(frames), seed),
+                seed,
+            } => Call::Flush {
+                frames,
+                audio: Audio {
+                    format,
+                    bytes: rubbish(format.size() * channels * lent(frames), seed),
+                },
             },
             Self::Set { id, bits } => Call::Set { id, bits },
             Self::Read { id } => Call::Read { id },
@@ -116,7 +129,12 @@ impl Part {
     pub fn cut(self, most: u64) -> Self {
         match self {
             Self::Block(block) if block.frames > most => Self::Block(block.cut(most)),
-            Self::Drain { frames, seed } => Self::Drain {
+            Self::Drain {
+                format,
+                frames,
+                seed,
+            } => Self::Drain {
+                format,
                 frames: frames.min(most),
                 seed,
             },
@@ -140,15 +158,26 @@ impl Block {
         }
     }
 
+    fn audio(&self) -> Audio {
+        let level = self.level;
+        match self.format {
+            Format::F64 if self.ties => Audio::of(&self.samples(|_, x, rng| tied(x * level, rng))),
+            Format::F64 => Audio::of(&self.samples(|_, x, _| x * level)),
+            Format::F32 => Audio::of(&self.samples(|kind, x, rng| narrowed(kind, x, level, rng))),
+        }
+    }
+
     /// Each channel's samples, from a seed of its own.
-    fn audio(&self) -> Vec<u8> {
+    fn samples<T>(&self, of: impl Fn(Signal, f64, &mut Rng) -> T) -> Vec<T> {
         let mut samples = Vec::new();
         for (channel, &kind) in self.kinds.iter().enumerate() {
-            let mut rng = Rng::new(self.seed ^ (channel as u64) << 56);
-            samples.extend(signal(kind, lent(self.frames), &mut rng));
+            let seed = self.seed ^ (channel as u64) << 56;
+            let wide = signal(kind, lent(self.frames), &mut Rng::new(seed));
+            // Apart, so that the first frames stay when later ones are cut off.
+            let mut rng = Rng::new(!seed);
+            samples.extend(wide.into_iter().map(|x| of(kind, x, &mut rng)));
         }
-        samples.iter_mut().for_each(|x| *x *= self.level);
-        bytes(&samples)
+        samples
     }
 }
 

@@ -5,9 +5,9 @@
 use super::draw::Mode;
 use super::plan::{rubbish, Part, Session, Turn};
 use super::rust::Rust;
+use crate::audio::Format;
 use crate::calls::{
-    answers_differ, audio_differs, lent_differs, words, Call, Lent, Side, ANSWER, SAMPLE, STATE,
-    WEIGHTS,
+    answers_differ, audio_differs, lent_differs, words, Call, Lent, Side, ANSWER, STATE, WEIGHTS,
 };
 use crate::model::calls as model;
 
@@ -16,7 +16,8 @@ use crate::model::calls as model;
 pub struct Counts {
     pub sessions: u64,
     pub calls: u64,
-    pub frames: u64,
+    /// Frames taken as f64 and as f32.
+    pub frames: [u64; 2],
     /// Calls by their number; 0 is finished work.
     pub numbers: [u64; 25],
 }
@@ -25,9 +26,20 @@ impl Counts {
     pub fn add(&mut self, other: &Self) {
         self.sessions += other.sessions;
         self.calls += other.calls;
-        self.frames += other.frames;
-        for (sum, n) in self.numbers.iter_mut().zip(other.numbers) {
-            *sum += n;
+        let (frames, numbers) = (self.frames.iter_mut(), self.numbers.iter_mut());
+        let theirs = other.frames.iter().chain(&other.numbers);
+        frames
+            .chain(numbers)
+            .zip(theirs)
+            .for_each(|(sum, n)| *sum += n);
+    }
+
+    /// So many frames more, where a call took any.
+    pub fn take(&mut self, frames: u64, format: Option<Format>) {
+        match format {
+            Some(Format::F64) => self.frames[0] += frames,
+            Some(Format::F32) => self.frames[1] += frames,
+            None => {}
         }
     }
 }
@@ -86,7 +98,7 @@ pub fn play(session: &Session, mode: Mode, proved: Option<Side>) -> Result<Count
         let left = stage.turn(session, turn).map_err(split)?;
         counts.calls += 1;
         counts.numbers[left.number as usize] += 1;
-        counts.frames += left.frames();
+        counts.take(left.frames(), left.call.format());
     }
     Ok(counts)
 }
@@ -94,11 +106,11 @@ pub fn play(session: &Session, mode: Mode, proved: Option<Side>) -> Result<Count
 impl Stage {
     /// Rubbish in every store but the weights, which are the Rust's.
     fn new(session: &Session, mode: Mode, proved: Option<Side>) -> Result<Self, String> {
-        let rust = Rust::new(&session.setup, session.cap)?;
+        let rust = Rust::new(&session.setup, session.cap, session.types.first())?;
         let mut lent = rust.lent();
         for (which, store) in lent.stores.0.iter_mut().enumerate() {
             if which != WEIGHTS {
-                *store = words(&rubbish(SAMPLE * store.len(), which as u64));
+                *store = words(&rubbish(8 * store.len(), which as u64));
             }
         }
         lent.state = rubbish(STATE, 6);
@@ -209,7 +221,8 @@ fn beside_forged_rust((lent, call): (Lent, Call), model: &Left) -> Result<(), St
         call,
         Call::Process { .. } | Call::Flush { .. } | Call::Reset | Call::GainStep { .. }
     );
-    match works.then(|| Rust::forged(&lent)).flatten() {
+    let format = call.format().unwrap_or(Format::F64);
+    match works.then(|| Rust::forged(&lent, format)).flatten() {
         Some(mut rust) => beside_rust(&mut rust, call, model),
         None => Ok(()),
     }

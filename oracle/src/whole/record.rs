@@ -10,24 +10,36 @@ use super::draw::{Mode, RECORDED};
 use super::drawn;
 use super::plan::{Part, Session};
 use super::play::Counts;
-use super::rust::{planes, Rust};
+use super::rust::Rust;
 use super::Settings;
-use crate::calls::{bytes, Call, Lent, WEIGHTS};
+use crate::audio::{Format, Types};
+use crate::calls::{Call, Lent, WEIGHTS};
 use crate::model::calls as model;
 use crate::samples::{digest, Source};
 
-/// The recorded file never depends on the command line.
-const SETTINGS: Settings = Settings {
-    mode: Mode::Recorded,
-    sessions: 60,
-    seed: 1,
-};
+/// Sessions kept to either sample type. The recorded file never depends on the
+/// command line.
+const SETTINGS: [Settings; 2] = [
+    Settings {
+        mode: Mode::Recorded,
+        types: Types::F64,
+        sessions: 60,
+        seed: 1,
+    },
+    Settings {
+        mode: Mode::Recorded,
+        types: Types::F32,
+        sessions: 60,
+        seed: 2,
+    },
+];
 
 /// Kinds of samples.
 const KINDS: u64 = 6;
 
-/// First words of the records.
+/// First words of the records; a session's tells its sample type.
 const START: u64 = 1;
+const START_F32: u64 = 9;
 const BLOCK: u64 = 2;
 const DRAIN: u64 = 3;
 const RESET: u64 = 4;
@@ -64,7 +76,7 @@ pub fn write(file: &Path) -> Result<String, String> {
         file.display(),
         counts.sessions,
         counts.calls,
-        counts.frames,
+        counts.frames.iter().sum::<u64>(),
         words.len(),
         bytes.len()
     ))
@@ -72,8 +84,10 @@ pub fn write(file: &Path) -> Result<String, String> {
 
 fn recorded() -> Result<Record, String> {
     let mut record = Record::default();
-    for number in 0..SETTINGS.sessions {
-        record.play(&drawn(&SETTINGS, number), number)?;
+    for settings in &SETTINGS {
+        for number in 0..settings.sessions {
+            record.play(&drawn(settings, number), number)?;
+        }
     }
     Ok(record)
 }
@@ -82,6 +96,7 @@ impl Record {
     /// Play a session and add its words.
     fn play(&mut self, session: &Session, number: u64) -> Result<(), String> {
         let source = Source {
+            format: session.types.first(),
             state: 1 + 0x9e37_79b9 * (1 + number),
             kind: number % KINDS,
         };
@@ -92,7 +107,7 @@ impl Record {
             self.counts.calls += u64::from(!words.is_empty());
             // A block's frames and a drain's written ones stand in one place.
             if let [BLOCK | DRAIN, _, frames, ..] = words[..] {
-                self.counts.frames += frames;
+                self.counts.take(frames, Some(session.types.first()));
             }
             self.words.extend(words);
         }
@@ -104,7 +119,7 @@ impl Record {
 
 impl Recorder {
     fn new(session: &Session, source: Source) -> Result<Self, String> {
-        let rust = Rust::new(&session.setup, None)?;
+        let rust = Rust::new(&session.setup, None, source.format)?;
         Ok(Self {
             model: rust.lent(),
             rust,
@@ -123,7 +138,11 @@ impl Recorder {
             setup.lookahead,
             setup.release,
         ];
-        let mut words = vec![START, u64::from(setup.rate), setup.channels as u64];
+        let start = match self.source.format {
+            Format::F64 => START,
+            Format::F32 => START_F32,
+        };
+        let mut words = vec![start, u64::from(setup.rate), setup.channels as u64];
         words.extend(floats.map(f64::to_bits));
         words.extend([self.rust.look() as u64, weights.len() as u64]);
         words.extend([self.source.state, self.source.kind, setup.block as u64]);
@@ -155,8 +174,7 @@ impl Recorder {
         let mut call = part.call(session);
         if let Call::Process { frames, audio, .. } = &mut call {
             if *frames <= RECORDED {
-                let planes = self.source.planes(self.channels, *frames as usize);
-                *audio = bytes(&planes.concat());
+                *audio = self.source.audio(self.channels * *frames as usize);
             }
         }
         call
@@ -175,11 +193,11 @@ impl Recorder {
                 let whole = &events[..events.len() / 3 * 3];
                 let mut words = vec![BLOCK, *position, *frames, whole.len() as u64 / 3];
                 words.extend(whole);
-                words.push(digest(&planes(audio, self.channels), *frames as usize));
+                words.push(digest(audio, *frames as usize, *frames as usize));
                 words
             }
             Call::Flush { frames, audio } => {
-                let given = digest(&planes(audio, self.channels), told[0] as usize);
+                let given = digest(audio, *frames as usize, told[0] as usize);
                 vec![DRAIN, *frames, told[0], told[1], given]
             }
             Call::Reset => vec![RESET],
@@ -195,6 +213,7 @@ impl Recorder {
 #[cfg(test)]
 mod tests {
     use super::*;
+    use crate::audio::Audio;
     use crate::model::setup::Setup;
     use crate::model::state::State;
 
@@ -228,6 +247,11 @@ mod tests {
 
     impl Replay {
         fn start(file: &mut Reader) -> Self {
+            let format = match file.next() {
+                START => Format::F64,
+                START_F32 => Format::F32,
+                word => unreachable!("no session starts with {word}"),
+            };
             let (rate, channels) = (file.next() as u32, file.next() as usize);
             let [threshold, margin, lookahead, release] = [(); 4].map(|()| file.float());
             let [look, rows, seed, kind, block] = [(); 5].map(|()| file.next());
@@ -245,7 +269,11 @@ mod tests {
                 answer: vec![0; 8],
                 stores: crate::calls::Stores::default(),
             };
-            let source = Source { state: seed, kind };
+            let source = Source {
+                format,
+                state: seed,
+                kind,
+            };
             let mut replay = Self {
                 lent,
                 setup,
@@ -274,27 +302,31 @@ mod tests {
         fn block(&mut self, file: &mut Reader) {
             let [position, frames, count] = [(); 3].map(|()| file.next());
             let events = file.some(3 * count);
-            let planes = self.source.planes(self.setup.channels, frames as usize);
             let call = Call::Process {
                 position,
                 frames,
                 events,
-                audio: bytes(&planes.concat()),
+                audio: self.source.audio(self.setup.channels * frames as usize),
             };
             let call = self.told(call, &[0]);
-            self.digest(&call, frames, file.next());
+            let given = call.audio().expect("a block's");
+            assert_eq!(digest(given, frames as usize, frames as usize), file.next());
         }
 
         fn drain(&mut self, file: &mut Reader) {
             let [frames, written, done] = [(); 3].map(|()| file.next());
-            let audio = vec![1; 8 * self.setup.channels * frames as usize];
+            let format = self.source.format;
+            let samples = self.setup.channels * frames as usize;
+            let audio = Audio {
+                format,
+                bytes: vec![1; format.size() * samples],
+            };
             let call = self.told(Call::Flush { frames, audio }, &[0, written, done]);
-            self.digest(&call, written, file.next());
-        }
-
-        fn digest(&self, call: &Call, frames: u64, due: u64) {
-            let planes = planes(call.audio(), self.setup.channels);
-            assert_eq!(digest(&planes, frames as usize), due);
+            let given = call.audio().expect("a drain's");
+            assert_eq!(
+                digest(given, frames as usize, written as usize),
+                file.next()
+            );
         }
 
         /// The call whose op was read.
@@ -333,7 +365,6 @@ mod tests {
         };
         let (mut ops, mut calls) = ([0; 9], 0);
         while !file.rest.is_empty() {
-            assert_eq!(file.next(), START);
             let mut replay = Replay::start(&mut file);
             loop {
                 let op = file.next();
@@ -353,7 +384,7 @@ mod tests {
     fn the_file_is_small_and_always_the_same() {
         let record = recorded().expect("good settings");
         assert!(8 * record.words.len() < 300_000);
-        assert!(record.counts.frames > 50_000);
+        assert!(record.counts.frames.iter().all(|&frames| frames > 50_000));
         assert_eq!(record, recorded().expect("good settings"));
     }
 }

@@ -14,10 +14,11 @@ pub fn passed(counts: &Counts, seed: u64) -> String {
     let by_number = counts.numbers.iter().enumerate().skip(1);
     let by_number = by_number.filter(|(_, &n)| n > 0);
     let by_number: Vec<String> = by_number.map(|(k, n)| format!("{k}: {n}")).collect();
+    let [wide, narrow] = counts.frames;
     format!(
-        "{} sessions, {} frames, {} calls, {refused} of them refused ({}), 0 differences, seed {seed}\n",
+        "{} sessions, {} frames ({wide} f64, {narrow} f32), {} calls, {refused} of them refused ({}), 0 differences, seed {seed}\n",
         counts.sessions,
-        counts.frames,
+        wide + narrow,
         counts.calls,
         by_number.join(", ")
     )

@@ -1,9 +1,11 @@
-//! The Rust's `KernelProcessor<Limiter, f64>` behind the same calls.
+//! The Rust's `KernelProcessor<Limiter, _>` at either sample type, behind the same
+//! calls.
 
+use crate::audio::{Audio, Crossing, Format};
 use crate::block::AudioBlockMut;
-use crate::calls::{bytes, sample, Call, Lent, Stores, ANSWER, SAMPLE};
+use crate::calls::{Call, Lent, Stores, ANSWER};
 use crate::context::ProcessContext;
-use crate::dsp::driver::{inside as driver, KernelProcessor};
+use crate::dsp::driver::{inside as driver, KernelProcessor, SmootherBank};
 use crate::mastering::limiter::{inside as kernel, Limiter, LimiterSettings};
 use crate::model::judge;
 use crate::model::setup::{look, Setup};
@@ -15,12 +17,45 @@ use crate::traits::Processor;
 
 /// A processor that was prepared.
 pub struct Rust {
-    processor: KernelProcessor<Limiter, f64>,
+    processor: Typed,
     spec: ProcessSpec,
 }
 
+/// A processor of a sample type.
+enum Typed {
+    F64(KernelProcessor<Limiter, f64>),
+    F32(KernelProcessor<Limiter, f32>),
+}
+
+/// What a processor answers, whichever type it has.
+macro_rules! typed {
+    ($typed:expr, $processor:ident => $answer:expr) => {
+        match $typed {
+            Typed::F64($processor) => $answer,
+            Typed::F32($processor) => $answer,
+        }
+    };
+}
+
+impl Typed {
+    fn new(limiter: Limiter, format: Format) -> Self {
+        match format {
+            Format::F64 => Self::F64(KernelProcessor::with_sample_type(limiter)),
+            Format::F32 => Self::F32(KernelProcessor::with_sample_type(limiter)),
+        }
+    }
+
+    fn format(&self) -> Format {
+        match self {
+            Self::F64(_) => Format::F64,
+            Self::F32(_) => Format::F32,
+        }
+    }
+}
+
 impl Rust {
-    pub fn new(setup: &Setup, cap: Option<u64>) -> Result<Self, String> {
+    /// A processor of this sample type from its setup on.
+    pub fn new(setup: &Setup, cap: Option<u64>, format: Format) -> Result<Self, String> {
         let settings = LimiterSettings::new()
             .threshold_db(setup.threshold)
             .true_peak_margin_db(setup.margin)
@@ -33,8 +68,9 @@ impl Rust {
             max_memory: cap.map(|cap| cap as usize),
         };
         let limiter = Limiter::with_settings(settings);
-        let mut processor = KernelProcessor::with_sample_type(limiter);
-        processor.prepare(spec).map_err(|e| e.to_string())?;
+        let mut processor = Typed::new(limiter, format);
+        let prepared = typed!(&mut processor, p => p.prepare(spec));
+        prepared.map_err(|e| e.to_string())?;
         Ok(Self { processor, spec })
     }
 
@@ -42,10 +78,10 @@ impl Rust {
     /// limiter is set up (a reading asks that of the bank alone), the stores have
     /// their lengths, and the threshold lies in its range, since document 01 keeps
     /// the target of any other where the Rust does not.
-    pub fn forged(lent: &Lent) -> Option<Self> {
+    pub fn forged(lent: &Lent, format: Format) -> Option<Self> {
         let state = State::read(&lent.state)?;
         judge::prepared(&state).ok()?;
-        let mut rust = Self::new(&state.setup, None).ok()?;
+        let mut rust = Self::new(&state.setup, None, format).ok()?;
         let own = rust.lent().stores;
         let mut pairs = own.0.iter().zip(&lent.stores.0);
         let fits = pairs.all(|(own, lent)| own.len() == lent.len());
@@ -57,8 +93,8 @@ impl Rust {
     }
 
     fn forge(&mut self, state: &State, stores: &Stores) {
-        kernel::forge(driver::kernel_mut(&mut self.processor), state, stores);
-        let bank = driver::bank_mut(&mut self.processor);
+        kernel::forge(self.kernel_mut(), state, stores);
+        let bank = typed!(&mut self.processor, p => driver::bank_mut(p));
         let mut slot = driver::slots(bank)[0];
         slot.cur = state.threshold.cur;
         slot.target = state.threshold.target;
@@ -69,7 +105,19 @@ impl Rust {
 
     /// The look that the Rust derived.
     pub fn look(&self) -> usize {
-        self.processor.latency()
+        typed!(&self.processor, p => p.latency())
+    }
+
+    fn kernel(&self) -> &Limiter {
+        typed!(&self.processor, p => driver::kernel(p))
+    }
+
+    fn kernel_mut(&mut self) -> &mut Limiter {
+        typed!(&mut self.processor, p => driver::kernel_mut(p))
+    }
+
+    fn bank(&self) -> &SmootherBank {
+        typed!(&self.processor, p => driver::bank(p))
     }
 
     /// Play a call that document 01 accepts, or a parameter call or a reading:
@@ -77,7 +125,7 @@ impl Rust {
     pub fn call(&mut self, call: &mut Call) -> (u32, Vec<u64>) {
         match call {
             Call::Setup { .. } => {
-                let prepared = self.processor.prepare(self.spec);
+                let prepared = typed!(&mut self.processor, p => p.prepare(self.spec));
                 (u32::from(prepared.is_err()), Vec::new())
             }
             Call::Process {
@@ -91,12 +139,12 @@ impl Rust {
             }
             Call::Flush { audio, .. } => (0, self.flush(audio)),
             Call::Set { id, bits } => self.set(*id, *bits),
-            Call::Read { id } => match driver::bank(&self.processor).value(ParamId(*id)) {
+            Call::Read { id } => match self.bank().value(ParamId(*id)) {
                 Some(value) => (0, vec![value.to_bits()]),
                 None => (24, Vec::new()),
             },
             Call::Reset => {
-                self.processor.reset();
+                typed!(&mut self.processor, p => p.reset());
                 (0, Vec::new())
             }
             Call::GainStep { bits } => (0, self.gain_step(f64::from_bits(*bits))),
@@ -109,28 +157,36 @@ impl Rust {
         }
     }
 
-    fn process(&mut self, position: u64, events: &[u64], audio: &mut Vec<u8>) {
+    fn process(&mut self, position: u64, events: &[u64], audio: &mut Audio) {
+        self.turn_to(audio.format);
         let events: Vec<ParamEvent> = events.chunks_exact(3).map(event).collect();
-        let mut planes = planes(audio, self.spec.channels);
-        let mut table: Vec<&mut [f64]> = planes.iter_mut().map(Vec::as_mut_slice).collect();
-        let mut context = ProcessContext::in_place(&mut table, position);
-        context.events = &events;
-        self.processor.process(&mut context);
-        *audio = bytes(&planes.concat());
+        let channels = self.spec.channels;
+        typed!(&mut self.processor, p => process(p, channels, position, &events, audio));
     }
 
-    fn flush(&mut self, audio: &mut Vec<u8>) -> Vec<u64> {
-        let mut planes = planes(audio, self.spec.channels);
-        let mut table: Vec<&mut [f64]> = planes.iter_mut().map(Vec::as_mut_slice).collect();
-        let produced = self.processor.flush(&mut AudioBlockMut::new(&mut table));
-        *audio = bytes(&planes.concat());
-        vec![produced.frames as u64, u64::from(produced.done)]
+    fn flush(&mut self, audio: &mut Audio) -> Vec<u64> {
+        self.turn_to(audio.format);
+        let channels = self.spec.channels;
+        typed!(&mut self.processor, p => flush(p, channels, audio))
+    }
+
+    /// A processor is fixed to its sample type. Where a call of the other one
+    /// follows, what it holds goes on in a processor of that one.
+    fn turn_to(&mut self, format: Format) {
+        if self.processor.format() == format {
+            return;
+        }
+        let unprepared = Limiter::with_settings(LimiterSettings::new());
+        let held = std::mem::replace(&mut self.processor, Typed::new(unprepared, format));
+        self.processor = match held {
+            Typed::F64(p) => Typed::F32(driver::retyped(p)),
+            Typed::F32(p) => Typed::F64(driver::retyped(p)),
+        };
     }
 
     fn set(&mut self, id: u32, bits: u64) -> (u32, Vec<u64>) {
-        let value = f64::from_bits(bits);
-        let told = self.processor.set_parameter_immediate(ParamId(id), value);
-        match told {
+        let (id, value) = (ParamId(id), f64::from_bits(bits));
+        match typed!(&mut self.processor, p => p.set_parameter_immediate(id, value)) {
             Ok(()) => (0, Vec::new()),
             Err(ParamSetError::UnknownParam(_)) => (24, Vec::new()),
             Err(ParamSetError::NonFiniteValue { param, value }) => {
@@ -140,7 +196,7 @@ impl Rust {
     }
 
     fn gain_step(&mut self, gain: f64) -> Vec<u64> {
-        let step = kernel::step(driver::kernel_mut(&mut self.processor), gain);
+        let step = kernel::step(self.kernel_mut(), gain);
         let counts = [step.dropped, step.kept, step.tally].map(|n| n as u64);
         let mut told = vec![step.floor.to_bits()];
         told.extend(counts);
@@ -150,9 +206,10 @@ impl Rust {
 
     /// All that the Rust holds, as it would cross; the answer is empty.
     pub fn lent(&self) -> Lent {
-        let limiter = driver::kernel(&self.processor);
+        let limiter = self.kernel();
         let mut state = kernel::state(limiter);
-        state.setup.block = driver::largest_block(&self.processor).unwrap_or_default();
+        let largest = typed!(&self.processor, p => driver::largest_block(p));
+        state.setup.block = largest.unwrap_or_default();
         state.threshold = self.threshold(state.setup.threshold);
         state.count = 1;
         state.bank_rate = self.spec.sample_rate;
@@ -166,7 +223,7 @@ impl Rust {
 
     /// The threshold's smoother; what the Rust does not keep is as declared.
     fn threshold(&self, default: f64) -> Smoother {
-        let slots = driver::slots(driver::bank(&self.processor));
+        let slots = driver::slots(self.bank());
         let slot = slots.first().expect("the threshold");
         Smoother {
             cur: slot.cur,
@@ -194,16 +251,35 @@ fn footprint(channels: u64, look: u64) -> u64 {
         channels: channels as usize,
         block: 0,
     };
-    let rust = Rust::new(&setup, None).expect("a good look");
-    rust.processor.memory_footprint() as u64
+    let rust = Rust::new(&setup, None, Format::F64).expect("a good look");
+    typed!(&rust.processor, p => p.memory_footprint()) as u64
 }
 
-/// The channels of planar audio.
-pub fn planes(audio: &[u8], channels: usize) -> Vec<Vec<f64>> {
-    let samples: Vec<f64> = audio.chunks_exact(SAMPLE).map(sample).collect();
-    let frames = samples.len() / channels;
-    let plane = |channel: usize| samples[channel * frames..][..frames].to_vec();
-    (0..channels).map(plane).collect()
+fn process<T: Crossing>(
+    processor: &mut KernelProcessor<Limiter, T>,
+    channels: usize,
+    position: u64,
+    events: &[ParamEvent],
+    audio: &mut Audio,
+) {
+    let mut planes: Vec<Vec<T>> = audio.planes(channels);
+    let mut table: Vec<&mut [T]> = planes.iter_mut().map(Vec::as_mut_slice).collect();
+    let mut context = ProcessContext::in_place(&mut table, position);
+    context.events = events;
+    processor.process(&mut context);
+    *audio = Audio::of(&planes.concat());
+}
+
+fn flush<T: Crossing>(
+    processor: &mut KernelProcessor<Limiter, T>,
+    channels: usize,
+    audio: &mut Audio,
+) -> Vec<u64> {
+    let mut planes: Vec<Vec<T>> = audio.planes(channels);
+    let mut table: Vec<&mut [T]> = planes.iter_mut().map(Vec::as_mut_slice).collect();
+    let produced = processor.flush(&mut AudioBlockMut::new(&mut table));
+    *audio = Audio::of(&planes.concat());
+    vec![produced.frames as u64, u64::from(produced.done)]
 }
 
 /// An event of three words. Ids that the Rust cannot hold are unknown ones.

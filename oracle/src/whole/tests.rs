@@ -3,25 +3,29 @@
 
 use super::plan::Part;
 use super::*;
-use crate::calls::{sample, Call, Lent, ANSWER};
+use crate::audio::{Audio, Crossing as _, Format};
+use crate::calls::{Call, Lent, ANSWER};
 use crate::layout::state as at;
 use crate::model::calls::call as model;
 use crate::model::setup::look;
 
 const WHOLE: Settings = Settings {
     mode: Mode::Whole,
+    types: Types::Any,
     sessions: 90,
     seed: 1,
 };
 
 const DIRECT: Settings = Settings {
     mode: Mode::Direct,
+    types: Types::Any,
     sessions: 60,
     seed: 1,
 };
 
 const DAMAGE: Settings = Settings {
     mode: Mode::Damage,
+    types: Types::Any,
     sessions: 80,
     seed: 1,
 };
@@ -86,7 +90,7 @@ fn sessions_without_the_model_are_long() {
         ..DIRECT
     };
     let counts = all(&settings, Some(model)).expect("no difference");
-    assert!(counts.frames > 50_000, "{counts:?}");
+    assert!(counts.frames.iter().all(|&n| n > 10_000), "{counts:?}");
     assert!(counts.numbers[18] > 10, "{counts:?}");
 }
 
@@ -96,11 +100,13 @@ fn sessions_without_the_model_are_long() {
 fn gains_of_every_size_are_met() {
     let gain = |number| {
         let session = drawn(&DAMAGE, number);
-        let mut lent = Rust::new(&session.setup, None).expect("good").lent();
+        let mut lent = Rust::new(&session.setup, None, Format::F64)
+            .expect("good")
+            .lent();
         for turn in session.turns.iter().filter(|turn| turn.commits()) {
             model(&mut lent, &mut turn.part.call(&session));
         }
-        sample(&lent.state[8 * at::GAIN..])
+        f64::read(&lent.state[8 * at::GAIN..])
     };
     let gains: Vec<f64> = (0..100).map(gain).collect();
     let count = |test: &dyn Fn(f64) -> bool| gains.iter().filter(|g| test(**g)).count();
@@ -116,14 +122,16 @@ fn the_rust_takes_most_damage() {
     let (mut accepted, mut taken) = (0, 0);
     for number in 0..20 {
         let session = drawn(&DAMAGE, number);
-        let fresh = Rust::new(&session.setup, None).expect("good").lent();
+        let fresh = Rust::new(&session.setup, None, Format::F64)
+            .expect("good")
+            .lent();
         for turn in session.turns.iter().filter(|turn| !turn.commits()) {
             let (mut lent, mut call) = (fresh.clone(), turn.part.call(&session));
             let faults = turn.faults.iter();
             faults.for_each(|fault| fault.apply(&mut lent, &mut call));
             if !matches!(call, Call::Setup { .. }) && model(&mut lent.clone(), &mut call) == 0 {
                 accepted += 1;
-                taken += usize::from(Rust::forged(&lent).is_some());
+                taken += usize::from(Rust::forged(&lent, Format::F32).is_some());
             }
         }
     }
@@ -154,7 +162,8 @@ fn wrong_output(lent: &mut Lent, call: &mut Call) -> u32 {
     let number = model(lent, call);
     if let Call::Process { audio, frames, .. } = call {
         if number == 0 && *frames > 40 {
-            audio[8 * 40] ^= 1;
+            let place = audio.format.size() * 40;
+            audio.bytes[place] ^= 1;
         }
     }
     number
@@ -244,6 +253,103 @@ fn wrong_sides_are_found_and_told_in_short() {
             assert!(text.contains(said), "{text}");
             assert!(text.lines().count() <= 6, "{text}");
         }
+    }
+}
+
+/// The model at f64, with an f32's outputs rounded by a rule of ours.
+fn rounded(lent: &mut Lent, call: &mut Call, rule: fn(f64) -> f32) -> u32 {
+    let Some(audio) = call.audio_mut().filter(|a| a.format == Format::F32) else {
+        return model(lent, call);
+    };
+    let mut narrow = audio.clone();
+    if narrow.bytes.len() % 4 == 0 {
+        let wide: Vec<f64> = (0..narrow.len()).map(|at| narrow.sample(at)).collect();
+        *audio = Audio::of(&wide);
+    }
+    let number = model(lent, call);
+    let audio = call.audio_mut().expect("as before");
+    if audio.format == Format::F64 {
+        for at in 0..narrow.len() {
+            // What was not written stays, a NaN's payload too.
+            if audio.bits(at) != narrow.sample(at).to_bits() {
+                narrow.put(at, f64::from(rule(audio.sample(at))));
+            }
+        }
+        *audio = narrow;
+    }
+    number
+}
+
+fn nearest(lent: &mut Lent, call: &mut Call) -> u32 {
+    rounded(lent, call, |x| x as f32)
+}
+
+/// Digits are cut off.
+fn cut_off(lent: &mut Lent, call: &mut Call) -> u32 {
+    rounded(lent, call, |x| {
+        let near = x as f32;
+        let far = f64::from(near).abs() > x.abs();
+        f32::from_bits(near.to_bits() - u32::from(far))
+    })
+}
+
+/// The middle of two goes away from zero.
+fn middle_up(lent: &mut Lent, call: &mut Call) -> u32 {
+    rounded(lent, call, |x| f64::from_bits(x.to_bits() | 1) as f32)
+}
+
+/// No output is infinite.
+fn saturated(lent: &mut Lent, call: &mut Call) -> u32 {
+    rounded(lent, call, |x| (x as f32).clamp(f32::MIN, f32::MAX))
+}
+
+/// Both types lie on the same places.
+fn as_f64(lent: &mut Lent, call: &mut Call) -> u32 {
+    if let Some(audio) = call.audio_mut() {
+        audio.format = Format::F64;
+    }
+    model(lent, call)
+}
+
+/// Middles are met by gains of few digits where all is f32, by samples of f64
+/// where types are mixed; infinities by large samples that were put in from
+/// outside.
+#[test]
+fn wrong_roundings_are_found() {
+    let of = |mode, types| Settings {
+        mode,
+        types,
+        sessions: 300,
+        seed: 1,
+    };
+    let (narrow, mixed) = (of(Mode::Direct, Types::F32), of(Mode::Direct, Types::Mixed));
+    let damage = of(Mode::Damage, Types::F32);
+    for (settings, side) in [
+        (narrow, cut_off as Side),
+        (narrow, middle_up),
+        (mixed, middle_up),
+        (damage, saturated),
+        (narrow, as_f64),
+    ] {
+        let (passed, text) = run(&settings, Some(side));
+        assert!(!passed, "{settings:?}");
+        assert!(
+            text.contains("audio, sample") || text.contains("due 0, seen 20"),
+            "{text}"
+        );
+    }
+}
+
+#[test]
+fn an_f32_session_is_an_f64_one_rounded() {
+    for types in [Types::F32, Types::Mixed] {
+        let settings = Settings {
+            types,
+            sessions: 15,
+            ..WHOLE
+        };
+        let (passed, text) = run(&settings, Some(nearest));
+        assert!(passed, "{text}");
     }
 }
 

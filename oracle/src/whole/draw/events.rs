@@ -68,6 +68,11 @@ pub fn gain(rng: &mut Rng) -> f64 {
     }
 }
 
+/// A gain of eight digits at most.
+pub fn short_gain(rng: &mut Rng) -> f64 {
+    (1 + rng.below(256)) as f64 / 256.0
+}
+
 /// An event that 21 refuses.
 pub fn spoil(block: &mut Block, rng: &mut Rng) {
     if block.events.len() < 3 {

@@ -1,25 +1,24 @@
--- `digest`: eight bytes a turn.
-use Prim.Native.Nat.{_-_, _*_, _≤_}
+-- `digest`: a sample a turn.
+use Prim.Native.Nat.{_-_, _≤_}
 use native.Mathlib.Omega.{arith}
 use borrow.Author.Needs.{needs}
-use lib.ListN.{length}
 use Rattle.session_calls.proofs.samples.digest.Statement.{statement}
 use Rattle.session_calls.proofs.samples.digest.Tie as tie
 
 abbrev Inv-loop : tie.InvT-loop
-Inv-loop bytes width n size d₀ i₀ d i = (i ≤ size) × (8 * size ≤ length bytes)
+Inv-loop bytes format width n size d₀ i₀ d i = i ≤ size
 
 abbrev μ-loop : tie.MeasureT-loop
-μ-loop bytes width n size d₀ i₀ d i = size - i
+μ-loop bytes format width n size d₀ i₀ d i = size - i
+
+samples-requires : tie.Need-samples-requires Inv-loop μ-loop
+samples-requires c κs = search needs
 
 loop-holds : tie.Need-loop-holds Inv-loop μ-loop
-loop-holds c = (omega arith, omega arith)
+loop-holds c = omega arith
 
-mul-word : tie.Need-mul-word Inv-loop μ-loop
-mul-word c = omega arith
-
-word-requires : tie.Need-word-requires Inv-loop μ-loop
-word-requires c κs = omega arith
+at-requires : tie.Need-at-requires Inv-loop μ-loop
+at-requires c κs = search needs
 
 added-requires : tie.Need-added-requires Inv-loop μ-loop
 added-requires c κs = search needs
@@ -31,7 +30,7 @@ loop-less : tie.Need-loop-less Inv-loop μ-loop
 loop-less c = omega arith
 
 loop-again : tie.Need-loop-again Inv-loop μ-loop
-loop-again c = (omega arith, omega arith)
+loop-again c = omega arith
 
 returns : tie.Need-returns Inv-loop μ-loop
 returns c = search needs
@@ -42,9 +41,9 @@ digest-spec =
     (tie.spec
     Inv-loop
     μ-loop
+    samples-requires
     loop-holds
-    mul-word
-    word-requires
+    at-requires
     added-requires
     add-i
     loop-less

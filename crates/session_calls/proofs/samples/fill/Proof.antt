@@ -1,6 +1,6 @@
--- `fill`: eight bytes a turn.
+-- `fill`: a sample a turn.
 use mathlib.Core.Path.{_≡_, refl, _∙_}
-use Prim.Native.Nat.{_-_, _*_, _≤_}
+use Prim.Native.Nat.{_-_, _≤_}
 use native.Mathlib.Omega.{arith}
 use borrow.Author.Needs.{needs}
 use lib.ListN.{length}
@@ -8,25 +8,25 @@ use Rattle.session_calls.proofs.samples.fill.Statement.{statement}
 use Rattle.session_calls.proofs.samples.fill.Tie as tie
 
 abbrev Inv-loop : tie.InvT-loop
-Inv-loop bytes₀ x kind n state₀ i₀ bytes state i = (length bytes ≡ length bytes₀) × (i ≤ n) × (8 * n ≤ length bytes₀)
+Inv-loop bytes₀ format x kind n state₀ i₀ bytes state i = (length bytes ≡ length bytes₀) × (i ≤ n)
 
 abbrev μ-loop : tie.MeasureT-loop
-μ-loop bytes₀ x kind n state₀ i₀ bytes state i = n - i
+μ-loop bytes₀ format x kind n state₀ i₀ bytes state i = n - i
+
+samples-requires : tie.Need-samples-requires Inv-loop μ-loop
+samples-requires c κs = search needs
 
 loop-holds : tie.Need-loop-holds Inv-loop μ-loop
-loop-holds c = (refl, omega arith, omega arith)
+loop-holds c = (refl, omega arith)
 
 drawn-requires : tie.Need-drawn-requires Inv-loop μ-loop
 drawn-requires c κs = search needs
 
-mul-put-word : tie.Need-mul-put-word Inv-loop μ-loop
-mul-put-word c = omega arith
-
 shaped-requires : tie.Need-shaped-requires Inv-loop μ-loop
 shaped-requires c κs = search needs
 
-put-word-requires : tie.Need-put-word-requires Inv-loop μ-loop
-put-word-requires c κs = omega arith
+put-requires : tie.Need-put-requires Inv-loop μ-loop
+put-requires c κs = search needs
 
 add-i : tie.Need-add-i Inv-loop μ-loop
 add-i c = omega arith
@@ -37,7 +37,7 @@ loop-less c = omega arith
 loop-again : tie.Need-loop-again Inv-loop μ-loop
 loop-again c =
     let l = c .before .before .before .before .before .before .before .loop in
-    (c .before .before .put-word .kept .0 ∙ l .inv .0, omega arith, l .inv .2)
+    (c .before .before .put .kept .0 ∙ l .inv .0, omega arith)
 
 same-length : tie.Need-same-length Inv-loop μ-loop
 same-length c = c .before .loop .inv .0
@@ -51,11 +51,11 @@ fill-spec =
     (tie.spec
     Inv-loop
     μ-loop
+    samples-requires
     loop-holds
     drawn-requires
-    mul-put-word
     shaped-requires
-    put-word-requires
+    put-requires
     add-i
     loop-less
     loop-again
