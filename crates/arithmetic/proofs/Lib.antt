@@ -15,6 +15,7 @@ pub mod NanPattern
 pub mod Units
 pub mod Places32
 pub mod Ways32
+pub mod Flushed32
 pub mod Same
 pub mod Passed
 pub mod UnitBound

@@ -3,7 +3,7 @@ use mathlib.Core.Path.{_≡_, refl, sym, ap, _∙_, subst}
 use mathlib.Core.Bool.{Bool, true, false, not, cond}
 use Prim.Native.Nat.{ℕ, zero, suc, _+_, _*_, _/_, _%_, _^_, _≤_, _<_}
 use lib.Dec.{T, eqb}
-use lib.Ieee.{Float, nan, inf, fin, Format, binary64, prec, low, hid, ones, top, odd, div, ne, isNan, ofFields, ofBits, toBits, nanBits}
+use lib.Ieee.{Float, nan, inf, fin, Format, binary32, binary64, prec, low, hid, ones, top, odd, div, ne, isNan, ofFields, ofBits, toBits, nanBits}
 use lib.Ieee.Bits.{nanBits-is, nanBits-above}
 use borrow.Author.Tests.{lt-ltb, le-ltb, ne-eqb}
 use Rattle.arithmetic.specs.Number
@@ -41,29 +41,37 @@ unfolding odd
 odd-kept d s zero k l = refl
 odd-kept d s (suc q) k l = refl
 
-fields-kept : (s : Bool) (x t : ℕ) → eqb x 2047 ≡ false → ofFields binary64 s x t ≡ finiteOrZero (ofFields binary64 s x t)
+fields-kept : (f : Format) (s : Bool) (x t : ℕ) → eqb x (ones f) ≡ false → ofFields f s x t ≡ finiteOrZero (ofFields f s x t)
 unfolding ofFields
-fields-kept s zero t h = odd-kept (prec binary64) s t 0 (low binary64)
-fields-kept s (suc x) t h = rw h (odd-kept (prec binary64) s (hid binary64 + t) x (low binary64))
+fields-kept f s zero t h = odd-kept (prec f) s t 0 (low f)
+fields-kept f s (suc x) t h = rw h (odd-kept (prec f) s (hid f + t) x (low f))
 
 -- all ones: an infinity or a NaN
-fields-silenced : (s : Bool) (t : ℕ) → Number.zero ≡ finiteOrZero (ofFields binary64 s 2047 t)
+fields-silenced : (f : Format) (s : Bool) (t : ℕ) → Number.zero ≡ finiteOrZero (ofFields f s (ones f) t)
 unfolding ofFields
-fields-silenced s t = go (eqb t 0)
+fields-silenced f s t = at f
   where
     go : (b : Bool) → Number.zero ≡ finiteOrZero (cond b (inf s) nan)
     go true = refl
     go false = refl
 
-module _ (n : ℕ) where
-  pub reads-silence : n % 2 ^ 63 / 2 ^ 52 ≡ 2047 → Number.zero ≡ finiteOrZero (ofBits binary64 n)
-  unfolding ofBits
-  reads-silence h = rw h (fields-silenced _ (n % 2 ^ 52))
+    at : (f : Format) → Number.zero ≡ finiteOrZero (ofFields f s (ones f) t)
+    at binary32 = go (eqb t 0)
+    at binary64 = go (eqb t 0)
 
-  pub reads-finite : (n % 2 ^ 63 / 2 ^ 52 ≡ 2047 → ⊥) → ofBits binary64 n ≡ finiteOrZero (ofBits binary64 n)
+module _ (f : Format) (n : ℕ) where
+  pub reads-silence : n % top f / hid f ≡ ones f → Number.zero ≡ finiteOrZero (ofBits f n)
   unfolding ofBits
-  reads-finite h = fields-kept _ (n % 2 ^ 63 / 2 ^ 52) _ (ne-eqb _ _ h)
+  reads-silence h = rw h (fields-silenced f _ (n % hid f))
 
-  pub finite-number : (n % 2 ^ 63 / 2 ^ 52 ≡ 2047 → ⊥) → T (not (nanBits binary64 n))
-  unfolding nanBits
-  finite-number h = rw (ne-eqb (n % 2 ^ 63 / 2 ^ 52) 2047 h) tt
+  module _ (h : n % top f / hid f ≡ ones f → ⊥) where
+    pub reads-finite : ofBits f n ≡ finiteOrZero (ofBits f n)
+    unfolding ofBits
+    reads-finite = fields-kept f _ (n % top f / hid f) _ (ne-eqb _ _ h)
+
+    pub finite-number : T (not (nanBits f n))
+    unfolding nanBits
+    finite-number = rw (ne-eqb (n % top f / hid f) (ones f) h) tt
+
+    pub finite-value : T (not (isNan (ofBits f n)))
+    finite-value = subst (λ (b : Bool). T (not b)) (nanBits-is f n) finite-number

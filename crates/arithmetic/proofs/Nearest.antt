@@ -1,5 +1,5 @@
--- `narrowed` is the nearest f32 in the request's words (`Nearest`, specs/Narrow.antt), for every finite f64 below 2^128 − 2^103 in magnitude, and an infinity from there on.
--- The words leave no choice: what meets them is `narrowed x` (`nearest-only`).
+-- `narrowed` is what the request's words say (`Rounded`, specs/Narrow.antt): the nearest f32 of every finite f64 below 2^128 − 2^103 in magnitude, and an infinity from there on.
+-- The words leave no choice: what meets them is `narrowed x` (`rounded-only`).
 use mathlib.Core.Path.{_≡_, refl, sym, ap, _∙_, subst}
 use mathlib.Core.Bool.{Bool, true, false, Bool·beq, cond}
 use Prim.Native.Nat.{ℕ, _+_, _-_, _*_, _/_, _%_, _^_, _≤_, _<_, max}
@@ -14,7 +14,7 @@ use lib.Ieee.Nearest.{closest}
 use lib.Ieee.Scale.{finite}
 use borrow.Author.Tests.{leb-true, leb-false}
 use Rattle.arithmetic.specs.Number.{signOf}
-use Rattle.arithmetic.specs.Narrow.{narrowed, unitsOf, spacing, overflow, apart, Nearest}
+use Rattle.arithmetic.specs.Narrow.{narrowed, unitsOf, spacing, overflow, apart, Nearest, Rounded}
 use Rattle.arithmetic.proofs.Exact32.{digits, value-unique, narrowed-fits}
 use Rattle.arithmetic.proofs.Units.{grid, units-value, narrowed-value, narrowed-over}
 use Rattle.arithmetic.proofs.Closest.{gap, closest-near, closest-half, closest-only, no-nearer, grid-below, grid-above}
@@ -98,17 +98,18 @@ held (fin s m e) p f =
 positive : (n : ℕ) → 0 < spacing n
 positive n = pow-pos (max (size n) 949 - 24)
 
-meets : (x y : Float) → T (finite y) → T (fits binary32 y) → signOf y ≡ signOf x → unitsOf y ≡ grid (unitsOf x) → Nearest x y
-meets x y k f s e =
+meets : (x y : Float) → T (finite x) → T (finite y) → T (fits binary32 y) → signOf y ≡ signOf x → unitsOf y ≡ grid (unitsOf x) → Nearest x y
+meets x y q k f s e =
     let n = unitsOf x in
     let u = spacing n in
     let d : apart x y ≡ gap n (grid n) = alike x y s ∙ ap (gap n) e in
     record {
+      some = q;
       known = k;
       held = f;
       signed = s;
-      none-nearer = λ z p q.
-          let v = held z p q in
+      none-nearer = λ z p r.
+          let v = held z p r in
           le-trans (le-of-eq d) (le-trans (no-nearer n (v .m) (v .i) (v .few) (v .low)) (le-trans (le-of-eq (ap (gap n) (sym (v .is)))) (at-least x z)));
       near = subst (λ (z : ℕ). z * 2 ≤ u) (sym d) (closest-half n u (positive n));
       whole = ap (λ (z : ℕ). z % u) e ∙ mul-mod-left (closest n u) u;
@@ -145,7 +146,7 @@ narrowed-nearest (fin s m e) f p h =
     let x = fin s m e in
     let g = grid (unitsOf x) in
     let v = narrowed-value s m e f (grid-below (unitsOf x) h) in
-    meets x (narrowed x) (says-finite (narrowed x) s g (2 ^ 1074) v) (narrowed-fits x) (says-sign (narrowed x) s g (2 ^ 1074) v) (says-units (narrowed x) s g v)
+    meets x (narrowed x) p (says-finite (narrowed x) s g (2 ^ 1074) v) (narrowed-fits x) (says-sign (narrowed x) s g (2 ^ 1074) v) (says-units (narrowed x) s g v)
 
 pub narrowed-infinite : (x : Float) → T (fits binary64 x) → T (finite x) → overflow ≤ unitsOf x → narrowed x ≡ inf (signOf x)
 narrowed-infinite nan f p h = absurd p
@@ -167,12 +168,30 @@ none-nearest x y l h =
     not-le-of-lt (v .fine) (subst (λ (z : ℕ). 2 ^ 1202 ≤ z) (sym (met x y h) ∙ v .is) (grid-above (unitsOf x) l))
 
 -- and below it `narrowed x` alone does
-pub nearest-only : (x y : Float) → T (fits binary64 x) → T (finite x) → Nearest x y → y ≡ narrowed x
-nearest-only nan y f p h = absurd p
-nearest-only (inf s) y f p h = absurd p
-nearest-only (fin s m e) y f p h =
+pub nearest-only : (x y : Float) → T (fits binary64 x) → Nearest x y → y ≡ narrowed x
+nearest-only nan y f h = absurd (h .some)
+nearest-only (inf s) y f h = absurd (h .some)
+nearest-only (fin s m e) y f h =
     let x = fin s m e in
     let g = grid (unitsOf x) in
     value-unique binary32 y (narrowed x) s g (2 ^ 1074) (pow-pos 1074) (h .held) (narrowed-fits x)
     (own-value y s g (h .known) (h .held) (h .signed) (met x y h))
     (narrowed-value s m e f (grid-below (unitsOf x) (lt-of-not-le (λ l. none-nearest x y l h))))
+
+-- ---- every f64
+pub narrowed-rounded : (x : Float) → T (fits binary64 x) → Rounded x (narrowed x)
+narrowed-rounded x f = record {
+  nearest = narrowed-nearest x f;
+  past = narrowed-infinite x f;
+  infinite = λ s e. ap narrowed e ∙ narrowed-inf s;
+  not-a-number = λ e. ap narrowed e ∙ narrowed-nan;
+}
+
+pub rounded-only : (x y : Float) → T (fits binary64 x) → Rounded x y → y ≡ narrowed x
+rounded-only nan y f h = h .not-a-number refl ∙ sym narrowed-nan
+rounded-only (inf s) y f h = h .infinite s refl ∙ sym (narrowed-inf s)
+rounded-only (fin s m e) y f h = go (leb overflow (unitsOf (fin s m e))) refl
+  where
+    go : (b : Bool) → leb overflow (unitsOf (fin s m e)) ≡ b → y ≡ narrowed (fin s m e)
+    go true l = let k = leb-true overflow (unitsOf (fin s m e)) l in h .past tt k ∙ sym (narrowed-infinite (fin s m e) f tt k)
+    go false l = nearest-only (fin s m e) y f (h .nearest tt (leb-false overflow (unitsOf (fin s m e)) l))

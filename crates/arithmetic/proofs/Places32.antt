@@ -17,20 +17,14 @@ use lib.Ieee.Exact.{HasValue}
 use lib.Ieee.Fits.{down-pos, kept-lt, nearest-le}
 use lib.Ieee.Nearest.{closest, closest-same}
 use Rattle.arithmetic.specs.Narrow.{overflow, unitsOf, spacing}
+use Rattle.arithmetic.specs.Part.{leastNormalBits, overflowBits}
 use Rattle.arithmetic.proofs.Units.{grid, powers, units-shifted}
 use Rattle.arithmetic.proofs.Exact32
 use Rattle.arithmetic.proofs.Closest.{Compared, compared, grid-below, grid-above}
 
--- ---- the patterns of 2^−126, from which on an f32 has all its digits, and of 2^128 − 2^103, from which on it is an infinity
-abbrev pub leastNormal : ℕ
-leastNormal = 0x3810_0000_0000_0000
-
-abbrev pub overflows : ℕ
-overflows = 0x47ef_ffff_f000_0000
-
 -- ---- the code's rounding: with half a unit less one added, and one more where the quotient is odd
-pub nearest-is : (n u : ℕ) → 0 < u → u % 2 ≡ 0 → (n + (u / 2 - 1) + n / u % 2) / u ≡ closest n u
-nearest-is n u U even =
+pub closest-is : (n u : ℕ) → 0 < u → u % 2 ≡ 0 → (n + (u / 2 - 1) + n / u % 2) / u ≡ closest n u
+closest-is n u U even =
     ap (λ (z : ℕ). z / u) shape
     ∙ mul-add-div-right U (n / u) (n % u + (u / 2 - 1) + n / u % 2)
     ∙ go (compare (n % u * 2) u) (compared (n % u * 2) u)
@@ -69,16 +63,16 @@ bits-of f (fin t m e) s n v =
     ap (λ (b : Bool). toBits f (fin b m e)) (v .0)
     ∙ ap (λ (x : ℕ). cond s (top f) 0 + (size x - prec f) * hid f + x / 2 ^ (size x - prec f)) (ap (λ (z : ℕ). z / down e) (v .1) ∙ mul-div-cancel n (down-pos e))
 
--- what an f64 keeps of n units: their last digit's place, and the digits
+-- what an f64 keeps of n units: their last digit's place, and the significand, of 53 digits at most
 abbrev pub place : ℕ → ℕ
 place n = size n - 53
 
-abbrev pub digits : ℕ → ℕ
-digits n = n / 2 ^ place n
+abbrev pub significand : ℕ → ℕ
+significand n = n / 2 ^ place n
 
 -- a pattern without its sign
 abbrev pub pattern : ℕ → ℕ
-pattern n = place n * 2 ^ 52 + digits n
+pattern n = place n * 2 ^ 52 + significand n
 
 size-of : (n i j : ℕ) → j ≡ suc i → 2 ^ i ≤ n → n < 2 ^ j → size n ≡ j
 size-of n i j e h k = le-antisymm (size-le n j k) (omega (arith, lt-of-not-le (λ (g : size n ≤ i). not-le-of-lt (lt-of-lt-of-le (size-lt n) (pow-mono g)) h)))
@@ -102,13 +96,13 @@ pattern-of w j a b = go (eq-or-lt-of-le b)
 
 -- ---- a finite value's units and its pattern
 pub record Split (s : Bool) (n b : ℕ) : Type 0 where
-  pub is : n ≡ digits n * 2 ^ place n
-  pub few : digits n < 2 ^ 53
-  pub full : 0 < place n → 2 ^ 52 ≤ digits n
+  pub is : n ≡ significand n * 2 ^ place n
+  pub few : significand n < 2 ^ 53
+  pub full : 0 < place n → 2 ^ 52 ≤ significand n
   pub small : pattern n < 2 ^ 63
   pub bits : b ≡ cond s (2 ^ 63) 0 + pattern n
 
-kept-whole : (n m i : ℕ) → n ≡ m * 2 ^ i → m < 2 ^ 53 → n ≡ digits n * 2 ^ place n
+kept-whole : (n m i : ℕ) → n ≡ m * 2 ^ i → m < 2 ^ 53 → n ≡ significand n * 2 ^ place n
 kept-whole n m i e h =
     let j = place n in
     let l : size n ≤ 53 + i = size-le n (53 + i) (subst (λ (z : ℕ). z < 2 ^ (53 + i)) (sym e) (shl-lt 53 i h)) in
@@ -144,10 +138,10 @@ rounding n q = (n + (2 ^ 29 / 2 - 1) + n / 2 ^ 29 % 2) / 2 ^ 29 ≡ q
 
 -- of the digits those that an f32 keeps
 abbrev kept : ℕ → ℕ
-kept n = closest (digits n) (2 ^ 29)
+kept n = closest (significand n) (2 ^ 29)
 
 pub rounding-of : (n : ℕ) → rounding n (closest n (2 ^ 29))
-rounding-of n = nearest-is n (2 ^ 29) (lit< tt) refl
+rounding-of n = closest-is n (2 ^ 29) (lit< tt) refl
 
 least : (w q : ℕ) → rounding w q → 2 ^ 52 ≤ w → 2 ^ 52 ≤ q * 2 ^ 29
 least w q h l = omega arith
@@ -168,21 +162,21 @@ above a w b p q e h k = carry (b / 2 ^ 29 % 2) h (ap (λ (t : ℕ). (w + (2 ^ 29
     carry t h k = omega (arith, e, h, k)
 
 -- w × 2^j units against 2^128 − 2^103, by their pattern
-under-overflow : (w j : ℕ) → 2 ^ 52 ≤ w → w < 2 ^ 53 → j * 2 ^ 52 + w < overflows → w * 2 ^ j < overflow
+under-overflow : (w j : ℕ) → 2 ^ 52 ≤ w → w < 2 ^ 53 → j * 2 ^ 52 + w < overflowBits → w * 2 ^ j < overflow
 under-overflow w j a b l = go (eq-or-lt-of-le {n = j} {m = 1149} (omega arith))
   where
     go : (j ≡ 1149) ⊎ (j < 1149) → w * 2 ^ j < overflow
     go (inl e) = subst (λ (z : ℕ). w * 2 ^ z < overflow) (sym e) (mul-lt-mul-of-pos-right {m = w} {n = 2 ^ 53 - 2 ^ 28} {k = 2 ^ 1149} (omega arith) (pow-pos 1149))
     go (inr h) = lt-of-lt-of-le (shl-lt 53 j b) (le-trans (pow-mono {i = 53 + j} {j = 1201} (omega arith)) (lit≤ tt))
 
-over-overflow : (w j : ℕ) → 2 ^ 52 ≤ w → w < 2 ^ 53 → overflows ≤ j * 2 ^ 52 + w → overflow ≤ w * 2 ^ j
+over-overflow : (w j : ℕ) → 2 ^ 52 ≤ w → w < 2 ^ 53 → overflowBits ≤ j * 2 ^ 52 + w → overflow ≤ w * 2 ^ j
 over-overflow w j a b l = go (eq-or-lt-of-le {n = 1149} {m = j} (omega arith))
   where
     go : (1149 ≡ j) ⊎ (1149 < j) → overflow ≤ w * 2 ^ j
     go (inl e) = subst (λ (z : ℕ). overflow ≤ w * 2 ^ z) e (mul-le-mul-right {m = 2 ^ 53 - 2 ^ 28} {n = w} (2 ^ 1149) (omega arith))
     go (inr h) = le-trans (le-trans (lit≤ tt) (pow-mono {i = 1202} {j = 52 + j} (omega arith))) (le-trans (le-of-eq (pow-add 2 52 j)) (mul-le-mul-right (2 ^ j) a))
 
--- a normal pattern's digits, and how many of their places lie below 2^−149
+-- a normal pattern's significand, and how many of their places lie below 2^−149
 abbrev pub digitsAt : ℕ → ℕ
 digitsAt b = 2 ^ 52 + b % 2 ^ 52
 
@@ -193,7 +187,7 @@ module _ (s : Bool) (n b : ℕ) (p : Split s n b) where
   pub magnitude : b % 2 ^ 63 ≡ pattern n
   magnitude = omega (arith, p .bits, sign-is s (2 ^ 63), p .small)
 
-  module _ (normal : leastNormal ≤ b % 2 ^ 63) where
+  module _ (normal : leastNormalBits ≤ b % 2 ^ 63) where
     high : 896 ≤ place n
     high = omega (arith, magnitude, p .few)
 
@@ -208,30 +202,30 @@ module _ (s : Bool) (n b : ℕ) (p : Split s n b) where
       where
         same : closest n (spacing n) ≡ kept n
         same =
-            closest-same n (spacing n) (digits n) (2 ^ 29) (pow-pos (max (size n) 949 - 24)) (pow-pos 29)
-            (ap (λ (z : ℕ). z * 2 ^ 29) (p .is) ∙ mul-right-comm (digits n) (2 ^ place n) (2 ^ 29) ∙ mul-assoc (digits n) (2 ^ 29) (2 ^ place n) ∙ ap (λ (z : ℕ). digits n * z) (sym spacing-is))
+            closest-same n (spacing n) (significand n) (2 ^ 29) (pow-pos (max (size n) 949 - 24)) (pow-pos 29)
+            (ap (λ (z : ℕ). z * 2 ^ 29) (p .is) ∙ mul-right-comm (significand n) (2 ^ place n) (2 ^ 29) ∙ mul-assoc (significand n) (2 ^ 29) (2 ^ place n) ∙ ap (λ (z : ℕ). significand n * z) (sym spacing-is))
 
     lo : 2 ^ 52 ≤ kept n * 2 ^ 29
-    lo = least (digits n) (kept n) (rounding-of (digits n)) (p .full (omega (arith, high)))
+    lo = least (significand n) (kept n) (rounding-of (significand n)) (p .full (omega (arith, high)))
 
     hi : kept n * 2 ^ 29 ≤ 2 ^ 53
-    hi = most (digits n) (kept n) (rounding-of (digits n)) (p .few)
+    hi = most (significand n) (kept n) (rounding-of (significand n)) (p .few)
 
     -- the code's number is the pattern of the rounded value
     pub normal-bits : closest b (2 ^ 29) * 2 ^ 29 ≡ cond s (2 ^ 63) 0 + pattern (grid n)
     normal-bits =
-        above (cond s 1 0 * 2 ^ 33 + place n * 2 ^ 22) (digits n) b (closest b (2 ^ 29)) (kept n) (omega (arith, p .bits, sign-is s (2 ^ 63))) (rounding-of b) (rounding-of (digits n))
+        above (cond s 1 0 * 2 ^ 33 + place n * 2 ^ 22) (significand n) b (closest b (2 ^ 29)) (kept n) (omega (arith, p .bits, sign-is s (2 ^ 63))) (rounding-of b) (rounding-of (significand n))
         ∙ regroup (cond s 1 0) (cond s (2 ^ 63) 0) (place n) (kept n * 2 ^ 29) (sign-is s (2 ^ 63))
         ∙ ap (λ (z : ℕ). cond s (2 ^ 63) 0 + z) (sym (ap pattern grid-is ∙ pattern-of (kept n * 2 ^ 29) (place n) lo hi))
       where
         regroup : (c d j g : ℕ) → d ≡ c * 2 ^ 63 → (c * 2 ^ 33 + j * 2 ^ 22) * 2 ^ 30 + g ≡ d + (j * 2 ^ 52 + g)
         regroup c d j g e = omega arith
 
-    pub normal-under : b % 2 ^ 63 < overflows → grid n < 2 ^ 1202
-    normal-under h = grid-below n (subst (λ (z : ℕ). z < overflow) (sym (p .is)) (under-overflow (digits n) (place n) (p .full (omega (arith, high))) (p .few) (omega (arith, magnitude))))
+    pub normal-under : b % 2 ^ 63 < overflowBits → grid n < 2 ^ 1202
+    normal-under h = grid-below n (subst (λ (z : ℕ). z < overflow) (sym (p .is)) (under-overflow (significand n) (place n) (p .full (omega (arith, high))) (p .few) (omega (arith, magnitude))))
 
-    pub normal-over : overflows ≤ b % 2 ^ 63 → 2 ^ 1202 ≤ grid n
-    normal-over h = grid-above n (subst (λ (z : ℕ). overflow ≤ z) (sym (p .is)) (over-overflow (digits n) (place n) (p .full (omega (arith, high))) (p .few) (omega (arith, magnitude))))
+    pub normal-over : overflowBits ≤ b % 2 ^ 63 → 2 ^ 1202 ≤ grid n
+    normal-over h = grid-above n (subst (λ (z : ℕ). overflow ≤ z) (sym (p .is)) (over-overflow (significand n) (place n) (p .full (omega (arith, high))) (p .few) (omega (arith, magnitude))))
 
   -- ---- below 2^−126 it keeps whole numbers of 2^−149, each of 2^925 units
   below-place : (k : ℕ) → b % 2 ^ 63 < k * 2 ^ 52 → n < 2 ^ (53 + (k - 2))
@@ -241,7 +235,7 @@ module _ (s : Bool) (n b : ℕ) (p : Split s n b) where
       go (inl e) = omega arith
       go (inr l) = omega (arith, magnitude, p .full l)
 
-  module _ (small : b % 2 ^ 63 < leastNormal) where
+  module _ (small : b % 2 ^ 63 < leastNormalBits) where
     small-spacing : spacing n ≡ 2 ^ 925
     small-spacing = ap (λ (z : ℕ). 2 ^ z) (least-spacing (size n) (size-le n 948 (below-place 897 small)))
       where
@@ -257,18 +251,18 @@ module _ (s : Bool) (n b : ℕ) (p : Split s n b) where
     pub small-under : grid n < 2 ^ 1202
     small-under = subst (λ (z : ℕ). z < 2 ^ 1202) (sym small-grid) (lt-of-le-of-lt (mul-le-mul-right (2 ^ 925) count-le) (lit< tt))
 
-    -- counted from the digits, where there are any
+    -- counted from the significand, where there are any
     pub count-is : 873 ≤ b % 2 ^ 63 / 2 ^ 52 → closest n (2 ^ 925) ≡ closest (digitsAt b) (2 ^ unitPlace b)
     count-is h =
         let l : 872 ≤ place n = omega (arith, magnitude, p .few) in
         let f = p .full (omega (arith, l)) in
-        let w : digits n ≡ 2 ^ 52 + b % 2 ^ 52 = omega (arith, p .bits, sign-is s (2 ^ 63), p .few, f) in
+        let w : significand n ≡ 2 ^ 52 + b % 2 ^ 52 = omega (arith, p .bits, sign-is s (2 ^ 63), p .few, f) in
         let i : 925 - place n ≡ unitPlace b = omega (arith, magnitude, p .few, f, l) in
-        closest-same n (2 ^ 925) (digits n) (2 ^ (925 - place n)) (pow-pos 925) (pow-pos (925 - place n))
+        closest-same n (2 ^ 925) (significand n) (2 ^ (925 - place n)) (pow-pos 925) (pow-pos (925 - place n))
         (ap (λ (z : ℕ). z * 2 ^ (925 - place n)) (p .is)
-        ∙ mul-assoc (digits n) (2 ^ place n) (2 ^ (925 - place n))
-        ∙ ap (λ (z : ℕ). digits n * z) (sym (powers 925 (place n) (925 - place n) (omega (arith, small, magnitude, f)))))
-        ∙ ap (λ (z : ℕ). closest (digits n) (2 ^ z)) i
+        ∙ mul-assoc (significand n) (2 ^ place n) (2 ^ (925 - place n))
+        ∙ ap (λ (z : ℕ). significand n * z) (sym (powers 925 (place n) (925 - place n) (omega (arith, small, magnitude, f)))))
+        ∙ ap (λ (z : ℕ). closest (significand n) (2 ^ z)) i
         ∙ ap (λ (z : ℕ). closest z (2 ^ unitPlace b)) w
 
     pub count-none : b % 2 ^ 63 / 2 ^ 52 < 873 → closest n (2 ^ 925) ≡ 0

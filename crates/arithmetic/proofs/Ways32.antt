@@ -1,25 +1,27 @@
 -- What the ways of `narrow` return, each the nearest f32: `narrow-nan`, `narrow-normal` and `narrow-over`; `narrow-none` and `narrow-small` for what lies below 2^−126.
 use mathlib.Core.Path.{_≡_, refl, sym, ap, _∙_, subst}
-use mathlib.Core.Bool.{Bool, true, false, not, _&&_, cond}
+use mathlib.Core.Bool.{Bool, true, false, not, _&&_, cond, true≢false}
 use Prim.Native.Nat.{ℕ, _+_, _-_, _*_, _/_, _%_, _^_, _≤_, _<_, compare}
 use native.Mathlib.Nat.{mul-mod-left, one-mul, add-assoc, le-trans, le-of-eq, lt-of-lt-of-le, lt-of-le-of-lt, add-zero, mul-assoc, div-one}
 use native.Mathlib.Omega.{arith}
 use lib.Dec.{T, leb, ltb, lit<}
 use lib.Pow.{pow-pos, pow-mono, shl-exact, shr-lt}
-use lib.Ieee.{Float, nan, inf, fin, binary32, binary64, size, fits, ne, ofBits, toBits, nanBits}
+use lib.Ieee.{Float, nan, inf, fin, binary32, binary64, size, fits, ne, isNan, ofBits, toBits, nanBits}
 use denote.Floats.{passes}
 use lib.Ieee.Compare.{differs-from-itself}
 use lib.Ieee.Bits.{ofBits-toBits, toBits-ofBits, toBits-lt, ofBits-fits, nanBits-is}
 use lib.Ieee.Digits.{size-le}
 use lib.Ieee.Fits.{fits-widens, nearest-le, inf-fits}
 use lib.Ieee.Nearest.{closest}
+use lib.Ieee.Scale.{finite}
 use borrow.Author.Tests.{leb-true, ltb-true, ltb-false, le-leb}
 use Rattle.arithmetic.specs.Narrow.{narrowed, unitsOf}
+use Rattle.arithmetic.specs.Part.{leastNormalBits, overflowBits, magnitudeOf, isNormal}
 use Rattle.arithmetic.proofs.Order.{clash, and-true}
 use Rattle.arithmetic.proofs.NanPattern.{reads-number}
 use Rattle.arithmetic.proofs.Exact32.{narrowed-fits}
 use Rattle.arithmetic.proofs.Units.{grid, narrowed-value, narrowed-over, rescale, powers}
-use Rattle.arithmetic.proofs.Places32.{leastNormal, overflows, bits-of, place, digits, Split, split, sign-is, rounding, rounding-of, magnitude, normal-bits, normal-under, normal-over, small-grid, count-le, small-under, count-is, count-none, digitsAt, unitPlace}
+use Rattle.arithmetic.proofs.Places32.{bits-of, place, significand, Split, split, sign-is, rounding, rounding-of, magnitude, normal-bits, normal-under, normal-over, small-grid, count-le, small-under, count-is, count-none, digitsAt, unitPlace}
 
 count-bits : (s : Bool) (q : ℕ) → q ≤ 2 ^ 23 → cond s (2 ^ 31) 0 + (size q - 24) * 2 ^ 23 + q / 2 ^ (size q - 24) ≡ cond s (2 ^ 31) 0 + q
 count-bits s q h =
@@ -38,13 +40,6 @@ bits-nan : toBits binary64 nan ≡ 0x7ff8_0000_0000_0000
 unfolding toBits
 bits-nan = refl
 
--- a pattern without its sign, and the code's first test of it
-abbrev magnitudeOf : Float → ℕ
-magnitudeOf x = toBits binary64 x % 2 ^ 63
-
-abbrev isNormal : ℕ → Bool
-isNormal m = leb (leastNormal) m && ltb m overflows
-
 -- an infinity's pattern with the sign of b
 abbrev infinityAt : ℕ → ℕ
 infinityAt b = b - b % 2 ^ 63 + 0x7ff0_0000_0000_0000
@@ -52,6 +47,22 @@ infinityAt b = b - b % 2 ^ 63 + 0x7ff0_0000_0000_0000
 -- ---- the ways
 pub narrow-nan : (x : Float) → ne x x ≡ true → x ≡ narrowed x
 narrow-nan x h = subst (λ (y : Float). y ≡ narrowed y) (sym (differs-from-itself x (passes (ne x x) h))) (unfold narrowed in refl)
+
+-- neither a NaN nor an infinity has such a pattern
+pub normal-finite : (x : Float) → isNormal (magnitudeOf x) ≡ true → T (finite x)
+unfolding toBits
+normal-finite nan t = absurd (true≢false (sym t))
+normal-finite (inf true) t = absurd (true≢false (sym t))
+normal-finite (inf false) t = absurd (true≢false (sym t))
+normal-finite (fin s m e) t = tt
+
+pub normal-known : (x : Float) → isNormal (magnitudeOf x) ≡ true → T (not (isNan x))
+normal-known x t = go x (normal-finite x t)
+  where
+    go : (x : Float) → T (finite x) → T (not (isNan x))
+    go nan p = absurd p
+    go (inf s) p = absurd p
+    go (fin s m e) p = unfold isNan in tt
 
 module _ (x : Float) (f : fits binary64 x ≡ true) where
   pub bits-lt : toBits binary64 x < 2 ^ 64
@@ -62,11 +73,11 @@ module _ (x : Float) (f : fits binary64 x ≡ true) where
 
   -- all digits kept, and no infinity
   module _ (t : isNormal (magnitudeOf x) ≡ true) where
-    normal : leastNormal ≤ magnitudeOf x
-    normal = leb-true (leastNormal) (magnitudeOf x) (and-true (leb (leastNormal) (magnitudeOf x)) (ltb (magnitudeOf x) overflows) t .0)
+    normal : leastNormalBits ≤ magnitudeOf x
+    normal = leb-true leastNormalBits (magnitudeOf x) (and-true (leb leastNormalBits (magnitudeOf x)) (ltb (magnitudeOf x) overflowBits) t .0)
 
-    under : magnitudeOf x < overflows
-    under = ltb-true (magnitudeOf x) overflows (and-true (leb (leastNormal) (magnitudeOf x)) (ltb (magnitudeOf x) overflows) t .1)
+    under : magnitudeOf x < overflowBits
+    under = ltb-true (magnitudeOf x) overflowBits (and-true (leb leastNormalBits (magnitudeOf x)) (ltb (magnitudeOf x) overflowBits) t .1)
 
     pub normal-room : (0 < 2 ^ 29) × ((2 ^ 29 % 2 ≡ 0) × (toBits binary64 x + 2 ^ 29 < 2 ^ 64))
     normal-room = (lit< tt, (refl, omega (arith, bits-lt, under)))
@@ -81,13 +92,13 @@ module _ (x : Float) (f : fits binary64 x ≡ true) where
       pub normal-number : T (not (nanBits binary64 (r * 2 ^ 29)))
       normal-number = reads-number binary64 (r * 2 ^ 29) (beside (toBits binary64 x) (r * 2 ^ 29) normal under (omega (arith, near)) (omega (arith, near)))
         where
-          beside : (b g : ℕ) → leastNormal ≤ b % 2 ^ 63 → b % 2 ^ 63 < overflows → g ≤ b + 2 ^ 28 → b ≤ g + 2 ^ 28 → g % 2 ^ 63 ≤ 2047 * 2 ^ 52
+          beside : (b g : ℕ) → leastNormalBits ≤ b % 2 ^ 63 → b % 2 ^ 63 < overflowBits → g ≤ b + 2 ^ 28 → b ≤ g + 2 ^ 28 → g % 2 ^ 63 ≤ 2047 * 2 ^ 52
           beside b g l h a e = omega (arith, l, h, a, e)
 
       pub narrow-normal : ofBits binary64 (r * 2 ^ 29) ≡ narrowed x
       narrow-normal = ap (λ (q : ℕ). ofBits binary64 (q * 2 ^ 29)) R ∙ go x (passes (fits binary64 x) f) normal under
         where
-          go : (x : Float) → T (fits binary64 x) → leastNormal ≤ magnitudeOf x → magnitudeOf x < overflows → ofBits binary64 (closest (toBits binary64 x) (2 ^ 29) * 2 ^ 29) ≡ narrowed x
+          go : (x : Float) → T (fits binary64 x) → leastNormalBits ≤ magnitudeOf x → magnitudeOf x < overflowBits → ofBits binary64 (closest (toBits binary64 x) (2 ^ 29) * 2 ^ 29) ≡ narrowed x
           go nan f l h = absurd (omega (arith, h, bits-nan))
           go (inf s) f l h = absurd (omega (arith, h, bits-inf s, sign-is s (2 ^ 63)))
           go (fin s m e) f l h =
@@ -97,7 +108,7 @@ module _ (x : Float) (f : fits binary64 x ≡ true) where
               let p = split s m e f in
               ap (ofBits binary64)
               (normal-bits s n b p l
-              ∙ sym (add-assoc (cond s (2 ^ 63) 0) (place (grid n) * 2 ^ 52) (digits (grid n)))
+              ∙ sym (add-assoc (cond s (2 ^ 63) 0) (place (grid n) * 2 ^ 52) (significand (grid n)))
               ∙ sym (bits-of binary64 y s (grid n) (narrowed-value s m e f (normal-under s n b p l h))))
               ∙ ofBits-toBits binary64 y (fits-widens y (narrowed-fits (fin s m e)))
 
@@ -108,18 +119,18 @@ module _ (x : Float) (f : fits binary64 x ≡ true) where
   pub over-number : T (not (nanBits binary64 (infinityAt (toBits binary64 x))))
   over-number = reads-number binary64 (infinityAt (toBits binary64 x)) (omega (arith, bits-lt))
 
-  pub narrow-over : ne x x ≡ false → isNormal (magnitudeOf x) ≡ false → leastNormal ≤ magnitudeOf x
+  pub narrow-over : ne x x ≡ false → isNormal (magnitudeOf x) ≡ false → leastNormalBits ≤ magnitudeOf x
       → ofBits binary64 (infinityAt (toBits binary64 x)) ≡ narrowed x
   unfolding ne
   narrow-over N t l = go x (passes (fits binary64 x) f) N (past (magnitudeOf x) t l)
     where
-      past : (m : ℕ) → isNormal m ≡ false → leastNormal ≤ m → overflows ≤ m
-      past m t l = ltb-false m overflows (subst (λ (a : Bool). a && ltb m overflows ≡ false) (le-leb (leastNormal) m l) t)
+      past : (m : ℕ) → isNormal m ≡ false → leastNormalBits ≤ m → overflowBits ≤ m
+      past m t l = ltb-false m overflowBits (subst (λ (a : Bool). a && ltb m overflowBits ≡ false) (le-leb leastNormalBits m l) t)
 
       infinite : (s : Bool) (b : ℕ) → b - b % 2 ^ 63 ≡ cond s (2 ^ 63) 0 → ofBits binary64 (infinityAt b) ≡ inf s
       infinite s b e = ap (λ (z : ℕ). ofBits binary64 (z + 2047 * 2 ^ 52)) e ∙ ap (ofBits binary64) (sym (bits-inf s)) ∙ ofBits-toBits binary64 (inf s) (inf-fits binary64 s)
 
-      go : (x : Float) → T (fits binary64 x) → ne x x ≡ false → overflows ≤ magnitudeOf x → ofBits binary64 (infinityAt (toBits binary64 x)) ≡ narrowed x
+      go : (x : Float) → T (fits binary64 x) → ne x x ≡ false → overflowBits ≤ magnitudeOf x → ofBits binary64 (infinityAt (toBits binary64 x)) ≡ narrowed x
       go nan f N h = clash true refl N
       go (inf s) f N h = infinite s (toBits binary64 (inf s)) (omega (arith, bits-inf s, sign-is s (2 ^ 63))) ∙ sym (unfold narrowed in refl)
       go (fin s m e) f N h =
@@ -130,17 +141,17 @@ module _ (x : Float) (f : fits binary64 x ≡ true) where
 
 -- ---- below 2^−126
 -- the value of a pattern that is no NaN's has that pattern
-bits-back : (b : ℕ) → b < 2 ^ 64 → b % 2 ^ 63 ≤ 2047 * 2 ^ 52 → toBits binary64 (ofBits binary64 b) ≡ b
-bits-back b l h = toBits-ofBits binary64 b l (subst (λ (t : Bool). T (not t)) (nanBits-is binary64 b) (reads-number binary64 b h))
+pattern-back : (b : ℕ) → b < 2 ^ 64 → b % 2 ^ 63 ≤ 2047 * 2 ^ 52 → toBits binary64 (ofBits binary64 b) ≡ b
+pattern-back b l h = toBits-ofBits binary64 b l (subst (λ (t : Bool). T (not t)) (nanBits-is binary64 b) (reads-number binary64 b h))
 
 -- the unit as the code shifts it
 abbrev shifted : ℕ → ℕ
 shifted b = 1 * 2 ^ unitPlace b % 2 ^ 64
 
 -- some number of 2^−149: its pattern is that number
-module _ (b : ℕ) (small : b % 2 ^ 63 < leastNormal) (B : b < 2 ^ 64) where
+module _ (b : ℕ) (small : b % 2 ^ 63 < leastNormalBits) (B : b < 2 ^ 64) where
   counted : (q : ℕ) → ((s : Bool) (n : ℕ) → Split s n b → closest n (2 ^ 925) ≡ q) → ofBits binary32 (b / 2 ^ 63 * 2 ^ 31 + q) ≡ narrowed (ofBits binary64 b)
-  counted q k = go (ofBits binary64 b) (ofBits-fits binary64 b) (bits-back b B (omega (arith, small)))
+  counted q k = go (ofBits binary64 b) (ofBits-fits binary64 b) (pattern-back b B (omega (arith, small)))
     where
       go : (x : Float) → T (fits binary64 x) → toBits binary64 x ≡ b → ofBits binary32 (b / 2 ^ 63 * 2 ^ 31 + q) ≡ narrowed x
       go nan f e = absurd (omega (arith, small, e, bits-nan))

@@ -10,24 +10,23 @@ ghost use Rattle.audio.specs.Planar.{framesAt};
 ghost use Rattle.audio.specs.Format.{binaryOf, sampleBytes, bytesFor, sizeOf, placesOf, soundsOf};
 ghost use Rattle.audio.specs.Inner.{PlacesCopied, PlacesCarried, Held, HeldAll, Placed};
 use crate::format::Format;
-use crate::words::half;
-use crate::words::put_half;
 use crate::words::put_word;
+use crate::words::put_word32;
 use crate::words::word;
+use crate::words::word32;
+use arithmetic::narrow::finite_widen;
 use arithmetic::narrow::to_bits32;
-use arithmetic::narrow::widen;
 use arithmetic::pattern::finite_from_bits;
 use arithmetic::pattern::to_bits;
-use arithmetic::sanitize::finite_or_zero;
 
-// The sample at an index, sanitized.
+// The sample at an index, sanitized by a test on its pattern.
 fn sample(format: Format, bytes: &[u8], i: usize) -> f64
     requires { ⌜ i < length (placesOf format (now bytes)) ⌝ }
     ensures { λ r. ⌜ r ≡ getD (soundsOf format (now (bytes .entry))) i nan ⌝ }
 {
     match format {
         Format::F64 => finite_from_bits(word(bytes, 8 * i)),
-        Format::F32 => finite_or_zero(widen(half(bytes, 4 * i))),
+        Format::F32 => finite_widen(word32(bytes, 4 * i)),
     }
 }
 
@@ -40,7 +39,7 @@ fn put_sample(format: Format, bytes: &mut [u8], i: usize, x: f64)
 {
     match format {
         Format::F64 => put_word(bytes, 8 * i, to_bits(x)),
-        Format::F32 => put_half(bytes, 4 * i, to_bits32(x)),
+        Format::F32 => put_word32(bytes, 4 * i, to_bits32(x)),
     }
 }
 

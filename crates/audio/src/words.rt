@@ -1,4 +1,4 @@
-// Words in bytes, low byte first: eight bytes each, or four for a half.
+// Words in bytes, low byte first: of 64 bits, and of 32.
 ghost use mathlib.Core.Path.{_≡_};
 ghost use mathlib.Core.List.{[], _∷_};
 ghost use Prim.Native.Nat.{_+_, _*_, _%_, _≤_};
@@ -37,19 +37,19 @@ pub fn word(bytes: &[u8], at: usize) -> u64
     )
 }
 
-// The half of four bytes.
-fn half_of(b0: u8, b1: u8, b2: u8, b3: u8) -> u32
+// The word of four bytes.
+fn word32_of(b0: u8, b1: u8, b2: u8, b3: u8) -> u32
     ensures { λ r. ⌜ r ≡ wordOf (b0 ∷ b1 ∷ b2 ∷ b3 ∷ []) ⌝ }
 {
     (b0 as u32) + 256 * (b1 as u32) + 65536 * (b2 as u32) + 16777216 * (b3 as u32)
 }
 
-// The half at a place.
-pub fn half(bytes: &[u8], at: usize) -> u32
+// The word of 32 bits at a place.
+pub fn word32(bytes: &[u8], at: usize) -> u32
     requires { ⌜ at + 4 ≤ length (now bytes) ⌝ }
     ensures { λ r. ⌜ r ≡ wordOf (take 4 (drop at (now (bytes .entry)))) ⌝ }
 {
-    half_of(bytes[at], bytes[at + 1], bytes[at + 2], bytes[at + 3])
+    word32_of(bytes[at], bytes[at + 1], bytes[at + 2], bytes[at + 3])
 }
 
 // The low byte of a word.
@@ -74,12 +74,12 @@ pub fn put_word(bytes: &mut [u8], at: usize, w: u64)
     bytes[at + 7] = low(w / 72057594037927936);
 }
 
-// A half into its place.
-pub fn put_half(bytes: &mut [u8], at: usize, h: u32)
+// A word of 32 bits into its place.
+pub fn put_word32(bytes: &mut [u8], at: usize, word: u32)
     requires { ⌜ at + 4 ≤ length (now bytes) ⌝ }
-    ensures { λ _. ⌜ now (bytes .exit) ≡ put (now (bytes .entry)) at (bytesOf 4 h) ⌝ }
+    ensures { λ _. ⌜ now (bytes .exit) ≡ put (now (bytes .entry)) at (bytesOf 4 word) ⌝ }
 {
-    let w = h as u64;
+    let w = word as u64;
     bytes[at] = low(w);
     bytes[at + 1] = low(w / 256);
     bytes[at + 2] = low(w / 65536);

@@ -9,7 +9,9 @@ use lib.Ieee.Fits.{cond-fits, nan-fits, mul-fits}
 use Rattle.arithmetic.specs.Number
 use Rattle.arithmetic.specs.Number.{absOf}
 use Rattle.arithmetic.specs.Sanitize.{finiteOrZero, denormalFloor, flushDenormal}
+use Rattle.arithmetic.specs.Narrow.{Rounded}
 use Rattle.arithmetic.proofs.Exact32.{narrowed-fits}
+use Rattle.arithmetic.proofs.Nearest.{narrowed-rounded}
 use Rattle.audio.specs.Format.{binaryOf}
 use Rattle.audio.specs.Inner.{HeldAll}
 use Rattle.audio.specs.declared.format.Format.{Format}
@@ -32,13 +34,21 @@ finite-fits nan h = zero-fits
 finite-fits (inf s) h = zero-fits
 finite-fits (fin s m e) h = h
 
+flushed-fits : (d gain : Float) → T (fits binary64 (flushDenormal (mul binary64 d gain)))
+flushed-fits d gain =
+    let x = mul binary64 d gain in
+    cond-fits binary64 (lt (absOf (finiteOrZero x)) denormalFloor) Number.zero (finiteOrZero x) zero-fits (finite-fits x (mul-fits binary64 d gain))
+
 -- what the output rule of a sample type makes of a product
 pub leaves-fits : (format : Format) (d gain : Float) → T (fits (binaryOf format) (leavesBy format (mul binary64 d gain)))
 unfolding leavesBy
-leaves-fits F64 d gain =
-    let x = mul binary64 d gain in
-    cond-fits binary64 (lt (absOf (finiteOrZero x)) denormalFloor) Number.zero (finiteOrZero x) zero-fits (finite-fits x (mul-fits binary64 d gain))
+leaves-fits F64 d gain = flushed-fits d gain
 leaves-fits F32 d gain = narrowed-fits (flushDenormal (mul binary64 d gain))
+
+-- "with its distance from the f64 stated over whole numbers": an output of f32 is the nearest one to what an f64's would be, or an infinity
+pub leaves-rounded : (d gain : Float) → Rounded (leavesBy F64 (mul binary64 d gain)) (leavesBy F32 (mul binary64 d gain))
+unfolding leavesBy
+leaves-rounded d gain = narrowed-rounded (flushDenormal (mul binary64 d gain)) (flushed-fits d gain)
 
 -- ---- the outputs of frames; what stands for one that is missing is a value too
 module _ (format : Format) where

@@ -10,7 +10,7 @@ ghost use Rattle.frame.specs.Rules.{leavesBy};
 ghost use Rattle.frame.specs.Frame.{givenOut};
 ghost use Rattle.frame.specs.Run.{Sanitized};
 ghost use Rattle.frame.specs.Passes.{exchangedAt, exchangeOf, productsOf, outputsAt, channelOutputs, writtenAt, outputsPass};
-use arithmetic::narrow::narrow;
+use arithmetic::narrow::narrow_flushed;
 use arithmetic::sanitize::finite_or_zero;
 use arithmetic::sanitize::flush_denormal;
 use audio::format::Format;
@@ -23,7 +23,7 @@ fn given_out(format: Format, d: f64, gain: f64) -> f64
     let product = finite_or_zero(d) * gain;
     match format {
         Format::F64 => flush_denormal(product),
-        Format::F32 => narrow(flush_denormal(product)),
+        Format::F32 => narrow_flushed(product),
     }
 }
 

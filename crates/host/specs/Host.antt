@@ -7,6 +7,7 @@ use lib.ListN.{length}
 use lib.Ieee.{Float}
 use Rattle.arithmetic.specs.Number.{bits, largest}
 use Rattle.arithmetic.specs.Reply.{Reply, refused, count}
+use Rattle.audio.specs.declared.format.Format.{Format}
 use Rattle.settings.specs.Memory.{needed}
 use Rattle.settings.specs.declared.LimiterSettings.{LimiterSettings}
 use Rattle.settings.specs.declared.ProcessSpec.{ProcessSpec}
@@ -15,7 +16,9 @@ use Rattle.limiter.specs.Stores.{Stores, storesAt}
 use Rattle.turns.specs.Machine.{Machine}
 use Rattle.driver.specs.Answers.{machineAt}
 use Rattle.driver.specs.Calls.{Left, left, bankBytes, parameterOf, setupOf, readOf}
-use Rattle.turns.specs.Block.{Outcome}
+use Rattle.turns.specs.Events.{eventsOf}
+use Rattle.turns.specs.Block.{Outcome, blockOf}
+use Rattle.turns.specs.Drain.{drainOf}
 use Rattle.state_bytes.specs.State.{stateBytes, processorOf, processorIn, stateOut}
 use Rattle.host.specs.Answer.{answeredBy}
 
@@ -55,6 +58,13 @@ unfoldable pub audioBy : (Machine → List ℕ → Outcome) → List ℕ → Lis
 audioBy call answer state stores bytes =
     let o = call (machineIn state stores) bytes in
     returnedWith (returned answer state (o .reply) (o .machine)) (o .bytes)
+
+-- of a sample type, by which the C function has its name
+abbrev pub processBy : Format → ℕ → ℕ → List ℕ → List ℕ → List ℕ → Stores → List ℕ → ReturnedAudio
+processBy format position frames words answer state stores bytes = audioBy (λ (m : Machine) (audio : List ℕ). blockOf format m position frames (eventsOf words) audio) answer state stores bytes
+
+abbrev pub flushBy : Format → ℕ → List ℕ → List ℕ → Stores → List ℕ → ReturnedAudio
+flushBy format frames answer state stores bytes = audioBy (λ (m : Machine) (audio : List ℕ). drainOf format m frames audio) answer state stores bytes
 
 -- a parameter's value crosses as its bits, which 23 gives back
 abbrev pub parameterBy : ℕ → ℕ → Machine → Left

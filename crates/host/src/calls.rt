@@ -12,16 +12,13 @@ ghost use Rattle.settings.specs.Settings.{settingsOf, processSpec};
 ghost use Rattle.settings.specs.Derived.{lookOf};
 ghost use Rattle.limiter.specs.Stores.{Stores, atEntry, atExit};
 ghost use Rattle.turns.specs.Machine.{Machine};
-ghost use Rattle.turns.specs.Events.{eventsOf};
-ghost use Rattle.turns.specs.Block.{blockOf};
-ghost use Rattle.turns.specs.Drain.{drainOf};
 ghost use Rattle.bank.specs.declared.smoother_bank.SmootherBank.{SmootherBank};
 ghost use Rattle.driver.specs.Answers.{answerReply};
 ghost use Rattle.driver.specs.Parts.{shownOf};
 ghost use Rattle.driver.specs.Calls.{resetOf, gainStep, fourAtEntry, fourAtExit};
 ghost use Rattle.state_bytes.specs.State.{stateBytes, stateOut};
 ghost use Rattle.host.specs.Answer.{replyWords, wordsOf, answered, answeredBy};
-ghost use Rattle.host.specs.Host.{returnedAt, calledBy, returnedWith, audioBy, parameterBy, readAt, valueBy, capOf, setupBy, wholeNeeded};
+ghost use Rattle.host.specs.Host.{returnedAt, calledBy, returnedWith, processBy, flushBy, parameterBy, readAt, valueBy, capOf, setupBy, wholeNeeded};
 use crate::answer::ReplyWords;
 use crate::answer::of_answer;
 use crate::answer::of_flush;
@@ -213,8 +210,7 @@ fn process_as(
     detector: &mut [f64],
 ) -> u32
     ensures { λ r. ⌜ returnedWith (returnedAt r (now (answer .exit)) (now (state .exit)) (atExit delay marks minima weights row detector)) (now (audio .exit))
-        ≡ audioBy (λ (m : Machine) (bytes : List ℕ). blockOf format m position frames (eventsOf (now (events .entry))) bytes)
-        (now (answer .entry)) (now (state .entry)) (atEntry delay marks minima weights row detector) (now (audio .entry)) ⌝ }
+        ≡ processBy format position frames (now (events .entry)) (now (answer .entry)) (now (state .entry)) (atEntry delay marks minima weights row detector) (now (audio .entry)) ⌝ }
 {
     if !is_state(state) {
         return refuse(answer, Answer::Refused(Refusal::NotSetUp));
@@ -273,8 +269,7 @@ pub extern "C" fn daggeryuzu_process(
     detector: &mut [f64],
 ) -> u32
     ensures { λ r. ⌜ returnedWith (returnedAt r (now (answer .exit)) (now (state .exit)) (atExit delay marks minima weights row detector)) (now (audio .exit))
-        ≡ audioBy (λ (m : Machine) (bytes : List ℕ). blockOf Format.F64 m position frames (eventsOf (now (events .entry))) bytes)
-        (now (answer .entry)) (now (state .entry)) (atEntry delay marks minima weights row detector) (now (audio .entry)) ⌝ }
+        ≡ processBy Format.F64 position frames (now (events .entry)) (now (answer .entry)) (now (state .entry)) (atEntry delay marks minima weights row detector) (now (audio .entry)) ⌝ }
 {
     process_as(
         Format::F64,
@@ -310,8 +305,7 @@ pub extern "C" fn daggeryuzu_process_float(
     detector: &mut [f64],
 ) -> u32
     ensures { λ r. ⌜ returnedWith (returnedAt r (now (answer .exit)) (now (state .exit)) (atExit delay marks minima weights row detector)) (now (audio .exit))
-        ≡ audioBy (λ (m : Machine) (bytes : List ℕ). blockOf Format.F32 m position frames (eventsOf (now (events .entry))) bytes)
-        (now (answer .entry)) (now (state .entry)) (atEntry delay marks minima weights row detector) (now (audio .entry)) ⌝ }
+        ≡ processBy Format.F32 position frames (now (events .entry)) (now (answer .entry)) (now (state .entry)) (atEntry delay marks minima weights row detector) (now (audio .entry)) ⌝ }
 {
     process_as(
         Format::F32,
@@ -345,8 +339,7 @@ fn flush_as(
     detector: &mut [f64],
 ) -> u32
     ensures { λ r. ⌜ returnedWith (returnedAt r (now (answer .exit)) (now (state .exit)) (atExit delay marks minima weights row detector)) (now (audio .exit))
-        ≡ audioBy (λ (m : Machine) (bytes : List ℕ). drainOf format m frames bytes)
-        (now (answer .entry)) (now (state .entry)) (atEntry delay marks minima weights row detector) (now (audio .entry)) ⌝ }
+        ≡ flushBy format frames (now (answer .entry)) (now (state .entry)) (atEntry delay marks minima weights row detector) (now (audio .entry)) ⌝ }
 {
     let p = read_state(state);
     let done = p.flush(
@@ -380,8 +373,7 @@ pub extern "C" fn daggeryuzu_flush(
     detector: &mut [f64],
 ) -> u32
     ensures { λ r. ⌜ returnedWith (returnedAt r (now (answer .exit)) (now (state .exit)) (atExit delay marks minima weights row detector)) (now (audio .exit))
-        ≡ audioBy (λ (m : Machine) (bytes : List ℕ). drainOf Format.F64 m frames bytes)
-        (now (answer .entry)) (now (state .entry)) (atEntry delay marks minima weights row detector) (now (audio .entry)) ⌝ }
+        ≡ flushBy Format.F64 frames (now (answer .entry)) (now (state .entry)) (atEntry delay marks minima weights row detector) (now (audio .entry)) ⌝ }
 {
     flush_as(
         Format::F64,
@@ -413,8 +405,7 @@ pub extern "C" fn daggeryuzu_flush_float(
     detector: &mut [f64],
 ) -> u32
     ensures { λ r. ⌜ returnedWith (returnedAt r (now (answer .exit)) (now (state .exit)) (atExit delay marks minima weights row detector)) (now (audio .exit))
-        ≡ audioBy (λ (m : Machine) (bytes : List ℕ). drainOf Format.F32 m frames bytes)
-        (now (answer .entry)) (now (state .entry)) (atEntry delay marks minima weights row detector) (now (audio .entry)) ⌝ }
+        ≡ flushBy Format.F32 frames (now (answer .entry)) (now (state .entry)) (atEntry delay marks minima weights row detector) (now (audio .entry)) ⌝ }
 {
     flush_as(
         Format::F32,

@@ -11,10 +11,8 @@ use Rattle.settings.specs.declared.ProcessSpec.{ProcessSpec}
 use Rattle.limiter.specs.Stores.{Stores}
 use Rattle.turns.specs.Machine.{Machine}
 use Rattle.turns.specs.Events.{eventsOf}
-use Rattle.turns.specs.Block.{blockOf}
-use Rattle.turns.specs.Drain.{drainOf}
 use Rattle.driver.specs.Calls.{resetOf, gainStep}
-use Rattle.host.specs.Host.{Returned, ReturnedAudio, Read, returnedWith, calledBy, audioBy, parameterBy, valueBy, setupBy}
+use Rattle.host.specs.Host.{Returned, ReturnedAudio, Read, returnedWith, calledBy, processBy, flushBy, parameterBy, valueBy, setupBy}
 use Rattle.claims.specs.Session.{Call}
 
 -- ---- the C functions that act, each with its arguments beside state, stores and answer buffer
@@ -60,8 +58,8 @@ pub record Hosting : Type 0 where
 
 -- the one that the code meets: the definitions that the contracts of `host` cite
 abbrev pub hostCalled : HostCall → List ℕ → List ℕ → Stores → ReturnedAudio
-hostCalled (process format position frames words bytes) answer state stores = audioBy (λ (m : Machine) (audio : List ℕ). blockOf format m position frames (eventsOf words) audio) answer state stores bytes
-hostCalled (flush format frames bytes) answer state stores = audioBy (λ (m : Machine) (audio : List ℕ). drainOf format m frames audio) answer state stores bytes
+hostCalled (process format position frames words bytes) answer state stores = processBy format position frames words answer state stores bytes
+hostCalled (flush format frames bytes) answer state stores = flushBy format frames answer state stores bytes
 hostCalled (setParameter id word) answer state stores = returnedWith (calledBy (parameterBy id word) answer state stores) []
 hostCalled reset answer state stores = returnedWith (calledBy resetOf answer state stores) []
 

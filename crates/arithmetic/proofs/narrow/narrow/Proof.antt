@@ -3,7 +3,7 @@ use mathlib.Core.Path.{ap, _∙_}
 use borrow.Author.Needs.{needs}
 use Rattle.arithmetic.specs.Narrow.{narrowed}
 use Rattle.arithmetic.proofs.NanPattern.{writes-number}
-use Rattle.arithmetic.proofs.Ways32.{narrow-nan, bits-lt, read-back, normal-room, normal-fits, normal-number, narrow-normal, over-fits, over-number, narrow-over}
+use Rattle.arithmetic.proofs.Ways32.{narrow-nan, bits-lt, read-back, over-fits, over-number, narrow-over}
 use Rattle.arithmetic.proofs.narrow.narrow.Statement.{statement}
 use Rattle.arithmetic.proofs.narrow.narrow.Tie as tie
 
@@ -13,17 +13,11 @@ returns c = narrow-nan (c .before .args .x) (c .if1 .taken)
 float-to-bits-b : tie.Need-float-to-bits-b
 float-to-bits-b c = writes-number (c .before .args .x) (c .if1 .left)
 
-nearest-requires : tie.Need-nearest-requires
-nearest-requires c κs = let s = c .before .before in normal-room (s .args .x) (s .good .0 .1) (c .if2 .taken)
-
-mul-result : tie.Need-mul-result
-mul-result c = let s = c .before .before .before in record { fits = normal-fits (s .args .x) (s .good .0 .1) (c .before .if2 .taken) (c .nearest .result) (c .nearest .ensures) }
-
-float-from-bits-result : tie.Need-float-from-bits-result
-float-from-bits-result c = let s = c .before .before .before in normal-number (s .args .x) (s .good .0 .1) (c .before .if2 .taken) (c .nearest .result) (c .nearest .ensures)
+narrow-normal-requires : tie.Need-narrow-normal-requires
+narrow-normal-requires c κs = c .if2 .taken
 
 returns-2 : tie.Need-returns-2
-returns-2 c = let s = c .before .before .before in narrow-normal (s .args .x) (s .good .0 .1) (c .before .if2 .taken) (c .nearest .result) (c .nearest .ensures)
+returns-2 c = c .narrow-normal .ensures
 
 narrow-small-requires : tie.Need-narrow-small-requires
 narrow-small-requires c κs = let s = c .before .before .before in (c .if3 .taken, bits-lt (s .args .x) (s .good .0 .1))
@@ -37,8 +31,8 @@ sub-result c = search needs
 add-result : tie.Need-add-result
 add-result c = let s = c .before .before .before in record { fits = over-fits (s .args .x) (s .good .0 .1) }
 
-float-from-bits-result-2 : tie.Need-float-from-bits-result-2
-float-from-bits-result-2 c = let s = c .before .before .before in over-number (s .args .x) (s .good .0 .1)
+float-from-bits-result : tie.Need-float-from-bits-result
+float-from-bits-result c = let s = c .before .before .before in over-number (s .args .x) (s .good .0 .1)
 
 returns-4 : tie.Need-returns-4
 returns-4 c = let s = c .before .before .before in narrow-over (s .args .x) (s .good .0 .1) (c .before .before .if1 .left) (c .before .if2 .left) (c .if3 .left)
@@ -46,4 +40,4 @@ returns-4 c = let s = c .before .before .before in narrow-over (s .args .x) (s .
 pub narrow-spec : {M : Type 1} → statement M
 narrow-spec =
     tie.close
-    (tie.spec returns float-to-bits-b nearest-requires mul-result float-from-bits-result returns-2 narrow-small-requires returns-3 sub-result add-result float-from-bits-result-2 returns-4)
+    (tie.spec returns float-to-bits-b narrow-normal-requires returns-2 narrow-small-requires returns-3 sub-result add-result float-from-bits-result returns-4)

@@ -8,7 +8,7 @@ use Rattle.arithmetic.proofs.narrow.narrow_small.Statement.{statement}
 use Rattle.arithmetic.proofs.narrow.narrow_small.Tie as tie
 use Rattle.arithmetic.proofs.narrow.narrow_small.Reads as reads
 use Rattle.arithmetic.proofs.narrow.narrow_small.Lts as lts
-use Rattle.arithmetic.proofs.narrow.nearest.Reads as nearest-reads
+use Rattle.arithmetic.proofs.narrow.closest_to.Reads as closest-reads
 use Rattle.arithmetic.proofs.narrow.widen.Reads as widen-reads
 
 mul-sign : tie.Need-mul-sign
@@ -26,18 +26,18 @@ returns c = c .widen .ensures ∙ narrow-none (c .before .before .args .b) (c .b
 add-digits : tie.Need-add-digits
 add-digits c = search needs
 
-sub-nearest : tie.Need-sub-nearest
-sub-nearest c = search needs
+sub-closest-to : tie.Need-sub-closest-to
+sub-closest-to c = search needs
 
-shl-nearest : tie.Need-shl-nearest
-shl-nearest c = search needs
+shl-closest-to : tie.Need-shl-closest-to
+shl-closest-to c = search needs
 
-nearest-requires : tie.Need-nearest-requires
-nearest-requires c κs = unit-fine (c .before .args .b) (c .before .pre .0) (c .before .pre .1) (c .if1 .left)
+closest-to-requires : tie.Need-closest-to-requires
+closest-to-requires c κs = unit-fine (c .before .args .b) (c .before .pre .0) (c .before .pre .1) (c .if1 .left)
 
 -- the count
-few : (c : lts.After-nearest (widen-reads.Asked, widen-reads.Learnt, nearest-reads.Asked, nearest-reads.Learnt) reads.Pre reads.Post) → c .nearest .result ≤ 2 ^ 23
-few c = count-few (c .before .before .args .b) (c .before .before .pre .0) (c .before .before .pre .1) (c .before .if1 .left) (c .nearest .result) (c .nearest .ensures)
+few : (c : lts.After-closest-to (widen-reads.Asked, widen-reads.Learnt, closest-reads.Asked, closest-reads.Learnt) reads.Pre reads.Post) → c .closest-to .result ≤ 2 ^ 23
+few c = count-few (c .before .before .args .b) (c .before .before .pre .0) (c .before .before .pre .1) (c .before .if1 .left) (c .closest-to .result) (c .closest-to .ensures)
 
 add-widen : tie.Need-add-widen
 add-widen c = omega (arith, few c)
@@ -49,9 +49,9 @@ widen-requires-2 : tie.Need-widen-requires-2
 widen-requires-2 c κs = search needs
 
 returns-2 : tie.Need-returns-2
-returns-2 c = let r = c .before in c .widen2 .ensures ∙ narrow-small (r .before .before .args .b) (r .before .before .pre .0) (r .before .before .pre .1) (r .before .if1 .left) (r .nearest .result) (r .nearest .ensures)
+returns-2 c = let r = c .before in c .widen2 .ensures ∙ narrow-small (r .before .before .args .b) (r .before .before .pre .0) (r .before .before .pre .1) (r .before .if1 .left) (r .closest-to .result) (r .closest-to .ensures)
 
 pub narrow-small-spec : {M : Type 1} → statement M
 narrow-small-spec =
     tie.close
-    (tie.spec mul-sign cast-widen widen-requires returns add-digits sub-nearest shl-nearest nearest-requires add-widen cast-widen-2 widen-requires-2 returns-2)
+    (tie.spec mul-sign cast-widen widen-requires returns add-digits sub-closest-to shl-closest-to closest-to-requires add-widen cast-widen-2 widen-requires-2 returns-2)

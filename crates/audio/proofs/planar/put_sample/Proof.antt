@@ -49,8 +49,8 @@ put-word-requires c κs =
 enum-told-2 : tie.Need-enum-told-2
 enum-told-2 c = search needs
 
-mul-put-half : tie.Need-mul-put-half
-mul-put-half c =
+mul-put-word32 : tie.Need-mul-put-word32
+mul-put-word32 c =
     let k = c .before in
     let s = k .before .before .before in
     omega (arith, room-of (s .args .format) (now (s .args .bytes)) (s .args .i) (s .pre .1 .1) F32 (k .enum-told2 .given .1))
@@ -61,8 +61,8 @@ to-bits32-requires c κs =
     let s = k .before .before .before in
     subst (λ (f : Format). T (fits (binaryOf f) (s .args .x))) (k .enum-told2 .given .1) (s .pre .0)
 
-put-half-requires : tie.Need-put-half-requires
-put-half-requires c κs =
+put-word32-requires : tie.Need-put-word32-requires
+put-word32-requires c κs =
     let k = c .before .before in
     let s = k .before .before .before in
     room-of (s .args .format) (now (s .args .bytes)) (s .args .i) (s .pre .1 .1) F32 (k .enum-told2 .given .1)
@@ -89,7 +89,7 @@ returns-2 c =
     let k = p .before .before .before in
     let s = k .before .before .before in
     let a = s .args in
-    ap (placesOf (a .format)) (p .put-half .ensures)
+    ap (placesOf (a .format)) (p .put-word32 .ensures)
     ∙ ap (λ (w : ℕ). placesOf (a .format) (put (now (a .bytes)) (4 * a .i) (bytesOf 4 w))) (p .before .to-bits32 .ensures)
     ∙ stored-of (a .format) (now (a .bytes)) (a .i) (a .x) (s .pre .1 .1) F32 (k .enum-told2 .given .1)
 
@@ -102,9 +102,9 @@ put-sample-spec =
     to-bits-requires
     put-word-requires
     enum-told-2
-    mul-put-half
+    mul-put-word32
     to-bits32-requires
-    put-half-requires
+    put-word32-requires
     same-length
     returns
     same-length-2

@@ -42,17 +42,14 @@ finite-from-bits-requires c κs = search needs
 enum-told-2 : tie.Need-enum-told-2
 enum-told-2 c = search needs
 
-half-requires : tie.Need-half-requires
-half-requires c κs = let s = c .before .before .before in room-of (s .args .format) (now (s .args .bytes)) (s .args .i) (s .pre) F32 (c .enum-told2 .given .1)
+word32-requires : tie.Need-word32-requires
+word32-requires c κs = let s = c .before .before .before in room-of (s .args .format) (now (s .args .bytes)) (s .args .i) (s .pre) F32 (c .enum-told2 .given .1)
 
-mul-half : tie.Need-mul-half
-mul-half c = let s = c .before .before .before in omega (arith, room-of (s .args .format) (now (s .args .bytes)) (s .args .i) (s .pre) F32 (c .enum-told2 .given .1))
+mul-word32 : tie.Need-mul-word32
+mul-word32 c = let s = c .before .before .before in omega (arith, room-of (s .args .format) (now (s .args .bytes)) (s .args .i) (s .pre) F32 (c .enum-told2 .given .1))
 
-widen-requires : tie.Need-widen-requires
-widen-requires c κs = search needs
-
-finite-or-zero-requires : tie.Need-finite-or-zero-requires
-finite-or-zero-requires c κs = search needs
+finite-widen-requires : tie.Need-finite-widen-requires
+finite-widen-requires c κs = search needs
 
 returns : tie.Need-returns
 returns c =
@@ -64,11 +61,10 @@ returns c =
 
 returns-2 : tie.Need-returns-2
 returns-2 c =
-    let k = c .before .before .before in
+    let k = c .before .before in
     let s = k .before .before .before in
-    c .finite-or-zero .ensures
-    ∙ ap finiteOrZero (c .before .widen .ensures)
-    ∙ ap (λ (n : ℕ). finiteOrZero (ofBits binary32 n)) (c .before .before .half .ensures)
+    c .finite-widen .ensures
+    ∙ ap (λ (n : ℕ). finiteOrZero (ofBits binary32 n)) (c .before .word32 .ensures)
     ∙ value-of (s .args .format) (now (s .args .bytes)) (s .args .i) (s .pre) F32 (k .enum-told2 .given .1)
 
 pub sample-spec : {M : Type 1} → statement M
@@ -80,9 +76,8 @@ sample-spec =
     word-requires
     finite-from-bits-requires
     enum-told-2
-    mul-half
-    half-requires
-    widen-requires
-    finite-or-zero-requires
+    mul-word32
+    word32-requires
+    finite-widen-requires
     returns
     returns-2)

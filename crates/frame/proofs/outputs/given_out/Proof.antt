@@ -31,11 +31,8 @@ flush-denormal-requires c κs = search needs
 enum-told-2 : tie.Need-enum-told-2
 enum-told-2 c = search needs
 
-flush-denormal-requires-2 : tie.Need-flush-denormal-requires-2
-flush-denormal-requires-2 c κs = search needs
-
-narrow-requires : tie.Need-narrow-requires
-narrow-requires c κs = search needs
+narrow-flushed-requires : tie.Need-narrow-flushed-requires
+narrow-flushed-requires c κs = search needs
 
 returns : tie.Need-returns
 returns c =
@@ -45,11 +42,11 @@ returns c =
 
 returns-2 : tie.Need-returns-2
 returns-2 c =
-    let k = c .before .before in
+    let k = c .before in
     let s = k .before .before .before in
-    rw (c .narrow .ensures, c .before .flush-denormal2 .ensures, k .before .before .finite-or-zero .ensures) (narrow (s .args .format) (k .enum-told2 .given .1) _)
+    rw (c .narrow-flushed .ensures, k .before .before .finite-or-zero .ensures) (narrow (s .args .format) (k .enum-told2 .given .1) _)
 
 pub given-out-spec : {M : Type 1} → statement M
 given-out-spec =
     tie.close
-    (tie.spec finite-or-zero-requires enum-told flush-denormal-requires enum-told-2 flush-denormal-requires-2 narrow-requires returns returns-2)
+    (tie.spec finite-or-zero-requires enum-told flush-denormal-requires enum-told-2 narrow-flushed-requires returns returns-2)

@@ -1,11 +1,11 @@
--- `put_half`: byte by byte.
+-- `put_word32`: byte by byte.
 use native.Mathlib.Omega.{arith}
 use lib.ListN.{length-set}
 use denote.Ref.{now}
 use borrow.Author.Needs.{needs}
 use Rattle.audio.proofs.Numbers.{put-four, bytes-four}
-use Rattle.audio.proofs.words.put_half.Statement.{statement}
-use Rattle.audio.proofs.words.put_half.Tie as tie
+use Rattle.audio.proofs.words.put_word32.Statement.{statement}
+use Rattle.audio.proofs.words.put_word32.Tie as tie
 
 low-requires : tie.Need-low-requires
 low-requires c κs = search needs
@@ -50,10 +50,10 @@ returns c =
     let k2 = k3 .before in
     let k1 = k2 .before in
     let a = k1 .before .args in
-    rw (bytes-four (a .h), c .low4 .ensures, k4 .low3 .ensures, k3 .low2 .ensures, k2 .low .ensures) (put-four (now (a .bytes)) (a .at) _ _ _ _ (k1 .before .pre))
+    rw (bytes-four (a .word), c .low4 .ensures, k4 .low3 .ensures, k3 .low2 .ensures, k2 .low .ensures) (put-four (now (a .bytes)) (a .at) _ _ _ _ (k1 .before .pre))
 
-pub put-half-spec : {M : Type 1} → statement M
-put-half-spec =
+pub put-word32-spec : {M : Type 1} → statement M
+put-word32-spec =
     tie.close
     (tie.spec
     low-requires

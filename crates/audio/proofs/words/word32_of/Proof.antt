@@ -1,8 +1,8 @@
 use native.Mathlib.Omega.{arith}
 use borrow.Author.Needs.{needs}
 use Rattle.audio.specs.Bytes.{wordOf}
-use Rattle.audio.proofs.words.half_of.Statement.{statement}
-use Rattle.audio.proofs.words.half_of.Tie as tie
+use Rattle.audio.proofs.words.word32_of.Statement.{statement}
+use Rattle.audio.proofs.words.word32_of.Tie as tie
 
 mul-result : tie.Need-mul-result
 mul-result c = search needs
@@ -26,8 +26,8 @@ returns : tie.Need-returns
 unfolding wordOf
 returns c = omega arith
 
-pub half-of-spec : {M : Type 1} → statement M
-half-of-spec =
+pub word32-of-spec : {M : Type 1} → statement M
+word32-of-spec =
     tie.close
     (tie.spec
     mul-result
