@@ -40,7 +40,7 @@ int main(int argc, char **argv) {
             const double x = 2.0 * sin(2 * pi * 997 * (double)(at + i % BLOCK) / RATE);
             if (is_float) audio.f32[i] = (float)x;
             else audio.f64[i] = x;
-            in = fmax(in, fabs(x));
+            in = fmax(in, fabs(is_float ? audio.f32[i] : audio.f64[i]));
         }
         number = (is_float ? daggeryuzu_process_float : daggeryuzu_process)(state, sizeof state, answer,
             DAGGERYUZU_ANSWER, at, BLOCK, NULL, 0, (uint8_t *)&audio, is_float ? sizeof audio.f32 : sizeof audio.f64,
@@ -51,6 +51,6 @@ int main(int argc, char **argv) {
         fprintf(stderr, "refused: %u\n", number);
         return 1;
     }
-    printf("highest sample in %.3f, out %.3f\n", in, out);
+    printf("highest %s sample in %.10f, out %.10f\n", is_float ? "f32" : "f64", in, out);
     return 0;
 }

@@ -13,8 +13,14 @@
  * detector channels * 12. Each call gets them as the last one left them. No two slices may overlap.
  *
  * Audio is planar: channel c holds frames c * frames onward; a sample is 8 bytes, or 4 in the functions that end
- * in _float, low byte first. An f32 is widened exactly and its output rounded to the nearest, ties to even. State
- * and stores know no sample type: a block of one may follow a block of the other.
+ * in _float, low byte first. audio_len is channels * frames * 8 bytes, * 4 in _float; any other is refusal 20.
+ *
+ * An output below 1e-30 in magnitude becomes 0.0. An f32 is widened exactly, and its output is after that rounded to
+ * the nearest, ties to even; from 2^128 - 2^103 on it becomes an infinity. State and stores know no sample type: a
+ * block or a drain of one may follow either of the other.
+ *
+ * The functions expect the floating-point environment that C and Rust code start with: round to nearest, no
+ * flush-to-zero, no denormals-are-zero.
  *
  * Events are three words each: offset into the block, parameter id, bits of the value. */
 #ifndef DAGGERYUZU_H

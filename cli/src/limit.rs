@@ -26,8 +26,8 @@ pub struct Outcome {
 }
 
 /// Limits all that the reader gives, as samples of one type from the file to the
-/// sink. `sink` gets the output block by block, interleaved and rounded, and
-/// `tick` the frames read so far.
+/// sink. `sink` gets the output block by block, interleaved and as the file holds
+/// it, and `tick` the frames read so far.
 ///
 /// # Errors
 /// What the reader, the limiter, the sink or `tick` has to say.
@@ -103,8 +103,8 @@ impl<T: Sample> Out<T> {
         }
     }
 
-    /// The block's output without the latency, interleaved and rounded; an f32
-    /// out of the limiter is already what a file of them holds.
+    /// The block's output without the latency, interleaved, and rounded where the
+    /// file holds whole numbers; a float stays as the limiter gave it out.
     fn take(&mut self, planes: &[T], frames: usize) -> &[T] {
         let cut = self.late.min(frames);
         self.late -= cut;
@@ -114,8 +114,10 @@ impl<T: Sample> Out<T> {
             self.gains
                 .take(inputs.zip(frame).map(|(x, y)| (x.to_f64(), y.to_f64())));
         }
-        for x in &mut self.ready {
-            *x = T::from_f64(self.encoding.round(x.to_f64()));
+        if let Encoding::Pcm(_) = self.encoding {
+            for x in &mut self.ready {
+                *x = T::from_f64(self.encoding.round(x.to_f64()));
+            }
         }
         self.meter.take(&self.ready);
         &self.ready

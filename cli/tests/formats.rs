@@ -130,7 +130,7 @@ fn at_f32(samples: &[f32]) -> Vec<f32> {
 /// A file of 32-bit floats holds what the limiter gives out at f32, to the last
 /// bit.
 #[test]
-fn floats_are_limited_as_f32() {
+fn a_file_of_floats_holds_the_limiters_own_bits() {
     for container in [WAV, AIFF] {
         let folder = Folder::new();
         let (input, output) = (folder.at("in"), folder.at("out"));
@@ -144,6 +144,35 @@ fn floats_are_limited_as_f32() {
         let due: Vec<u32> = bits(at_f32(&read_as::<f32>(&input).1));
         assert!(has == due);
     }
+}
+
+/// Reads a file of this encoding as f32, which gives the same numbers as f64.
+fn read_as_f32(kind: i32) {
+    let folder = Folder::new();
+    let path = folder.at("in.wav");
+    let format = Format::numbered(WAV | kind, 48_000, 1).expect("a format");
+    write(&path, format, &swelling(2000, 1));
+    let (narrow, wide) = (read_as::<f32>(&path).1, read(&path).1);
+    assert!(narrow.iter().map(|x| f64::from(*x)).eq(wide));
+}
+
+#[test]
+fn an_f32_holds_floats_and_24_bits() {
+    for kind in [U8, PCM_16, PCM_24, FLOAT] {
+        read_as_f32(kind);
+    }
+}
+
+#[test]
+#[should_panic(expected = "samples would lose digits")]
+fn no_f32_is_read_of_32_bits() {
+    read_as_f32(PCM_32);
+}
+
+#[test]
+#[should_panic(expected = "samples would lose digits")]
+fn no_f32_is_read_of_doubles() {
+    read_as_f32(DOUBLE);
 }
 
 /// Runs of the same file give the same bytes: no time of day in them.

@@ -30,7 +30,8 @@ fn limit<T: Sample>() -> Result<(), Refusal> {
         limiter.process(at, &mut audio, &[])?;
         top_out = top_out.max(highest(&audio));
     }
-    println!("highest sample in {top_in:.3}, out {top_out:.3}");
+    let name = std::any::type_name::<T>();
+    println!("highest {name} sample in {top_in:.10}, out {top_out:.10}");
     Ok(())
 }
 

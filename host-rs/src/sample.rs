@@ -20,7 +20,7 @@ mod private {
 /// the C functions are lent no other bytes.
 ///
 /// The limiter computes in f64 whatever the type is: an `f32` is widened exactly,
-/// and its output rounded.
+/// and its output rounded, after values below 1e-30 in magnitude became 0.0.
 pub trait Sample: private::Calls + Copy + Send + 'static {
     /// The nearest sample, of two as near the even one.
     fn from_f64(x: f64) -> Self;

@@ -1,14 +1,22 @@
-//! The examples of README.md, compiled and run: from C and from Rust, of f64 and
-//! of f32 samples the same answer. Without a C compiler the C part says so and is
-//! passed over.
+//! The examples of README.md, compiled and run: from C and from Rust the same
+//! answer, of f64 and of f32 samples. Without a C compiler the C part says so and
+//! is passed over.
 
 use std::path::{Path, PathBuf};
 use std::process::Command;
 
-const ANSWER: &str = "highest sample in 2.000, out 0.881\n";
-
-/// What the examples are given: nothing for f64.
-const WORDS: [&[&str]; 2] = [&[], &["float"]];
+/// What the examples are given, nothing for f64, and what they say. The digits of
+/// f32 are those of an f32, so that no other samples can have given them.
+const ANSWERS: [(&[&str], &str); 2] = [
+    (
+        &[],
+        "highest f64 sample in 2.0000000000, out 0.8810488730\n",
+    ),
+    (
+        &["float"],
+        "highest f32 sample in 2.0000000000, out 0.8810488582\n",
+    ),
+];
 
 fn root() -> PathBuf {
     Path::new(env!("CARGO_MANIFEST_DIR")).join("..")
@@ -48,19 +56,19 @@ fn from_c() {
             .args(["-lm", "-o"])
             .arg(&program),
     );
-    for words in WORDS {
-        assert_eq!(said(Command::new(&program).args(words)), ANSWER);
+    for (words, answer) in ANSWERS {
+        assert_eq!(said(Command::new(&program).args(words)), answer);
     }
 }
 
 #[test]
 fn from_rust() {
     let cargo = std::env::var_os("CARGO").unwrap_or_else(|| "cargo".into());
-    for words in WORDS {
+    for (words, answer) in ANSWERS {
         let mut run = Command::new(&cargo);
         run.args(["run", "--quiet", "--example", "limit", "--"])
             .args(words)
             .current_dir(env!("CARGO_MANIFEST_DIR"));
-        assert_eq!(said(&mut run), ANSWER);
+        assert_eq!(said(&mut run), answer);
     }
 }

@@ -96,16 +96,24 @@ fn a_call_of_one_type_may_follow_one_of_the_other() {
     beside_f64(|call| call % 3 == 1);
 }
 
-/// What goes in here as f64 and comes out as f32 meets a gain of 1 between.
+/// What goes in here as f64 and comes out as f32 meets a gain of 1 between. The
+/// f64 below 1e-30 shows that small values become 0.0 before the rounding: its
+/// nearest f32 would stay.
 #[test]
 fn ties_go_to_even_and_small_values_to_zero() {
     let step = 2_f64.powi(-24);
+    let below = 1e-30_f64.next_down();
+    assert!(f64::from(below as f32) > 1e-30);
     let table = [
         (0.5 + 0.5 * step, 0.5),
         (0.5 + 1.5 * step, 0.5 + 2.0 * step),
         (0.5 + 0.5 * step + 2_f64.powi(-53), 0.5 + step),
         (-0.5 - 0.5 * step, -0.5),
         (1e-29, f64::from(1e-29_f32)),
+        (1e-30, f64::from(1e-30_f32)),
+        (-1e-30, f64::from(-1e-30_f32)),
+        (below, 0.0),
+        (-below, 0.0),
         (1e-31, 0.0),
         (-1e-31, 0.0),
         (f64::NAN, 0.0),

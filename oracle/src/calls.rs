@@ -137,9 +137,17 @@ pub fn answers_differ(call: &Call, due: &[u64], seen: &[u64]) -> Option<String> 
 
 /// Where two sides' audio differs, in any bit.
 pub fn audio_differs(due: Option<&Audio>, seen: Option<&Audio>) -> Option<String> {
-    let (due, seen) = (due?, seen?);
     if due == seen {
         return None;
+    }
+    let (Some(due), Some(seen)) = (due, seen) else {
+        return Some("audio: on one side alone".to_owned());
+    };
+    if due.format != seen.format {
+        return Some("audio: another sample type".to_owned());
+    }
+    if due.bytes.len() != seen.bytes.len() {
+        return Some("audio: another length".to_owned());
     }
     let mut pairs = due.bytes.iter().zip(&seen.bytes);
     let at = pairs.position(|(d, s)| d != s)? / due.format.size();
@@ -194,4 +202,32 @@ fn alike(due: u64, seen: u64, float: bool) -> bool {
 fn told(name: &str, due: u64, seen: u64) -> String {
     let [d, s] = [due, seen].map(|w| format!("{w:016x} ({w}, {:?})", f64::from_bits(w)));
     format!("{name}: due {d}, seen {s}")
+}
+
+#[cfg(test)]
+mod tests {
+    use super::*;
+
+    #[test]
+    fn audio_differs_in_more_than_bytes() {
+        let due = Audio::of(&[1.0f32, 2.0]);
+        let mut longer = due.clone();
+        longer.bytes.push(0);
+        let mut wider = due.clone();
+        wider.format = Format::F64;
+        let other = Audio::of(&[1.0f32, 3.0]);
+        for (seen, words) in [
+            (Some(&longer), "audio: another length"),
+            (Some(&wider), "audio: another sample type"),
+            (None, "audio: on one side alone"),
+            (
+                Some(&other),
+                "audio, sample 1: due 40000000 (2.0), seen 40400000 (3.0)",
+            ),
+        ] {
+            assert_eq!(audio_differs(Some(&due), seen).as_deref(), Some(words));
+        }
+        assert_eq!(audio_differs(Some(&due), Some(&due)), None);
+        assert_eq!(audio_differs(None, None), None);
+    }
 }

@@ -38,8 +38,8 @@ impl Encoding {
         })
     }
 
-    /// The nearest number that the file can hold: of two as near the even one,
-    /// and none past full scale. No dither.
+    /// The nearest of the file's whole numbers: of two as near the even one, and
+    /// none past full scale. No dither. A float stays as it is.
     #[must_use]
     pub fn round(self, x: f64) -> f64 {
         match self {
@@ -47,8 +47,7 @@ impl Encoding {
                 let scale = f64::from(1_u32 << (bits - 1));
                 (x * scale).round_ties_even().clamp(-scale, scale - 1.0) / scale
             }
-            Self::Float => f64::from(x as f32),
-            Self::Double => x,
+            Self::Float | Self::Double => x,
         }
     }
 
@@ -152,7 +151,7 @@ mod tests {
             Encoding::Pcm(32).round(2.0),
             2_147_483_647.0 / 2_147_483_648.0
         );
-        assert_eq!(Encoding::Float.round(0.1), f64::from(0.1_f32));
+        assert_eq!(Encoding::Float.round(0.1), 0.1);
     }
 
     #[test]

@@ -12,13 +12,23 @@ pub use format::{Encoding, Format};
 pub use reader::Reader;
 pub use writer::Writer;
 
-/// A sample type that is read, limited and written: an f64 holds every file's
-/// samples, an f32 those of 32-bit floats.
-pub trait Sample: daggeryuzu::Sample + handle::Item {}
+/// A sample type that is read, limited and written.
+pub trait Sample: daggeryuzu::Sample + handle::Item {
+    /// Whether it holds every sample of a file of this encoding.
+    fn holds(encoding: Encoding) -> bool;
+}
 
-impl Sample for f32 {}
+impl Sample for f32 {
+    fn holds(encoding: Encoding) -> bool {
+        matches!(encoding, Encoding::Pcm(..=24) | Encoding::Float)
+    }
+}
 
-impl Sample for f64 {}
+impl Sample for f64 {
+    fn holds(_: Encoding) -> bool {
+        true
+    }
+}
 
 /// What samples left-justified in 32 bits are multiples of.
 const STEP: f64 = 1.0 / 2_147_483_648.0;

@@ -77,7 +77,11 @@ impl Reader {
     ///
     /// # Errors
     /// A file that ends early or cannot be decoded.
+    ///
+    /// # Panics
+    /// Where the sample type cannot hold the file's samples as they are.
     pub fn read<T: Sample>(&mut self, to: &mut [T]) -> Result<usize, Failure> {
+        assert!(T::holds(self.format.encoding), "samples would lose digits");
         let frames = match self.format.encoding {
             Encoding::Pcm(_) => {
                 self.whole_numbers.resize(to.len(), 0);

@@ -10,6 +10,7 @@ use crate::head::float;
 use crate::head::places;
 use crate::samples;
 use audio::format::Format;
+use audio::format::sample_bytes;
 use driver::answers::SetUp;
 use driver::state::KernelProcessor;
 use records::words::next;
@@ -65,10 +66,7 @@ fn bytes_of(format: Format, samples: usize) -> usize
     requires { ⌜ samples ≤ 4096 ⌝ }
     ensures { λ r. ⌜ r ≤ 32768 ⌝ }
 {
-    match format {
-        Format::F64 => 8 * samples,
-        Format::F32 => 4 * samples,
-    }
+    sample_bytes(format) * samples
 }
 
 // A block of so many frames, on bytes that it fills.

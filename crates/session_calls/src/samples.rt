@@ -1,5 +1,6 @@
 // The samples of a recorded session, which both sides make from a seed, and the digest of a call's outputs.
 use audio::format::Format;
+use audio::format::sample_bytes;
 use audio::words::half;
 use audio::words::put_half;
 use audio::words::put_word;
@@ -49,10 +50,7 @@ fn single(kind: u64, bits: u64) -> u32 {
 
 // How many samples bytes are.
 fn samples(bytes: &[u8], format: Format) -> usize {
-    match format {
-        Format::F64 => bytes.len() / 8,
-        Format::F32 => bytes.len() / 4,
-    }
+    bytes.len() / sample_bytes(format)
 }
 
 // The bits of a sample into its place, if there is one.

@@ -331,29 +331,30 @@ mod tests {
 
         /// The call whose op was read.
         fn call(&mut self, op: u64, file: &mut Reader) {
-            match op {
+            let (call, due) = match op {
                 BLOCK => return self.block(file),
                 DRAIN => return self.drain(file),
-                RESET => self.told(Call::Reset, &[0]),
+                RESET => (Call::Reset, vec![0]),
                 SET => {
                     let (id, bits) = (file.next() as u32, file.next());
-                    self.told(Call::Set { id, bits }, &[file.next()])
+                    (Call::Set { id, bits }, vec![file.next()])
                 }
                 READ => {
                     let id = file.next() as u32;
-                    self.told(Call::Read { id }, &file.some(2))
+                    (Call::Read { id }, file.some(2))
                 }
                 GAIN_STEP => {
                     let bits = file.next();
                     let due = [vec![0], file.some(6)].concat();
-                    self.told(Call::GainStep { bits }, &due)
+                    (Call::GainStep { bits }, due)
                 }
                 SETUP => {
                     let setup = self.setup;
-                    self.told(Call::Setup { setup, cap: None }, &[0])
+                    (Call::Setup { setup, cap: None }, vec![0])
                 }
                 _ => unreachable!("no op {op}"),
             };
+            self.told(call, &due);
         }
     }
 

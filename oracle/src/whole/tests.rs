@@ -305,10 +305,16 @@ fn saturated(lent: &mut Lent, call: &mut Call) -> u32 {
 
 /// Both types lie on the same places.
 fn as_f64(lent: &mut Lent, call: &mut Call) -> u32 {
-    if let Some(audio) = call.audio_mut() {
-        audio.format = Format::F64;
-    }
-    model(lent, call)
+    let Some(format) = call.format() else {
+        return model(lent, call);
+    };
+    let takes = |call: &mut Call, format| {
+        call.audio_mut().expect("as before").format = format;
+    };
+    takes(call, Format::F64);
+    let number = model(lent, call);
+    takes(call, format);
+    number
 }
 
 /// Middles are met by gains of few digits where all is f32, by samples of f64
