@@ -1,10 +1,10 @@
 // The samples of a recorded session, which both sides make from a seed, and the digest of a call's outputs.
 use audio::format::Format;
 use audio::format::sample_bytes;
-use audio::words::half;
-use audio::words::put_half;
 use audio::words::put_word;
+use audio::words::put_word32;
 use audio::words::word;
+use audio::words::word32;
 
 // xorshift: the next state is also the word that is drawn.
 pub fn drawn(x: u64) -> u64 {
@@ -64,7 +64,7 @@ fn put(bytes: &mut [u8], format: Format, i: usize, kind: u64, bits: u64) {
         }
         Format::F32 => {
             if i < n / 4 {
-                put_half(bytes, 4 * i, single(kind, bits));
+                put_word32(bytes, 4 * i, single(kind, bits));
             }
         }
     }
@@ -77,7 +77,7 @@ fn at(bytes: &[u8], format: Format, i: usize) -> u64 {
         Format::F64 => { if i < n / 8 { word(bytes, 8 * i) } else { 0 } }
         Format::F32 => {
             if i < n / 4 {
-                half(bytes, 4 * i) as u64
+                word32(bytes, 4 * i) as u64
             } else {
                 0
             }
