@@ -19,7 +19,9 @@ use Rattle.arithmetic.specs.Part.{leastNormalBits, overflowBits, magnitu
 use Rattle.arithmetic.specs.Sanitize.{denormalFloor, flushDenormal}
 use Rattle.arithmetic.proofs.Order.{and-true}
 use Rattle.arithmetic.proofs.Values.{lt-values}
-use Rattle.arithmetic.proofs.Units.{units-value, powers}
+use Rattle.arithmetic.proofs.Units.{units-value}
+use Rattle.arithmetic.proofs.Power.{powers}
+use Rattle.arithmetic.proofs.Fitting.{fits-signed}
 use Rattle.arithmetic.proofs.Places32.{place, significand, pattern, split, magnitude}
 use Rattle.arithmetic.proofs.Ways32.{normal-finite}
 
@@ -71,11 +73,6 @@ module _ (x : Float) (t : leavesAtOnce (magnitudeOf x) ≡ true) where
   flush-normal =
       rw (le-leb leastNormalBits (magnitudeOf x) (omega (arith, least)), and-true (leb floorBits (magnitudeOf x)) (ltb (magnitudeOf x) overflowBits) t .1) refl
 
-fits-plus : (s : Bool) (m : ℕ) (e : ℤ) → T (fits binary64 (fin s m e)) → T (fits binary64 (fin false m e))
-unfolding fits
-fits-plus s zero e f = f
-fits-plus s (suc m) e f = f
-
 pub flush-kept : (x : Float) → fits binary64 x ≡ true → leavesAtOnce (magnitudeOf x) ≡ true → flushDenormal x ≡ x
 flush-kept x f t = go x (passes (fits binary64 x) f) (normal-finite x (flush-normal x t)) (least x t)
   where
@@ -87,5 +84,5 @@ flush-kept x f t = go x (passes (fits binary64 x) f) (normal-finite x (flush-nor
         let q = split s m e f in
         let high = no-lower n (place n) (significand n) 922 0x14_484b_feeb_c2a0 (q .is) (q .few) (q .full) (lit≤ tt) (lit≤ tt) (omega (arith, h, magnitude s n (toBits binary64 (fin s m e)) q)) in
         ap (λ (b : Bool). cond b Number.zero (fin s m e))
-        (lt-values (fin false m e) denormalFloor n (2 ^ 1074) floorUnits (2 ^ 1074) (pow-pos 1074) (pow-pos 1074) (units-value false m e (fits-plus s m e f)) floor-value
+        (lt-values (fin false m e) denormalFloor n (2 ^ 1074) floorUnits (2 ^ 1074) (pow-pos 1074) (pow-pos 1074) (units-value false m e (fits-signed s false m e f)) floor-value
         ∙ le-ltb (n * 2 ^ 1074) (floorUnits * 2 ^ 1074) (mul-le-mul-right (2 ^ 1074) high))

@@ -12,6 +12,7 @@ pub mod Exp
 pub mod Rows
 pub mod Wrong
 pub mod NanPattern
+pub mod Fitting
 pub mod Units
 pub mod Places32
 pub mod Ways32

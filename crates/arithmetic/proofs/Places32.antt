@@ -18,7 +18,9 @@ use lib.Ieee.Fits.{down-pos, kept-lt, nearest-le}
 use lib.Ieee.Nearest.{closest, closest-same}
 use Rattle.arithmetic.specs.Narrow.{overflow, unitsOf, spacing}
 use Rattle.arithmetic.specs.Part.{leastNormalBits, overflowBits}
-use Rattle.arithmetic.proofs.Units.{grid, powers, units-shifted}
+use Rattle.arithmetic.proofs.Units.{grid, units-shifted}
+use Rattle.arithmetic.proofs.Power.{powers}
+use Rattle.arithmetic.proofs.Fitting.{fits-signed}
 use Rattle.arithmetic.proofs.Exact32
 use Rattle.arithmetic.proofs.Closest.{Compared, compared, grid-below, grid-above}
 
@@ -119,13 +121,9 @@ split s m e f =
       is = kept-whole n m (d .j) (units-shifted s m e d) (d .few);
       few = kept-lt 53 n;
       full = λ h. le-div-iff-mul-le (pow-pos j) .1 (le-trans (le-of-eq (sym (pow-add 2 52 j))) (size-reaches n (52 + j) (omega arith)));
-      small = omega (arith, toBits-lt binary64 (fin true m e) (other m f));
+      small = omega (arith, toBits-lt binary64 (fin true m e) (fits-signed s true m e f));
       bits = add-assoc (cond s (2 ^ 63) 0) (j * 2 ^ 52) (n / 2 ^ j);
     }
-  where
-    other : (m : ℕ) → T (fits binary64 (fin s m e)) → T (fits binary64 (fin true m e))
-    other zero f = unfold fits in f
-    other (suc m) f = unfold fits in f
 
 -- ---- from 2^−126 on an f32 keeps 24 digits of the 53
 pub sign-is : (s : Bool) (k : ℕ) → cond s k 0 ≡ cond s 1 0 * k

@@ -1,15 +1,19 @@
--- 2 to the −n by its bit pattern: the exponent's field alone, 1023 − n.
+-- 2 to a sum; and 2 to the −n by its bit pattern: the exponent's field alone, 1023 − n.
 use mathlib.Core.Path.{_≡_, refl, ap, _∙_}
 use mathlib.Core.Bool.{false}
 use Prim.Native.Nat.{ℕ, zero, suc, _+_, _-_, _*_, _^_, _≤_, _<_}
 use native.Mathlib.Nat.{mul-div-cancel, mul-mod-left, mod-eq-of-lt}
 use native.Mathlib.Omega.{arith}
 use lib.Dec.{lit<}
+use lib.Pow.{pow-add}
 use lib.IntN.{ℤ, negsuc}
 use lib.Ieee.{fin, binary64, minus, ofFields, ofBits, nanBits}
 use lib.Ieee.Bits.{nanBits-above}
 use borrow.Author.Tests.{lt-leb, le-ltb, ne-eqb}
 use Rattle.arithmetic.specs.Exp.{powerOf}
+
+pub powers : (a b c : ℕ) → a ≡ b + c → 2 ^ a ≡ 2 ^ b * 2 ^ c
+powers a b c e = ap (λ (z : ℕ). 2 ^ z) e ∙ pow-add 2 b c
 
 -- the pattern's three fields
 fields : (a : ℕ) → a < 2048 → ofBits binary64 (a * 2 ^ 52) ≡ ofFields binary64 false a 0

@@ -17,6 +17,7 @@ use borrow.Author.Tests.{le-ltb}
 use Rattle.arithmetic.specs.Number
 use Rattle.arithmetic.specs.Number.{one, signOf}
 use Rattle.arithmetic.specs.Exp.{inDomain, highOf, stepsOf, hiOf, loOf, correction, combined, powerOf, scaled, reduced, expOf}
+use Rattle.arithmetic.proofs.Power.{powers}
 use Rattle.arithmetic.proofs.Cut.{sign-round}
 use Rattle.arithmetic.proofs.Exp.{at-middle, past}
 use Rattle.arithmetic.proofs.UnitBound.{exact, round-above, round-bound}
@@ -52,9 +53,6 @@ beside-one (fin true m e) h =
 -- ---- what fits the format and is 1/4 at least has no digit below 2 to the −54, so none of the product's is below 2 to the −1074
 few-digits : (k m : ℕ) → m < 2 ^ 53 → 2 ^ k ≤ m * 4 → k < 55
 few-digits k m h l = lt-of-not-le (λ g. absurd (omega (arith, pow-mono {i = 55} {j = k} g)))
-
-powers : (a b c : ℕ) → a ≡ b + c → 2 ^ a ≡ 2 ^ b * 2 ^ c
-powers a b c e = ap (λ (z : ℕ). 2 ^ z) e ∙ pow-add 2 b c
 
 -- m × 2 to the e − n is m × 2 to the j smallest values
 record Whole (m : ℕ) (e : ℤ) (n : ℕ) : Type 0 where

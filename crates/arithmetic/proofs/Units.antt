@@ -17,6 +17,7 @@ use lib.Ieee.Nearest.{closest, closest-same, div-same}
 use lib.Ieee.Scale.{round-same}
 use borrow.Author.Tests.{le-ltb}
 use Rattle.arithmetic.specs.Narrow.{narrowed, unitsOf, spacing}
+use Rattle.arithmetic.proofs.Power.{powers}
 use Rattle.arithmetic.proofs.Exact32.{Digits, digits}
 
 -- n to the nearest multiple of the spacing there, a tie to the even one
@@ -24,9 +25,6 @@ abbrev pub grid : ℕ → ℕ
 grid n = closest n (spacing n) * spacing n
 
 -- ---- a value that fits is a whole number of units
-pub powers : (a b c : ℕ) → a ≡ b + c → 2 ^ a ≡ 2 ^ b * 2 ^ c
-powers a b c e = ap (λ (z : ℕ). 2 ^ z) e ∙ pow-add 2 b c
-
 pub units-shifted : (s : Bool) (m : ℕ) (e : ℤ) (d : Digits binary64 m e) → unitsOf (fin s m e) ≡ m * 2 ^ d .j
 units-shifted s m e d = ap (λ (z : ℕ). z / down e) (d .is) ∙ mul-div-cancel (m * 2 ^ d .j) (down-pos e)
 

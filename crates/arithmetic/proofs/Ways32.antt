@@ -20,7 +20,8 @@ use Rattle.arithmetic.specs.Part.{leastNormalBits, overflowBits, magnitu
 use Rattle.arithmetic.proofs.Order.{clash, and-true}
 use Rattle.arithmetic.proofs.NanPattern.{reads-number}
 use Rattle.arithmetic.proofs.Exact32.{narrowed-fits}
-use Rattle.arithmetic.proofs.Units.{grid, narrowed-value, narrowed-over, rescale, powers}
+use Rattle.arithmetic.proofs.Units.{grid, narrowed-value, narrowed-over, rescale}
+use Rattle.arithmetic.proofs.Power.{powers}
 use Rattle.arithmetic.proofs.Places32.{bits-of, place, significand, Split, split, sign-is, rounding, rounding-of, magnitude, normal-bits, normal-under, normal-over, small-grid, count-le, small-under, count-is, count-none, digitsAt, unitPlace}
 
 count-bits : (s : Bool) (q : ℕ) → q ≤ 2 ^ 23 → cond s (2 ^ 31) 0 + (size q - 24) * 2 ^ 23 + q / 2 ^ (size q - 24) ≡ cond s (2 ^ 31) 0 + q

@@ -34,6 +34,6 @@ overflowBits = 0x47ef_ffff_f000_0000
 abbrev pub magnitudeOf : Float → ℕ
 magnitudeOf x = toBits binary64 x % 2 ^ 63
 
--- whether the nearest f32 is normal, or becomes so by a carry
+-- whether the nearest f32 is normal: from 2^−126 on, and no infinity
 abbrev pub isNormal : ℕ → Bool
 isNormal m = leb leastNormalBits m && ltb m overflowBits

@@ -69,7 +69,6 @@ fn closest_to(n: u64, unit: u64) -> u64
 // 873 is the exponent of 2^-150, half of one: what is below has none.
 fn narrow_small(b: u64) -> f64
     requires { ⌜ b % 2 ^ 63 < leastNormalBits ⌝ }
-    requires { ⌜ b < 2 ^ 64 ⌝ }
     ensures { λ r. ⌜ r ≡ narrowed (ofBits binary64 b) ⌝ }
 {
     let sign = b / 0x8000_0000_0000_0000 * 0x8000_0000;

@@ -36,30 +36,23 @@ bytes-of-word (b ∷ bytes) h =
 first : (l : List ℕ) (n k : ℕ) → n < length l → take (suc k) (drop n l) ≡ getD l n 0 ∷ take k (drop (suc n) l)
 first l n k h = rw (drop-cons l n 0 h) refl
 
+unfoldable reads : ℕ → ℕ → List ℕ → List ℕ
+reads zero at l = []
+reads (suc n) at l = getD l at 0 ∷ reads n (suc at) l
+
+take-reads : (n at : ℕ) (l : List ℕ) → at + n ≤ length l → take n (drop at l) ≡ reads n at l
+unfolding reads
+take-reads zero at l h = refl
+take-reads (suc n) at l h = first l at n (omega arith) ∙ ap (λ (bs : List ℕ). getD l at 0 ∷ bs) (take-reads n (suc at) l (omega arith))
+
 pub take-eight : (l : List ℕ) (at : ℕ) → at + 8 ≤ length l
     → take 8 (drop at l) ≡ getD l at 0 ∷ getD l (at + 1) 0 ∷ getD l (at + 2) 0 ∷ getD l (at + 3) 0 ∷ getD l (at + 4) 0 ∷ getD l (at + 5) 0 ∷ getD l (at + 6) 0 ∷ getD l (at + 7) 0 ∷ []
-take-eight l at h =
-    simp towards-suc
-    (rw (
-      first l at 7 (omega arith),
-      first l (suc at) 6 (omega arith),
-      first l (suc (suc at)) 5 (omega arith),
-      first l (suc (suc (suc at))) 4 (omega arith),
-      first l (suc (suc (suc (suc at)))) 3 (omega arith),
-      first l (suc (suc (suc (suc (suc at))))) 2 (omega arith),
-      first l (suc (suc (suc (suc (suc (suc at)))))) 1 (omega arith),
-      first l (suc (suc (suc (suc (suc (suc (suc at))))))) 0 (omega arith),
-    ) refl)
+unfolding reads
+take-eight l at h = simp towards-suc (take-reads 8 at l h)
 
 pub take-four : (l : List ℕ) (at : ℕ) → at + 4 ≤ length l → take 4 (drop at l) ≡ getD l at 0 ∷ getD l (at + 1) 0 ∷ getD l (at + 2) 0 ∷ getD l (at + 3) 0 ∷ []
-take-four l at h =
-    simp towards-suc
-    (rw (
-      first l at 3 (omega arith),
-      first l (suc at) 2 (omega arith),
-      first l (suc (suc at)) 1 (omega arith),
-      first l (suc (suc (suc at))) 0 (omega arith),
-    ) refl)
+unfolding reads
+take-four l at h = simp towards-suc (take-reads 4 at l h)
 
 -- stored one after the other
 pub put-eight : (l : List ℕ) (at b0 b1 b2 b3 b4 b5 b6 b7 : ℕ) → at + 8 ≤ length l

@@ -4,12 +4,13 @@ use mathlib.Core.List.{List, [], _∷_, map}
 use Prim.Native.Nat.{ℕ, zero, suc, _+_, _*_, _≤_, _<_}
 use lib.Dec.{T}
 use lib.ListN.{length, getD, length-map}
-use lib.Ieee.{Float, nan, inf, fin, binary64, fits, mul, lt}
+use lib.Ieee.{Float, nan, binary64, fits, mul, lt}
 use lib.Ieee.Fits.{cond-fits, nan-fits, mul-fits}
 use Rattle.arithmetic.specs.Number
 use Rattle.arithmetic.specs.Number.{absOf}
 use Rattle.arithmetic.specs.Sanitize.{finiteOrZero, denormalFloor, flushDenormal}
 use Rattle.arithmetic.specs.Narrow.{Rounded}
+use Rattle.arithmetic.proofs.Fitting.{zero-fits, finite-fits}
 use Rattle.arithmetic.proofs.Exact32.{narrowed-fits}
 use Rattle.arithmetic.proofs.Nearest.{narrowed-rounded}
 use Rattle.audio.specs.Format.{binaryOf}
@@ -25,15 +26,6 @@ use Rattle.frame.proofs.Exchange.{frames-length}
 use Rattle.frame.proofs.Keeps.{frames-many}
 
 -- ---- one output
-zero-fits : T (fits binary64 Number.zero)
-unfolding fits
-zero-fits = tt
-
-finite-fits : (x : Float) → T (fits binary64 x) → T (fits binary64 (finiteOrZero x))
-finite-fits nan h = zero-fits
-finite-fits (inf s) h = zero-fits
-finite-fits (fin s m e) h = h
-
 flushed-fits : (d gain : Float) → T (fits binary64 (flushDenormal (mul binary64 d gain)))
 flushed-fits d gain =
     let x = mul binary64 d gain in

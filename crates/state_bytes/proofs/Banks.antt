@@ -32,7 +32,8 @@ use Rattle.driver.specs.declared.state.KernelProcessor.{KernelProcessor}
 use Rattle.driver.proofs.Judged.{prepared-is}
 use Rattle.state_bytes.specs.State.{isState, stateWords, stateIn, never, processorIn}
 use Rattle.state_bytes.proofs.Storable.{Fits, SmootherFits, BankFits}
-use Rattle.state_bytes.proofs.Floats.{bits-fit, zero-fits}
+use Rattle.arithmetic.proofs.Fitting.{zero-fits}
+use Rattle.state_bytes.proofs.Floats.{bits-fit}
 use Rattle.state_bytes.proofs.Smoothers.{immediate-fits, reset-fits, target-fits, step-fits, new-fits}
 use Rattle.state_bytes.proofs.Finished.{parameter-set-up, reset-set-up, block-judged}
 

@@ -10,6 +10,7 @@ use lib.Ieee.Bits.{ofBits-fits}
 use Rattle.arithmetic.specs.Number
 use Rattle.arithmetic.specs.Number.{bits, one, framesOfMs, maxOf, notBelow, clampOf, ceilOf}
 use Rattle.arithmetic.specs.Sanitize.{finiteOrZero, unitGain}
+use Rattle.arithmetic.proofs.Fitting.{zero-fits, finite-fits}
 use Rattle.arithmetic.specs.Exp.{expOf, highOf, stepsOf, reduced, scaled}
 use Rattle.envelope.specs.Mean.{allOne, weightedFrom, meanOf}
 use Rattle.envelope.specs.Follow.{moved, followed}
@@ -21,18 +22,9 @@ use Rattle.state_bytes.proofs.Storable.{Fits}
 pub bits-fit : (w : ℕ) → Fits (bits w)
 bits-fit w = ofBits-fits binary64 w
 
-pub zero-fits : Fits Number.zero
-unfolding fits
-zero-fits = tt
-
 pub one-fits : Fits one
 unfolding fits
 one-fits = tt
-
-pub finite-fits : (x : Float) → Fits x → Fits (finiteOrZero x)
-finite-fits nan h = zero-fits
-finite-fits (inf s) h = zero-fits
-finite-fits (fin s m e) h = h
 
 pub clamp-fits : (x lo hi : Float) → Fits x → Fits lo → Fits hi → Fits (clampOf x lo hi)
 clamp-fits x lo hi f g h =

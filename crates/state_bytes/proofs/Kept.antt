@@ -56,7 +56,8 @@ use Rattle.driver.specs.declared.answers.Answer.{Answer}
 use Rattle.driver.proofs.Stepped.{gain-fit, gain-ready}
 use Rattle.state_bytes.specs.State.{stateWords, isState, stateIn, never, processorIn, processorOf}
 use Rattle.state_bytes.proofs.Storable.{Fits, LimiterFits, LimiterSmall, Storable}
-use Rattle.state_bytes.proofs.Floats.{bits-fit, zero-fits, one-fits, target-fits, coefficient-fits, mean-fits, followed-fits}
+use Rattle.arithmetic.proofs.Fitting.{zero-fits}
+use Rattle.state_bytes.proofs.Floats.{bits-fit, one-fits, target-fits, coefficient-fits, mean-fits, followed-fits}
 use Rattle.state_bytes.proofs.Finished.{reset-set-up}
 use Rattle.state_bytes.proofs.Banks.{chosen, AllFit, parameter-bank, reset-bank, gain-bank, drain-bank, block-bank, unset-fits, setup-bank, read-bank}
 

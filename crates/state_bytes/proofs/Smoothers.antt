@@ -13,7 +13,8 @@ use Rattle.bank.specs.declared.param.Smoothing.{Smoothing}
 use Rattle.bank.specs.declared.param.Smoothing.the-variants.{Step, Linear, OnePole}
 use Rattle.bank.specs.declared.smoother.Smoother.{Smoother}
 use Rattle.state_bytes.proofs.Storable.{Fits, SmootherFits}
-use Rattle.state_bytes.proofs.Floats.{zero-fits, one-fits, finite-fits, clamp-fits, max-fits, ceil-small}
+use Rattle.arithmetic.proofs.Fitting.{zero-fits, finite-fits}
+use Rattle.state_bytes.proofs.Floats.{one-fits, clamp-fits, max-fits, ceil-small}
 
 module _ (s : Smoother) (h : SmootherFits s) where
   changed-fits : (x t : Float) (n : ℕ) (d : Float) → Fits x → Fits t → n < 2 ^ 64 → Fits d → SmootherFits (changed x t n d s)

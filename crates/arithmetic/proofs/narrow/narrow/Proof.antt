@@ -3,7 +3,7 @@ use mathlib.Core.Path.{ap, _∙_}
 use borrow.Author.Needs.{needs}
 use Rattle.arithmetic.specs.Narrow.{narrowed}
 use Rattle.arithmetic.proofs.NanPattern.{writes-number}
-use Rattle.arithmetic.proofs.Ways32.{narrow-nan, bits-lt, read-back, over-fits, over-number, narrow-over}
+use Rattle.arithmetic.proofs.Ways32.{narrow-nan, read-back, over-fits, over-number, narrow-over}
 use Rattle.arithmetic.proofs.narrow.narrow.Statement.{statement}
 use Rattle.arithmetic.proofs.narrow.narrow.Tie as tie
 
@@ -20,7 +20,7 @@ returns-2 : tie.Need-returns-2
 returns-2 c = c .narrow-normal .ensures
 
 narrow-small-requires : tie.Need-narrow-small-requires
-narrow-small-requires c κs = let s = c .before .before .before in (c .if3 .taken, bits-lt (s .args .x) (s .good .0 .1))
+narrow-small-requires c κs = c .if3 .taken
 
 returns-3 : tie.Need-returns-3
 returns-3 c = let s = c .before .before .before .before in c .narrow-small .ensures ∙ ap narrowed (read-back (s .args .x) (s .good .0 .1))

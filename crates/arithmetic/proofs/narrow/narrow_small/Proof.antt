@@ -21,7 +21,7 @@ widen-requires : tie.Need-widen-requires
 widen-requires c κs = search needs
 
 returns : tie.Need-returns
-returns c = c .widen .ensures ∙ narrow-none (c .before .before .args .b) (c .before .before .pre .0) (c .before .before .pre .1) (c .before .if1 .taken)
+returns c = c .widen .ensures ∙ narrow-none (c .before .before .args .b) (c .before .before .pre) (c .before .before .fits .b .fits) (c .before .if1 .taken)
 
 add-digits : tie.Need-add-digits
 add-digits c = search needs
@@ -33,11 +33,11 @@ shl-closest-to : tie.Need-shl-closest-to
 shl-closest-to c = search needs
 
 closest-to-requires : tie.Need-closest-to-requires
-closest-to-requires c κs = unit-fine (c .before .args .b) (c .before .pre .0) (c .before .pre .1) (c .if1 .left)
+closest-to-requires c κs = unit-fine (c .before .args .b) (c .before .pre) (c .before .fits .b .fits) (c .if1 .left)
 
 -- the count
 few : (c : lts.After-closest-to (widen-reads.Asked, widen-reads.Learnt, closest-reads.Asked, closest-reads.Learnt) reads.Pre reads.Post) → c .closest-to .result ≤ 2 ^ 23
-few c = count-few (c .before .before .args .b) (c .before .before .pre .0) (c .before .before .pre .1) (c .before .if1 .left) (c .closest-to .result) (c .closest-to .ensures)
+few c = count-few (c .before .before .args .b) (c .before .before .pre) (c .before .before .fits .b .fits) (c .before .if1 .left) (c .closest-to .result) (c .closest-to .ensures)
 
 add-widen : tie.Need-add-widen
 add-widen c = omega (arith, few c)
@@ -49,7 +49,7 @@ widen-requires-2 : tie.Need-widen-requires-2
 widen-requires-2 c κs = search needs
 
 returns-2 : tie.Need-returns-2
-returns-2 c = let r = c .before in c .widen2 .ensures ∙ narrow-small (r .before .before .args .b) (r .before .before .pre .0) (r .before .before .pre .1) (r .before .if1 .left) (r .closest-to .result) (r .closest-to .ensures)
+returns-2 c = let r = c .before in c .widen2 .ensures ∙ narrow-small (r .before .before .args .b) (r .before .before .pre) (r .before .before .fits .b .fits) (r .before .if1 .left) (r .closest-to .result) (r .closest-to .ensures)
 
 pub narrow-small-spec : {M : Type 1} → statement M
 narrow-small-spec =
