@@ -154,6 +154,10 @@ small-take (suc n) [] h i = omega arith
 small-take (suc n) (x ∷ l) h zero = h 0
 small-take (suc n) (x ∷ l) h (suc i) = small-take n l (λ (j : ℕ). h (suc j)) i
 
+-- the bytes of the number of the first bytes
+pub bytes-of-first : (size : ℕ) (bytes : List ℕ) → size ≤ length bytes → ((i : ℕ) → getD bytes i 0 < 256) → bytesOf size (wordOf (take size bytes)) ≡ take size bytes
+bytes-of-first size bytes long h = ap (λ (k : ℕ). bytesOf k (wordOf (take size bytes))) (sym (length-take-le size bytes long)) ∙ bytes-of-word (take size bytes) (small-take size bytes h)
+
 -- the bytes of the numbers of bytes
 pub bytes-of-words : (size n : ℕ) (bytes : List ℕ) → length bytes ≡ size * n → ((i : ℕ) → getD bytes i 0 < 256) → bytesOut size (wordsIn size n bytes) ≡ bytes
 unfolding cut joined
@@ -161,9 +165,7 @@ bytes-of-words size zero [] e h = refl
 bytes-of-words size zero (b ∷ bytes) e h = absurd (let m = mul-zero size in omega arith)
 bytes-of-words size (suc n) bytes e h =
     let m = mul-suc size n in
-    let long : length (take size bytes) ≡ size = length-take-le size bytes (omega arith) in
-    let here : bytesOf size (wordOf (take size bytes)) ≡ take size bytes = ap (λ (k : ℕ). bytesOf k (wordOf (take size bytes))) (sym long) ∙ bytes-of-word (take size bytes) (small-take size bytes h) in
-    rw (here, bytes-of-words size n (drop size bytes) (length-drop size bytes ∙ omega arith) (λ (i : ℕ). rw (getD-drop size bytes i 0) (h (size + i)))) (take-append-drop size bytes)
+    rw (bytes-of-first size bytes (omega arith) h, bytes-of-words size n (drop size bytes) (length-drop size bytes ∙ omega arith) (λ (i : ℕ). rw (getD-drop size bytes i 0) (h (size + i)))) (take-append-drop size bytes)
 
 -- ---- the loop
 

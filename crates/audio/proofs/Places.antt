@@ -94,7 +94,7 @@ module _ (size : ℕ) where
   cut-joined (place ∷ places) h = rw (take-at place (joined places) size (h .0), drop-at place (joined places) size (h .0), cut-joined places (h .1)) refl
 
 -- inside a list, whatever stands past its end
-getD-map : {A B : Type 0} (f : A → B) (l : List A) (i : ℕ) (d : A) (d' : B) → i < length l → getD (map f l) i d' ≡ f (getD l i d)
+pub getD-map : {A B : Type 0} (f : A → B) (l : List A) (i : ℕ) (d : A) (d' : B) → i < length l → getD (map f l) i d' ≡ f (getD l i d)
 getD-map f [] i d d' h = absurd (omega arith)
 getD-map f (x ∷ l) zero d d' h = refl
 getD-map f (x ∷ l) (suc i) d d' h = getD-map f l i d d' (omega arith)

@@ -14,10 +14,10 @@ bytesOf zero w = []
 bytesOf (suc size) w = w % 256 ∷ bytesOf size (w / 256)
 
 -- ---- many of them
--- bytes cut into n places of so many bytes each
-unfoldable pub cut : ℕ → ℕ → List ℕ → List (List ℕ)
-cut size zero bytes = []
-cut size (suc n) bytes = take size bytes ∷ cut size n (drop size bytes)
+-- a list cut into n parts of so many elements each: bytes into places, or samples that stand frame after frame into frames
+unfoldable pub cut : {A : Type 0} → ℕ → ℕ → List A → List (List A)
+cut size zero l = []
+cut size (suc n) l = take size l ∷ cut size n (drop size l)
 
 -- and joined again
 unfoldable pub joined : List (List ℕ) → List ℕ
