@@ -4,4 +4,5 @@ pub mod Through
 pub mod Blocks
 pub mod Buffers
 pub mod Few
+pub mod FileBlocks
 pub mod Wrong

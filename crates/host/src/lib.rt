@@ -1,6 +1,8 @@
-// The C functions (numbers and bytes) of the limiter: what a renderer links. include/daggeryuzu.h declares them.
+// The C functions (numbers and bytes): what a renderer links. include/daggeryuzu.h declares them.
 
 // What a call answers, as words.
 pub mod answer;
-// The C functions.
+// The limiter's.
 pub mod calls;
+// A file's audio.
+pub mod files;
