@@ -13,7 +13,12 @@
  * detector channels * 12. Each call gets them as the last one left them. No two slices may overlap.
  *
  * Audio is planar: channel c holds frames c * frames onward; a sample is 8 bytes, or 4 in the functions that end
- * in _float, low byte first. audio_len is channels * frames * 8 bytes, * 4 in _float; any other is refusal 20.
+ * in _float, low byte first. audio_len is channels * frames * 8 bytes, * 4 in _float; any other is refusal 20 of a block
+ * or drain.
+ *
+ * Files hold audio interleaved: the sample of frame i and channel c at i * channels + c, where planar audio has it at
+ * c * frames + i. The last four functions rearrange one into the other within the slice, for 1 to 8 channels. They need
+ * no state; their refusals, 27 and 28, have no values, hence no answer, and change nothing.
  *
  * An output below 1e-30 in magnitude becomes 0.0. An f32 is widened exactly, and its output is after that rounded to
  * the nearest, ties to even; from 2^128 - 2^103 on it becomes an infinity. State and stores know no sample type: a
@@ -97,6 +102,19 @@ uint32_t daggeryuzu_gain_step(
     uint8_t *state, size_t state_len, uint64_t *answer, size_t answer_len, uint64_t gain_bits,
     uint64_t *marks, size_t marks_len, double *minima, size_t minima_len, const double *weights, size_t weights_len,
     double *row, size_t row_len);
+
+/* interleaved audio to planar, in place, every sample's bytes kept; audio_len in bytes: refusals 27 (channels not 1 to 8),
+ * 28 (over 524,288 samples, or not a whole number of frames) */
+uint32_t daggeryuzu_deinterleave(size_t channels, uint8_t *audio, size_t audio_len);
+
+/* the same of f32 samples */
+uint32_t daggeryuzu_deinterleave_float(size_t channels, uint8_t *audio, size_t audio_len);
+
+/* its inverse, planar audio to interleaved, in place: refusals 27, 28 as there */
+uint32_t daggeryuzu_interleave(size_t channels, uint8_t *audio, size_t audio_len);
+
+/* the same of f32 samples */
+uint32_t daggeryuzu_interleave_float(size_t channels, uint8_t *audio, size_t audio_len);
 
 #ifdef __cplusplus
 }

@@ -1,5 +1,6 @@
-//! Limits a second of a loud stereo tone and prints the highest sample, in and out:
-//! of f64 samples, or of f32 where the first word is `float`.
+//! Limits a second of a loud stereo tone, interleaved as a file would hold it, and
+//! prints the highest sample, in and out: of f64 samples, or of f32 where the first
+//! word is `float`.
 
 use daggeryuzu::{Limiter, LimiterSettings, ProcessSpec, Refusal, Sample};
 
@@ -22,12 +23,15 @@ fn limit<T: Sample>() -> Result<(), Refusal> {
     for at in (0..u64::from(RATE)).step_by(BLOCK) {
         let tone = |i: usize| {
             let t = (at + i as u64) as f64 / f64::from(RATE);
-            T::from_f64(2.0 * (std::f64::consts::TAU * 997.0 * t).sin())
+            (std::f64::consts::TAU * 997.0 * t).sin()
         };
-        // planar: the left channel's frames, then the right's
-        let mut audio: Vec<T> = (0..2 * BLOCK).map(|i| tone(i % BLOCK)).collect();
+        // left and right of a frame side by side, the right one at half the level
+        let frames = (0..BLOCK).flat_map(|i| [2.0 * tone(i), tone(i)]);
+        let mut audio: Vec<T> = frames.map(T::from_f64).collect();
         top_in = top_in.max(highest(&audio));
+        limiter.deinterleave(&mut audio)?;
         limiter.process(at, &mut audio, &[])?;
+        limiter.interleave(&mut audio)?;
         top_out = top_out.max(highest(&audio));
     }
     let name = std::any::type_name::<T>();

@@ -16,15 +16,20 @@
 //! assert!(produced.done);
 //! # Ok::<(), daggeryuzu::Refusal>(())
 //! ```
+//!
+//! Files hold frame after frame: [`Limiter::deinterleave`] before a block and
+//! [`Limiter::interleave`] after it, and after a drain, rearrange the audio in place.
 
 #![warn(missing_docs)]
 
+mod interleaving;
 mod refusal;
 mod sample;
 mod settings;
 mod stores;
 pub mod sys;
 
+pub use interleaving::{deinterleave, interleave};
 pub use refusal::Refusal;
 pub use sample::Sample;
 pub use settings::{LimiterSettings, ProcessSpec};
@@ -119,6 +124,24 @@ impl Limiter {
             frames: words[0] as usize,
             done: words[1] == 1,
         })
+    }
+
+    /// Rearranges interleaved audio of the limiter's channels into planar, in place:
+    /// [`deinterleave`].
+    ///
+    /// # Errors
+    /// 28.
+    pub fn deinterleave<T: Sample>(&self, audio: &mut [T]) -> Result<(), Refusal> {
+        deinterleave(self.spec.channels, audio)
+    }
+
+    /// Rearranges planar audio of the limiter's channels into interleaved, in place:
+    /// [`interleave`].
+    ///
+    /// # Errors
+    /// 28.
+    pub fn interleave<T: Sample>(&self, audio: &mut [T]) -> Result<(), Refusal> {
+        interleave(self.spec.channels, audio)
     }
 
     /// Sets a parameter at once, with no ramp.

@@ -48,6 +48,8 @@ impl Refusal {
             22 => "too far: the position or the frames since reset",
             23 => "the value is not finite",
             24 => "there is no such parameter",
+            27 => "not 1 to 8 channels to rearrange",
+            28 => "over 524,288 samples to rearrange, or not whole frames",
             _ => "not a number of the table",
         }
     }

@@ -8,11 +8,14 @@ mod private {
     pub type Process =
         fn(&mut [u8], &mut [u64], u64, usize, &[u64], &mut [u8], LentStores<'_>) -> u32;
     pub type Flush = fn(&mut [u8], &mut [u64], usize, &mut [u8], LentStores<'_>) -> u32;
+    pub type Rearrange = fn(usize, &mut [u8]) -> u32;
 
-    /// What blocks and drains of a sample type call.
+    /// What is called for audio of a sample type.
     pub trait Calls {
         const PROCESS: Process;
         const FLUSH: Flush;
+        const DEINTERLEAVE: Rearrange;
+        const INTERLEAVE: Rearrange;
     }
 }
 
@@ -31,6 +34,8 @@ pub trait Sample: private::Calls + Copy + Send + 'static {
 impl private::Calls for f32 {
     const PROCESS: private::Process = sys::process_float;
     const FLUSH: private::Flush = sys::flush_float;
+    const DEINTERLEAVE: private::Rearrange = sys::deinterleave_float;
+    const INTERLEAVE: private::Rearrange = sys::interleave_float;
 }
 
 impl Sample for f32 {
@@ -45,6 +50,8 @@ impl Sample for f32 {
 impl private::Calls for f64 {
     const PROCESS: private::Process = sys::process;
     const FLUSH: private::Flush = sys::flush;
+    const DEINTERLEAVE: private::Rearrange = sys::deinterleave;
+    const INTERLEAVE: private::Rearrange = sys::interleave;
 }
 
 impl Sample for f64 {

@@ -1,6 +1,7 @@
 //! The C functions (include/daggeryuzu.h) over slices, for a host that lends its
 //! own buffers; [`Limiter`](crate::Limiter) stands on them. Each answers document
-//! 01's number, 0 where the work is finished, and tells its values in `answer`.
+//! 01's number, 0 where the work is finished, and tells its values in `answer`, where
+//! it is lent one.
 //!
 //! All of this crate's unsafe code is here. Each slice is handed over by its own
 //! pointer and length, and no two of them overlap, because each is borrowed.
@@ -184,6 +185,10 @@ extern "C" {
         row: *mut f64,
         row_len: usize,
     ) -> u32;
+    fn daggeryuzu_deinterleave(channels: usize, audio: *mut u8, audio_len: usize) -> u32;
+    fn daggeryuzu_deinterleave_float(channels: usize, audio: *mut u8, audio_len: usize) -> u32;
+    fn daggeryuzu_interleave(channels: usize, audio: *mut u8, audio_len: usize) -> u32;
+    fn daggeryuzu_interleave_float(channels: usize, audio: *mut u8, audio_len: usize) -> u32;
 }
 
 /// Document 01's six stores, lent to one call, which gets them as the last one
@@ -431,6 +436,31 @@ pub fn gain_step(state: &mut [u8], answer: &mut [u64], gain: u64, stores: LentSt
             stores.row.len(),
         )
     }
+}
+
+/// Rearrangements of a slice of samples within itself, which need no limiter. They
+/// differ in the C functions alone.
+macro_rules! rearrangements {
+    ($($(#[$says:meta])* $name:ident: $c_name:ident,)*) => {$(
+        $(#[$says])*
+        pub fn $name(channels: usize, audio: &mut [u8]) -> u32 {
+            // SAFETY: pointer and length are those of a borrowed slice.
+            unsafe { $c_name(channels, audio.as_mut_ptr(), audio.len()) }
+        }
+    )*};
+}
+
+rearrangements! {
+    /// Interleaved audio to planar, in place: 27, 28. A sample is 8 bytes, which stay
+    /// as they are.
+    deinterleave: daggeryuzu_deinterleave,
+    /// [`deinterleave`] of f32 samples: 4 bytes each.
+    deinterleave_float: daggeryuzu_deinterleave_float,
+    /// Planar audio to interleaved, in place: 27, 28. A sample is 8 bytes, which stay
+    /// as they are.
+    interleave: daggeryuzu_interleave,
+    /// [`interleave`] of f32 samples: 4 bytes each.
+    interleave_float: daggeryuzu_interleave_float,
 }
 
 /// Samples as the bytes that they are, low byte first.

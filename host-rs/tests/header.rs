@@ -125,7 +125,7 @@ fn the_wrapper_declares_what_the_header_does() {
 fn the_header_declares_what_is_exported() {
     let exported = exported();
     assert!(
-        exported.len() >= 11,
+        exported.len() >= 15,
         "only {} functions found",
         exported.len()
     );
