@@ -10,7 +10,6 @@ pub mod interrupt;
 pub mod limit;
 pub mod meter;
 pub mod place;
-pub mod planar;
 pub mod progress;
 pub mod report;
 pub mod series;

@@ -9,7 +9,6 @@ use daggeryuzu::{Limiter, Refusal};
 use crate::failure::Failure;
 use crate::gains::Gains;
 use crate::meter::{Measured, Meter};
-use crate::planar;
 use crate::sndfile::{Encoding, Reader, Sample};
 
 /// What the work came to.
@@ -43,7 +42,6 @@ pub fn limit<T: Sample>(
     let mut input = Meter::new(channels);
     let mut out = Out::new(channels, limiter.latency(), reader.format().encoding);
     let mut samples = vec![silence; channels * block];
-    let mut planes = Vec::with_capacity(channels * block);
     let mut position = 0;
     loop {
         tick(position)?;
@@ -51,25 +49,37 @@ pub fn limit<T: Sample>(
         if frames == 0 {
             break;
         }
-        let read = &samples[..channels * frames];
-        input.take(read);
-        out.held.extend(read);
-        planar::split(read, channels, &mut planes);
-        limiter
-            .process(position, &mut planes, &[])
-            .map_err(refused)?;
+        let audio = &mut samples[..channels * frames];
+        input.take(audio);
+        out.held.extend(&*audio);
+        render(limiter, position, audio).map_err(refused)?;
         position += frames as u64;
-        sink(out.take(&planes, frames))?;
+        sink(out.take(audio))?;
     }
-    planes.resize(channels * limiter.latency(), silence);
-    let tail = limiter.flush(&mut planes).map_err(refused)?;
-    sink(out.take(&planes, tail.frames))?;
+    samples.resize(channels * limiter.latency(), silence);
+    let frames = drain(limiter, &mut samples).map_err(refused)?;
+    sink(out.take(&mut samples[..channels * frames]))?;
     Ok(Outcome {
         input: input.finish(),
         output: out.meter.finish(),
         gains: out.gains,
         elapsed: started.elapsed(),
     })
+}
+
+/// A block through the limiter, interleaved before and after. It has at most 65,536
+/// frames of 8 channels, which are the most samples that can be rearranged.
+fn render<T: Sample>(limiter: &mut Limiter, position: u64, audio: &mut [T]) -> Result<(), Refusal> {
+    limiter.deinterleave(audio)?;
+    limiter.process(position, audio, &[])?;
+    limiter.interleave(audio)
+}
+
+/// The tail, interleaved: its frames.
+fn drain<T: Sample>(limiter: &mut Limiter, audio: &mut [T]) -> Result<usize, Refusal> {
+    let tail = limiter.flush(audio)?;
+    limiter.interleave(audio)?;
+    Ok(tail.frames)
 }
 
 /// The limiter's refusal as the line that ends the program.
@@ -87,7 +97,6 @@ struct Out<T> {
     held: VecDeque<T>,
     meter: Meter,
     gains: Gains,
-    ready: Vec<T>,
 }
 
 impl<T: Sample> Out<T> {
@@ -99,27 +108,26 @@ impl<T: Sample> Out<T> {
             held: VecDeque::new(),
             meter: Meter::new(channels),
             gains: Gains::default(),
-            ready: Vec::new(),
         }
     }
 
-    /// The block's output without the latency, interleaved, and rounded where the
+    /// The block's output, interleaved, without the latency, and rounded where the
     /// file holds whole numbers; a float stays as the limiter gave it out.
-    fn take(&mut self, planes: &[T], frames: usize) -> &[T] {
-        let cut = self.late.min(frames);
+    fn take<'a>(&mut self, audio: &'a mut [T]) -> &'a [T] {
+        let cut = self.late.min(audio.len() / self.channels);
         self.late -= cut;
-        planar::join(planes, self.channels, cut..frames, &mut self.ready);
-        for frame in self.ready.chunks_exact(self.channels) {
+        let ready = &mut audio[self.channels * cut..];
+        for frame in ready.chunks_exact(self.channels) {
             let inputs = self.held.drain(..self.channels);
             self.gains
                 .take(inputs.zip(frame).map(|(x, y)| (x.to_f64(), y.to_f64())));
         }
         if let Encoding::Pcm(_) = self.encoding {
-            for x in &mut self.ready {
+            for x in ready.iter_mut() {
                 *x = T::from_f64(self.encoding.round(x.to_f64()));
             }
         }
-        self.meter.take(&self.ready);
-        &self.ready
+        self.meter.take(ready);
+        ready
     }
 }

@@ -3,8 +3,6 @@
 mod common;
 
 use common::*;
-use daggeryuzu::{Limiter, LimiterSettings, ProcessSpec};
-use daggeryuzu_cli::planar;
 use daggeryuzu_cli::sndfile::{Encoding, Format};
 
 /// Limits a file of this format and looks at what came out.
@@ -102,47 +100,6 @@ fn floats_beyond_full_scale() {
         let (_, has) = read(&output);
         assert!(has.iter().all(|y| y.abs() <= TARGET + step));
         assert_eq!((has[100], has[2000]), (0.0, 0.0));
-    }
-}
-
-/// Stereo at 48,000 through the limiter at its defaults and at f32, in one block:
-/// the latency cut off, the tail drained.
-fn at_f32(samples: &[f32]) -> Vec<f32> {
-    let spec = ProcessSpec {
-        sample_rate: 48_000,
-        channels: 2,
-        max_block: samples.len() / 2,
-        max_memory: None,
-    };
-    let mut limiter = Limiter::prepare(LimiterSettings::default(), spec).expect("set up");
-    let look = limiter.latency();
-    let (mut planes, mut tail) = (Vec::new(), vec![0.0; 2 * look]);
-    planar::split(samples, 2, &mut planes);
-    limiter.process(0, &mut planes, &[]).expect("a block");
-    limiter.flush(&mut tail).expect("a drain");
-    let (mut out, mut end) = (Vec::new(), Vec::new());
-    planar::join(&planes, 2, look..samples.len() / 2, &mut out);
-    planar::join(&tail, 2, 0..look, &mut end);
-    out.extend(end);
-    out
-}
-
-/// A file of 32-bit floats holds what the limiter gives out at f32, to the last
-/// bit.
-#[test]
-fn a_file_of_floats_holds_the_limiters_own_bits() {
-    for container in [WAV, AIFF] {
-        let folder = Folder::new();
-        let (input, output) = (folder.at("in"), folder.at("out"));
-        let format = Format::numbered(container | FLOAT, 48_000, 2).expect("a format");
-        let mut samples: Vec<f64> = swelling(6000, 2).iter().map(|x| 3.0 * x).collect();
-        samples[50..55].copy_from_slice(&[1e-31, -1e-31, -1e-29, -0.0, f64::NAN]);
-        write(&input, format, &samples);
-        succeeds(&[text(&input), text(&output)]);
-        let bits = |samples: Vec<f32>| samples.into_iter().map(f32::to_bits).collect();
-        let has: Vec<u32> = bits(read_as(&output).1);
-        let due: Vec<u32> = bits(at_f32(&read_as::<f32>(&input).1));
-        assert!(has == due);
     }
 }
 
