@@ -3,6 +3,7 @@
 use std::path::PathBuf;
 
 use crate::audio::Types;
+use crate::interleave;
 use crate::whole::{Mode, Settings, DAMAGED};
 
 /// What `oracle` can do.
@@ -20,6 +21,9 @@ pub const USAGE: &str = "usage:
   oracle model [--sample TYPE] [--sessions N] [--seed N]
   oracle model-damage [--sample TYPE] [--calls N] [--seed N]
                                   both, the plain model beside the Rust alone
+  oracle interleave [--slices N] [--seed N]
+                                  slices rearranged within themselves, and back:
+                                  the proved code beside a plain model
   oracle record-whole FILE        write recorded sessions of the whole limiter
   oracle taps                     print the detector's taps, one phase to a line
   oracle time                     time the proved detector beside the Rust's
@@ -44,6 +48,7 @@ pub enum Command {
     },
     Whole(Settings),
     Model(Settings),
+    Interleave(interleave::Settings),
     Taps,
     Time,
     Weights {
@@ -130,6 +135,7 @@ pub fn parse(words: &[String]) -> Result<Command, String> {
         "damage" => Ok(Command::Whole(damaged_calls(rest)?)),
         "model" => Ok(Command::Model(sessions(rest, Mode::Whole)?)),
         "model-damage" => Ok(Command::Model(damaged_calls(rest)?)),
+        "interleave" => slices(&Words::read(rest, &["--slices", "--seed"])?),
         "taps" => {
             Words::read(rest, &[])?.no_plain()?;
             Ok(Command::Taps)
@@ -187,6 +193,14 @@ fn settings(words: &Words, mode: Mode, sessions: u64) -> Result<Settings, String
         sessions,
         seed: words.number("--seed", 1)?,
     })
+}
+
+fn slices(words: &Words) -> Result<Command, String> {
+    words.no_plain()?;
+    Ok(Command::Interleave(interleave::Settings {
+        slices: words.number("--slices", 100_000)?,
+        seed: words.number("--seed", 1)?,
+    }))
 }
 
 /// Sample types by their name.
@@ -281,6 +295,13 @@ mod tests {
     }
 
     #[test]
+    fn slices_are_many_where_no_number_is_given() {
+        let slices = |slices, seed| Command::Interleave(interleave::Settings { slices, seed });
+        assert_eq!(read("interleave"), Ok(slices(100_000, 1)));
+        assert_eq!(read("interleave --seed 3 --slices 9"), Ok(slices(9, 3)));
+    }
+
+    #[test]
     fn bad_words_are_refused() {
         for line in [
             "",
@@ -293,6 +314,8 @@ mod tests {
             "model --rust",
             "damage --sessions 3",
             "damage --sample f16",
+            "interleave 9",
+            "interleave --sessions 9",
             "record --in x",
             "compare --seed",
             "compare --seed x",

@@ -1,11 +1,24 @@
-//! The proved limiter, called through the C functions of the library `host`.
+//! The proved limiter and the proved rearrangement, called through the C functions
+//! of the library `host`.
 
 use daggeryuzu::sys::{self, LentStores};
 use daggeryuzu::{LimiterSettings, ProcessSpec};
 
 use crate::audio::Format;
 use crate::calls::{Call, Lent, Stores};
+use crate::interleave::{self, Direction};
 use crate::model::setup::Setup;
+
+/// A rearrangement by the proved code: a side of the comparison.
+pub fn rearrange(call: &interleave::Call, audio: &mut [u8]) -> u32 {
+    let rearrange = match (call.direction, call.format) {
+        (Direction::Deinterleave, Format::F64) => sys::deinterleave,
+        (Direction::Deinterleave, Format::F32) => sys::deinterleave_float,
+        (Direction::Interleave, Format::F64) => sys::interleave,
+        (Direction::Interleave, Format::F32) => sys::interleave_float,
+    };
+    rearrange(call.channels, audio)
+}
 
 /// A call of the proved code: a side of the comparison.
 pub fn call(lent: &mut Lent, call: &mut Call) -> u32 {

@@ -16,6 +16,7 @@ mod compare;
 mod gains;
 #[cfg(feature = "host")]
 mod host;
+mod interleave;
 mod layout;
 mod leaf;
 mod model;
@@ -88,6 +89,9 @@ fn run(command: Command) -> Result<ExitCode, String> {
         }
         Command::Whole(settings) => return Ok(played(&settings, Some(proved()?))),
         Command::Model(settings) => return Ok(played(&settings, None)),
+        Command::Interleave(settings) => {
+            return Ok(told(interleave::run(&settings, rearranging()?)))
+        }
     };
     // A reader that closed the pipe has what it wanted.
     let _ = std::io::stdout().write_all(text.as_bytes());
@@ -96,7 +100,11 @@ fn run(command: Command) -> Result<ExitCode, String> {
 
 /// Play sessions of the whole limiter.
 fn played(settings: &whole::Settings, proved: Option<calls::Side>) -> ExitCode {
-    let (passed, text) = whole::run(settings, proved);
+    told(whole::run(settings, proved))
+}
+
+/// What a run found, told.
+fn told((passed, text): (bool, String)) -> ExitCode {
     print!("{text}");
     ExitCode::from(u8::from(!passed))
 }
@@ -110,6 +118,17 @@ fn proved() -> Result<calls::Side, String> {
 #[cfg(not(feature = "host"))]
 fn proved() -> Result<calls::Side, String> {
     Err("built without the proved limiter; build with --features host".into())
+}
+
+/// The proved rearrangement behind its C functions.
+#[cfg(feature = "host")]
+fn rearranging() -> Result<interleave::Side, String> {
+    Ok(host::rearrange)
+}
+
+#[cfg(not(feature = "host"))]
+fn rearranging() -> Result<interleave::Side, String> {
+    Err("built without the proved rearrangement; build with --features host".into())
 }
 
 #[cfg(feature = "probe")]

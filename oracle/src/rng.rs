@@ -36,6 +36,17 @@ impl Rng {
     }
 }
 
+/// Bytes that stand somewhere before a call.
+pub fn rubbish(length: usize, seed: u64) -> Vec<u8> {
+    let mut rng = Rng::new(seed);
+    let mut bytes = Vec::with_capacity(length + 8);
+    while bytes.len() < length {
+        bytes.extend_from_slice(&rng.word().to_le_bytes());
+    }
+    bytes.truncate(length);
+    bytes
+}
+
 #[cfg(test)]
 mod tests {
     use super::Rng;

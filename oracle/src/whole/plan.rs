@@ -5,7 +5,7 @@ use super::faults::Fault;
 use crate::audio::{Audio, Format, Types};
 use crate::calls::Call;
 use crate::model::setup::Setup;
-use crate::rng::Rng;
+use crate::rng::{rubbish, Rng};
 use crate::signals::{narrowed, signal, tied, Signal};
 
 /// The most frames that a block has.
@@ -188,15 +188,4 @@ fn lent(frames: u64) -> usize {
     } else {
         frames as usize
     }
-}
-
-/// Bytes that stand somewhere before a call.
-pub fn rubbish(length: usize, seed: u64) -> Vec<u8> {
-    let mut rng = Rng::new(seed);
-    let mut bytes = Vec::with_capacity(length + 8);
-    while bytes.len() < length {
-        bytes.extend_from_slice(&rng.word().to_le_bytes());
-    }
-    bytes.truncate(length);
-    bytes
 }

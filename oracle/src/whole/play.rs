@@ -3,13 +3,14 @@
 //! judges: what it accepts the Rust and the proved code play.
 
 use super::draw::Mode;
-use super::plan::{rubbish, Part, Session, Turn};
+use super::plan::{Part, Session, Turn};
 use super::rust::Rust;
 use crate::audio::Format;
 use crate::calls::{
     answers_differ, audio_differs, lent_differs, words, Call, Lent, Side, ANSWER, STATE, WEIGHTS,
 };
 use crate::model::calls as model;
+use crate::rng::rubbish;
 
 /// What was played.
 #[derive(Clone, Debug, Default, PartialEq, Eq)]
