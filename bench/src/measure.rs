@@ -85,16 +85,16 @@ impl Spread {
 /// What the rounds come to.
 #[derive(Clone, Copy, Debug)]
 pub struct Measured {
-    /// ns a frame, the proved limiter.
+    /// ns a frame, the proved limiter; ns a sample, the proved rearrangement.
     pub ours: Spread,
-    /// ns a frame, the Rust or FFmpeg.
+    /// The same of the Rust, FFmpeg or plain Rust.
     pub theirs: Spread,
     /// Ours over theirs, round by round.
     pub ratio: Spread,
 }
 
 impl Measured {
-    /// From the ns a frame of both, ours first, round by round.
+    /// From the ns of both, ours first, round by round.
     pub fn of(rounds: &[(f64, f64)]) -> Self {
         let spread = |f: fn(&(f64, f64)) -> f64| Spread::of(rounds.iter().map(f).collect());
         Self {
@@ -160,7 +160,7 @@ fn frames(case: &Case, effort: &Effort) -> usize {
 }
 
 /// Bit for bit.
-fn same<T: Sample>(a: &[Vec<T>], b: &[Vec<T>]) -> bool {
+pub fn same<T: Sample>(a: &[Vec<T>], b: &[Vec<T>]) -> bool {
     let (a, b) = (a.iter().flatten(), b.iter().flatten());
     a.zip(b).all(|(x, y)| x.bits() == y.bits())
 }

@@ -4,14 +4,50 @@ use std::io::Write as _;
 
 use crate::ffmpeg;
 use crate::measure::{self, Case, Effort, Measured, Spread};
+use crate::rearrange;
 use crate::tables::{Beside, Table};
+
+/// What a time is of.
+#[derive(Clone, Copy)]
+enum Unit {
+    Frame,
+    /// Rearranging one takes little: its time has a place more.
+    Sample,
+}
+
+impl Unit {
+    fn name(self) -> &'static str {
+        match self {
+            Self::Frame => "frame",
+            Self::Sample => "sample",
+        }
+    }
+
+    fn places(self) -> usize {
+        match self {
+            Self::Frame => 1,
+            Self::Sample => 2,
+        }
+    }
+
+    /// So many of them in a frame.
+    fn in_frame(self, case: &Case) -> f64 {
+        match self {
+            Self::Frame => 1.0,
+            Self::Sample => case.channels as f64,
+        }
+    }
+}
 
 /// Measures the rows and prints each as it comes.
 pub fn print(table: &Table, effort: &Effort) -> Result<(), String> {
     println!("\n{}", table.title);
     match table.beside {
-        Beside::Rust => rows(table, "the Rust", |case| {
+        Beside::Rust => rows(table, "the Rust", Unit::Frame, |case| {
             measure::measure(case, effort).map(Some)
+        }),
+        Beside::Plain(direction) => rows(table, "plain Rust", Unit::Sample, |case| {
+            rearrange::measure(direction, case, effort).map(Some)
         }),
         Beside::Ffmpeg => match ffmpeg::version("ffmpeg")? {
             None => {
@@ -20,7 +56,9 @@ pub fn print(table: &Table, effort: &Effort) -> Result<(), String> {
             }
             Some(version) => {
                 println!("{version}");
-                rows(table, "FFmpeg", |case| ffmpeg::measure(case, effort))
+                rows(table, "FFmpeg", Unit::Frame, |case| {
+                    ffmpeg::measure(case, effort)
+                })
             }
         },
     }
@@ -30,30 +68,33 @@ pub fn print(table: &Table, effort: &Effort) -> Result<(), String> {
 fn rows(
     table: &Table,
     theirs: &str,
+    unit: Unit,
     measure: impl Fn(&Case) -> Result<Option<Measured>, String>,
 ) -> Result<(), String> {
+    let ours = format!("ours, ns a {}", unit.name());
     println!(
-        "{:>12}  {:>26}  {theirs:>26}  {:>20}  {:>9}",
-        "", "ours, ns a frame", "ratio", "real time"
+        "{:>14}  {ours:>26}  {theirs:>26}  {:>20}  {:>9}",
+        "", "ratio", "real time"
     );
     for row in &table.rows {
-        println!("{:>12}  {}", row.name, line(&row.case, measure(&row.case)?));
+        let seen = measure(&row.case)?;
+        println!("{:>14}  {}", row.name, line(&row.case, unit, seen));
         let _ = std::io::stdout().flush();
     }
     Ok(())
 }
 
 /// A row without its name.
-fn line(case: &Case, seen: Option<Measured>) -> String {
+fn line(case: &Case, unit: Unit, seen: Option<Measured>) -> String {
     let Some(seen) = seen else {
         return "too short beside FFmpeg's own start: more --seconds".into();
     };
     format!(
         "{:>26}  {:>26}  {:>20}  {:>7.0} x",
-        spread(seen.ours, 1),
-        spread(seen.theirs, 1),
+        spread(seen.ours, unit.places()),
+        spread(seen.theirs, unit.places()),
         spread(seen.ratio, 2),
-        1e9 / f64::from(case.rate) / seen.ours.median
+        1e9 / f64::from(case.rate) / (seen.ours.median * unit.in_frame(case))
     )
 }
 
@@ -69,29 +110,43 @@ fn spread(s: Spread, places: usize) -> String {
 mod tests {
     use super::*;
 
-    #[test]
-    fn a_line_has_both_times_the_ratio_and_how_fast_ours_is() {
-        let seen = Measured::of(&[(100.0, 200.0)]);
+    /// The columns of a row of stereo at 50,000 that takes these.
+    fn columns(unit: Unit, times: (f64, f64)) -> Vec<String> {
         let case = Case {
             rate: 50_000,
             ..Case::default()
         };
-        let words: Vec<String> = line(&case, Some(seen))
+        line(&case, unit, Some(Measured::of(&[times])))
             .split("  ")
             .filter(|word| !word.is_empty())
             .map(|word| word.trim().to_string())
-            .collect();
+            .collect()
+    }
+
+    #[test]
+    fn a_line_has_both_times_the_ratio_and_how_fast_ours_is() {
         let expected = [
             "100.0 (100.0 to 100.0)",
             "200.0 (200.0 to 200.0)",
             "0.50 (0.50 to 0.50)",
             "200 x",
         ];
-        assert_eq!(words, expected);
+        assert_eq!(columns(Unit::Frame, (100.0, 200.0)), expected);
+    }
+
+    #[test]
+    fn a_frame_has_a_sample_of_each_channel() {
+        let expected = [
+            "2.50 (2.50 to 2.50)",
+            "1.25 (1.25 to 1.25)",
+            "2.00 (2.00 to 2.00)",
+            "4000 x",
+        ];
+        assert_eq!(columns(Unit::Sample, (2.5, 1.25)), expected);
     }
 
     #[test]
     fn a_row_that_is_too_short_says_so() {
-        assert!(line(&Case::default(), None).contains("--seconds"));
+        assert!(line(&Case::default(), Unit::Frame, None).contains("--seconds"));
     }
 }

@@ -2,13 +2,16 @@
 
 use crate::audio::Level::{self, Loud, Quiet};
 use crate::measure::Case;
+use crate::rearrange::Direction;
 use crate::sample_type::SampleType::F32;
 
-/// Whom the proved limiter is timed beside.
+/// Whom the proved code is timed beside.
 #[derive(Clone, Copy, Debug, PartialEq, Eq)]
 pub enum Beside {
     /// The Rust that it is a translation of.
     Rust,
+    /// Plain Rust that rearranges through a second buffer.
+    Plain(Direction),
     /// FFmpeg's limiter at four times the rate.
     Ffmpeg,
 }
@@ -68,8 +71,40 @@ fn all() -> Vec<Table> {
             "frames in a block, loud",
             [1, 16, 32, 64, 512, 4096, 65_536].map(|block| row(block, Case { block, ..usual })),
         ),
+        beside_plain(
+            "deinterleave within a slice, channels x frames",
+            Direction::Deinterleave,
+        ),
+        beside_plain(
+            "interleave within a slice, channels x frames",
+            Direction::Interleave,
+        ),
         beside_ffmpeg(),
     ]
+}
+
+/// Slices of three lengths, and of more channels; a block is a slice.
+fn beside_plain(title: &'static str, direction: Direction) -> Table {
+    let shapes = [
+        ("2 x 4,096", 2, 4_096),
+        ("2 x 16,384", 2, 16_384),
+        ("2 x 65,536", 2, 65_536),
+        ("6 x 65,536", 6, 65_536),
+    ];
+    let rows = shapes.iter().flat_map(|&(name, channels, block)| {
+        let usual = Case::default();
+        let case = Case {
+            channels,
+            block,
+            ..usual
+        };
+        [row(name, case), row(format!("f32 {name}"), narrow(case))]
+    });
+    Table {
+        title,
+        beside: Beside::Plain(direction),
+        rows: rows.collect(),
+    }
 }
 
 /// Stereo at the defaults, whose 1.5 ms are 72 frames at 48,000 and 66 at 44,100.
@@ -235,6 +270,25 @@ mod tests {
                 assert_eq!(table.beside, Beside::Ffmpeg);
                 assert!((row.case.lookahead_ms() - 1.5).abs() < 0.01);
             }
+        }
+    }
+
+    #[test]
+    fn slices_of_both_directions_are_what_their_names_say() {
+        let tables = chosen(&["interleave".into()]).expect("rows");
+        let beside: Vec<Beside> = tables.iter().map(|table| table.beside).collect();
+        let directions = [Direction::Deinterleave, Direction::Interleave];
+        assert_eq!(beside, directions.map(Beside::Plain));
+        for row in tables.into_iter().flat_map(|table| table.rows) {
+            let Case {
+                sample,
+                channels,
+                block,
+                ..
+            } = row.case;
+            let narrow = if sample == F32 { "f32 " } else { "" };
+            let name = format!("{narrow}{channels} x {block}");
+            assert_eq!(row.name.replace(',', ""), name);
         }
     }
 }
