@@ -20,7 +20,7 @@ pub record Spaced (size n from step : ℕ) (source : List ℕ) (to : ℕ) (befor
   pub there : (k : ℕ) → k < n → piece size (to + k) after ≡ piece size (from + k * step) source
   pub elsewhere : (p : ℕ) → (to ≤ p → to + n ≤ p) → piece size p after ≡ piece size p before
 
--- a table of pieces that is stored row after row, column after column
+-- a table of pieces that was stored row after row, now stored column after column: row r, column c comes from place r × columns + c to place c × rows + r
 abbrev pub Transposed : ℕ → ℕ → ℕ → List ℕ → List ℕ → Type 0
 Transposed size rows columns before after = (r c : ℕ) → r < rows → c < columns → piece size (c * rows + r) after ≡ piece size (r * columns + c) before
 
@@ -63,8 +63,7 @@ pub record Lengths (format : Format) (channels tiles left bytes : ℕ) : Type 0 
   pub bounded : tiles ≤ 8192
   pub exact : bytes ≡ sampleBytes format * (channels * (64 * tiles + left))
 
--- `whole` frames of each channel apart from the frames that are left, and all of a channel's together: the samples of a channel's whole frames start at c × whole, and the frames left stand behind them all, frame after
--- frame; the samples of all `frames` of a channel start at c × frames
+-- the same audio twice. Apart: channel after channel, but for the last `left` frames, which stand behind them all, frame after frame. Together: planar audio, the samples of channel c from c × (whole + left) on
 pub record Spread (size channels whole left : ℕ) (apart together : List ℕ) : Type 0 where
   pub wholes : (c i : ℕ) → c < channels → i < whole → piece size (c * (whole + left) + i) together ≡ piece size (c * whole + i) apart
   pub lefts : (c j : ℕ) → c < channels → j < left → piece size (c * (whole + left) + (whole + j)) together ≡ piece size (channels * whole + (j * channels + c)) apart

@@ -11,12 +11,12 @@ unfoldable pub every : {A : Type 0} → A → ℕ → ℕ → ℕ → List A →
 every none step i zero l = []
 every none step i (suc n) l = getD l i none ∷ every none step (i + step) n l
 
--- n such stretches of `rows` places, from place c on, one after the other
+-- n such stretches, of `rows` places each, one after the other: the first from place c on, the next from the place after it, and so on
 unfoldable pub columnsFrom : {A : Type 0} → A → ℕ → ℕ → ℕ → ℕ → List A → List A
 columnsFrom none step rows c zero l = []
 columnsFrom none step rows c (suc n) l = every none step c rows l ++ columnsFrom none step rows (c + 1) n l
 
--- a table that is stored row after row, column after column
+-- a table that was stored row after row, now stored column after column
 abbrev pub transposed : {A : Type 0} → A → ℕ → ℕ → List A → List A
 transposed none rows columns l = columnsFrom none columns rows 0 columns l
 
