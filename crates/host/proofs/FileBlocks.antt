@@ -10,7 +10,7 @@ use Rattle.interleaving.specs.Calls.{refusal, framesIn, deinterleaveOf}
 use Rattle.interleaving.proofs.Blocks.{planar-size, planar-samples}
 use Rattle.turns.specs.Machine.{Machine}
 use Rattle.turns.specs.Events.{Event}
-use Rattle.turns.specs.Block.{Renderer, runsOf, runsThrough, blockDone}
+use Rattle.turns.specs.Block.{Renderer, runsOf, RunsLeft, runsThrough, blockDone}
 
 module _ (format : Format) (m : Machine) (file : List ℕ) (ok : refusal format (m .limiter .channels) file ≡ 0) where
   abbrev frames : ℕ
@@ -24,8 +24,10 @@ module _ (format : Format) (m : Machine) (file : List ℕ) (ok : refusal format 
   pub file-sized : sizeOf format audio ≡ m .limiter .channels * frames
   file-sized = planar-size format (m .limiter .channels) file ok
 
-  -- what each frame of the block shows is what it shows of the file's frames
-  pub file-frames : (render : Renderer) (position : ℕ) (events : List Event)
-      → (blockDone render format m position frames events audio) .frames ≡ (runsThrough render position 0 (runsOf position frames) events (cut (m .limiter .channels) frames (samplesOf format file)) m) .frames
-  file-frames render position events =
-      ap (λ (l : List (List Float)). (runsThrough render position 0 (runsOf position frames) events l m) .frames) (planar-samples format (m .limiter .channels) file ok)
+  -- what the block leaves, and what each of its frames shows, is what comes of the file's frames
+  pub file-block : (render : Renderer) (position : ℕ) (events : List Event)
+      → (let b = blockDone render format m position frames events audio in let r = runsThrough render position 0 (runsOf position frames) events (cut (m .limiter .channels) frames (samplesOf format file)) m in
+      (b .machine ≡ r .machine) × (b .frames ≡ r .frames))
+  file-block render position events =
+      let e = ap (λ (l : List (List Float)). runsThrough render position 0 (runsOf position frames) events l m) (planar-samples format (m .limiter .channels) file ok) in
+      (ap (λ (r : RunsLeft). r .machine) e, ap (λ (r : RunsLeft). r .frames) e)

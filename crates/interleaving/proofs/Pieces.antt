@@ -5,7 +5,7 @@ use mathlib.Core.Bool.{Bool, true, false}
 use mathlib.Core.List.{List, [], _∷_, _++_, append-assoc}
 use Prim.Native.Nat.{ℕ, zero, suc, _+_, _-_, _*_, _≤_, _<_}
 use native.Mathlib.Numerals.{add-one}
-use native.Mathlib.Nat.{mul-add, mul-suc, mul-le-mul-left}
+use native.Mathlib.Nat.{add-mul, one-mul, mul-add, mul-suc, mul-le-mul-left}
 use native.Mathlib.Omega.{arith}
 use lib.ListN.{length, getD, set, take, drop, length-drop, take-append-drop}
 use lib.Seq.{paste, paste-zero, paste-suc, getD-drop, take-append-le, drop-append-le, drop-append-add, drop-drop, take-all, take-take, length-take-le}
@@ -13,6 +13,15 @@ use lib.Dec.{ltb}
 use borrow.Author.Tests.{ltb-true, ltb-false}
 use Rattle.audio.specs.Inner.{put}
 use Rattle.interleaving.specs.Inner.{piece}
+
+-- ---- lengths and counts
+-- a part is as long as was asked for
+pub part-length : (l : List ℕ) (p n : ℕ) → p + n ≤ length l → length (take n (drop p l)) ≡ n
+part-length l p n h = length-take-le n (drop p l) (rw (length-drop p l) (omega (arith, h)))
+
+-- once more
+pub times-more : (i w : ℕ) → (i + 1) * w ≡ i * w + w
+times-more i w = add-mul i 1 w ∙ ap (λ (x : ℕ). i * w + x) (one-mul w)
 
 -- ---- bytes put one after the other
 -- as the kit has it
@@ -72,7 +81,7 @@ put-part l ys a m e = ap (λ (rest : List ℕ). take a l ++ (ys ++ rest)) (drop-
 pub put-back : (room l : List ℕ) (from n : ℕ) → from + n ≤ length l → take n (put room 0 (take n (drop from l))) ≡ take n (drop from l)
 put-back room l from n h =
     let new = take n (drop from l) in
-    let long : length new ≡ n = length-take-le n (drop from l) (rw (length-drop from l) (omega (arith, h))) in
+    let long : length new ≡ n = part-length l from n h in
     put-in room 0 new 0 n (omega arith) (rw long (omega arith)) ∙ take-take n n (drop from l) (omega arith)
 
 -- of the first ones
@@ -130,7 +139,7 @@ module _ (size : ℕ) where
   -- a piece's length
   pub piece-length : (l : List ℕ) (q : ℕ) → size * q + size ≤ length l → length (piece size q l) ≡ size
   unfolding piece
-  piece-length l q h = length-take-le size (drop (size * q) l) (rw (length-drop (size * q) l) (omega (arith, h)))
+  piece-length l q h = part-length l (size * q) size h
 
   -- of a part
   pub piece-within : (l : List ℕ) (q m k : ℕ) → size * k + size ≤ m → piece size k (take m (drop (size * q) l)) ≡ piece size (q + k) l

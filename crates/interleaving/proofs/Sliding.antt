@@ -2,13 +2,13 @@
 use mathlib.Core.Path.{_≡_, refl, sym, ap, _∙_}
 use mathlib.Core.List.{List, _++_, append-assoc}
 use Prim.Native.Nat.{ℕ, _+_, _-_, _*_, _≤_, _<_}
-use native.Mathlib.Nat.{zero-mul, add-mul, one-mul}
+use native.Mathlib.Nat.{zero-mul, add-mul}
 use native.Mathlib.Omega.{arith}
-use lib.ListN.{length, take, drop, length-drop, length-append}
+use lib.ListN.{length, take, drop, length-append}
 use lib.Seq.{take-at, drop-at, take-add, take-append-le, take-take, drop-drop, length-take-le}
 use Rattle.audio.specs.Inner.{put}
 use Rattle.audio.proofs.Carry.{places-end}
-use Rattle.interleaving.proofs.Pieces.{put-none, put-before, put-after}
+use Rattle.interleaving.proofs.Pieces.{part-length, times-more, put-none, put-before, put-after}
 
 -- ---- two puts, one after the other
 module _ (l : List ℕ) (at : ℕ) (xs ys : List ℕ) (room : at + length xs + length ys ≤ length l) where
@@ -42,9 +42,6 @@ module _ (l : List ℕ) (size from to : ℕ) where
   abbrev old : ℕ → ℕ → List ℕ
   old p n = take n (drop p l)
 
-  old-length : (p n : ℕ) → p + n ≤ length l → length (old p n) ≡ n
-  old-length p n h = length-take-le n (drop p l) (rw (length-drop p l) (omega (arith, h)))
-
   old-join : (p m n : ℕ) → old p m ++ old (p + m) n ≡ old p (m + n)
   old-join p m n = ap (λ (z : List ℕ). take m (drop p l) ++ take n z) (sym (drop-drop m p l)) ∙ sym (take-add m n (drop p l))
 
@@ -53,9 +50,9 @@ module _ (l : List ℕ) (size from to : ℕ) where
       → put now (to + at) (take size (drop (from + at) now)) ≡ put l to (old from (at + size))
   down-more at now h room e =
       let xs = old from at in
-      let long : length xs ≡ at = old-length from at (omega (arith, room)) in
+      let long : length xs ≡ at = part-length l from at (omega (arith, room)) in
       let ys = old (from + at) size in
-      let wide : length ys ≡ size = old-length (from + at) size room in
+      let wide : length ys ≡ size = part-length l (from + at) size room in
       let ahead : take size (drop (from + at) now) ≡ ys = ap (take size) (ap (drop (from + at)) e ∙ put-after l to xs (from + at) (omega (arith, room, h)) (omega (arith, long, h))) in
       let spot : to + at ≡ to + length xs = omega (arith, long) in
       rw (ahead, e, spot) (put-behind l to xs ys (omega (arith, long, wide, room, h)) ∙ ap (put l to) (old-join from at size))
@@ -66,28 +63,25 @@ module _ (l : List ℕ) (size from to : ℕ) where
   up-more at n now h room e =
       let xs = old (from + at) size in
       let ys = old (from + at + size) n in
-      let wide : length xs ≡ size = old-length (from + at) size (omega (arith, room, h)) in
-      let long : length ys ≡ n = old-length (from + at + size) n (omega (arith, room, h)) in
+      let wide : length xs ≡ size = part-length l (from + at) size (omega (arith, room, h)) in
+      let long : length ys ≡ n = part-length l (from + at + size) n (omega (arith, room, h)) in
       let behind : take size (drop (from + at) now) ≡ xs = ap (λ (z : List ℕ). take size (drop (from + at) z)) e ∙ put-before l (to + at + size) ys (from + at) size (omega (arith, room)) (omega (arith, h)) in
       let spot : to + at + size ≡ to + at + length xs = omega (arith, wide) in
       rw (behind, e, spot) (put-front l (to + at) xs ys (omega (arith, long, wide, room)) ∙ ap (put l (to + at)) (old-join (from + at) size n))
 
   -- row by row, as the loops count
-  rows-suc : (i : ℕ) → (i + 1) * size ≡ i * size + size
-  rows-suc i = add-mul i 1 size ∙ ap (λ (x : ℕ). i * size + x) (one-mul size)
-
   pub down-none : l ≡ put l to (old from (0 * size))
   down-none = rw (zero-mul size) (put-none l to)
 
   pub down-step : (n i : ℕ) (now : List ℕ) → i < n → to ≤ from → from + n * size ≤ length l → now ≡ put l to (old from (i * size))
       → put now (to + i * size) (take size (drop (from + i * size) now)) ≡ put l to (old from ((i + 1) * size))
   down-step n i now g h room e =
-      down-more (i * size) now h (omega (arith, room, places-end i n size g)) e ∙ ap (λ (m : ℕ). put l to (old from m)) (sym (rows-suc i))
+      down-more (i * size) now h (omega (arith, room, places-end i n size g)) e ∙ ap (λ (m : ℕ). put l to (old from m)) (sym (times-more i size))
 
   module _ (n i : ℕ) (g : i < n) where
     -- the row that moves now, and those that moved
     pub row-at : (n - i) * size ≡ (n - 1 - i) * size + size
-    row-at = let e : n - i ≡ n - 1 - i + 1 = omega (arith, g) in ap (λ (k : ℕ). k * size) e ∙ rows-suc (n - 1 - i)
+    row-at = let e : n - i ≡ n - 1 - i + 1 = omega (arith, g) in ap (λ (k : ℕ). k * size) e ∙ times-more (n - 1 - i) size
 
     pub rows-all : n * size ≡ (n - 1 - i) * size + size + i * size
     rows-all =
@@ -113,6 +107,6 @@ module _ (l : List ℕ) (size from to : ℕ) where
       let a : to + (n - i) * size ≡ to + at + size = omega (arith, row-at n i g) in
       let b : from + (n - i) * size ≡ from + at + size = omega (arith, row-at n i g) in
       let k : n - (i + 1) ≡ n - 1 - i = omega arith in
-      let m : (i + 1) * size ≡ size + i * size = omega (arith, rows-suc i) in
+      let m : (i + 1) * size ≡ size + i * size = omega (arith, times-more i size) in
       let start : now ≡ put l (to + at + size) (old (from + at + size) (i * size)) = e ∙ rw (a, b) refl in
       rw (k, m) (up-more at (i * size) now h (omega (arith, room, rows-all n i g)) start)

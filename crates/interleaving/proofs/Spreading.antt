@@ -3,11 +3,10 @@ use mathlib.Core.Path.{_≡_, refl, sym, ap, subst, _∙_}
 use mathlib.Core.Bool.{Bool, true, false}
 use mathlib.Core.List.{List, _++_}
 use Prim.Native.Nat.{ℕ, _+_, _-_, _*_, _≤_, _<_}
-use native.Mathlib.Nat.{zero-add, mul-zero, add-mul, one-mul, mul-add, mul-comm, mul-left-comm, mul-le-mul, mul-le-mul-left}
+use native.Mathlib.Nat.{zero-add, mul-zero, mul-add, mul-comm, mul-left-comm, mul-le-mul, mul-le-mul-left}
 use native.Mathlib.Omega.{arith}
 use lib.Dec.{ltb}
-use lib.ListN.{length, take, drop, length-drop}
-use lib.Seq.{length-take-le}
+use lib.ListN.{length, take, drop}
 use borrow.Author.Tests.{ltb-true, ltb-false}
 use Rattle.audio.specs.Format.{sampleBytes}
 use Rattle.audio.specs.Inner.{put}
@@ -16,7 +15,7 @@ use Rattle.audio.proofs.Carry.{places-end}
 use Rattle.audio.proofs.Numbers.{put-length}
 use Rattle.audio.proofs.Places.{sample-some}
 use Rattle.interleaving.specs.Inner.{piece, run, slid, Lengths, Spaced, Transposed, Spread}
-use Rattle.interleaving.proofs.Pieces.{ends-before, put-part, piece-in, piece-before, piece-after, piece-within}
+use Rattle.interleaving.proofs.Pieces.{part-length, times-more, ends-before, put-part, piece-in, piece-before, piece-after, piece-within}
 use Rattle.interleaving.proofs.Spacing.{no-further}
 use Rattle.interleaving.proofs.Tiling.{sample-few, table-fits}
 
@@ -58,23 +57,19 @@ module _ (format : Format) (channels left : ℕ) (few : channels ≤ 8) (short :
 -- n pieces out of a list
 module _ (size : ℕ) (l : List ℕ) (q n : ℕ) (room : size * q + size * n ≤ length l) where
   pub out-length : length (take (size * n) (drop (size * q) l)) ≡ size * n
-  out-length = length-take-le (size * n) (drop (size * q) l) (rw (length-drop (size * q) l) (omega (arith, room)))
+  out-length = part-length l (size * q) (size * n) room
 
   pub out-at : (k : ℕ) → k < n → piece size k (take (size * n) (drop (size * q) l)) ≡ piece size (q + k) l
   out-at k h = piece-within size l q (size * n) k (ends-before size h)
 
 -- the rest of a list, from a place on
 pub rest-length : (l : List ℕ) (a n : ℕ) → a + n ≡ length l → length (take (length l - a) (drop a l)) ≡ n
-rest-length l a n e = length-take-le (length l - a) (drop a l) (rw (length-drop a l) (omega arith)) ∙ omega (arith, e)
+rest-length l a n e = part-length l a (length l - a) (omega (arith, e)) ∙ omega (arith, e)
 
 -- ---- channels one after the other
 module _ (size channels whole left : ℕ) where
   abbrev frames : ℕ
   frames = whole + left
-
-  -- one more channel
-  next : (c w : ℕ) → (c + 1) * w ≡ c * w + w
-  next c w = add-mul c 1 w ∙ ap (λ (x : ℕ). c * w + x) (one-mul w)
 
   -- a channel's whole frames start no later apart than together
   sooner : (c : ℕ) → c * whole ≤ c * frames
@@ -179,7 +174,7 @@ module _ (size channels whole left : ℕ) (before : List ℕ) where
   pub spreading-more : (c : ℕ) (kept now after : List ℕ) → c < channels → length now ≡ size * (channels * all) → Kept kept
       → Spaced size left c channels kept (c * all + whole) (put now (size * (c * all)) (take (size * whole) (drop (size * (c * whole)) now))) after → Spreading (c + 1) now → Spreading c after
   spreading-more c kept now after h long aside s k = record {
-    low = λ p g. s .elsewhere p (λ a. absurd (omega (arith, a, g))) ∙ run-before size now (c * all) whole new wide room p g ∙ k .low p (omega (arith, g, next size channels whole left c all));
+    low = λ p g. s .elsewhere p (λ a. absurd (omega (arith, a, g))) ∙ run-before size now (c * all) whole new wide room p g ∙ k .low p (omega (arith, g, times-more c all));
     wholes = λ d i a b g. whole-at d i a b g (ltb c d) refl;
     lefts = λ d j a b g. left-at d j a b g (ltb c d) refl;
   }
@@ -197,10 +192,10 @@ module _ (size channels whole left : ℕ) (before : List ℕ) where
       room = omega (arith, long, in-all size channels whole left c h, mul-add size whole left)
 
       later : (p : ℕ) → (c + 1) * all ≤ p → piece size p after ≡ piece size p now
-      later p g = s .elsewhere p (λ a. omega (arith, g, next size channels whole left c all)) ∙ run-after size now (c * all) whole new wide room p (omega (arith, g, next size channels whole left c all))
+      later p g = s .elsewhere p (λ a. omega (arith, g, times-more c all)) ∙ run-after size now (c * all) whole new wide room p (omega (arith, g, times-more c all))
 
       behind : (d x : ℕ) → c < d → (c + 1) * all ≤ d * all + x
-      behind d x g = omega (arith, places-end c d all g, next size channels whole left c all)
+      behind d x g = omega (arith, places-end c d all g, times-more c all)
 
       whole-at : (d i : ℕ) → c ≤ d → d < channels → i < whole → (b : Bool) → ltb c d ≡ b → piece size (d * all + i) after ≡ piece size (d * whole + i) before
       whole-at d i a g l true e = let m = ltb-true c d e in later (d * all + i) (behind d i m) ∙ k .wholes d i (omega (arith, m)) g l
@@ -210,7 +205,7 @@ module _ (size channels whole left : ℕ) (before : List ℕ) where
           (s .elsewhere (c * all + i) (λ z. absurd (omega (arith, z, l)))
           ∙ run-in size now (c * all) whole new wide room i l
           ∙ out-at size now (c * whole) whole start i l
-          ∙ k .low (c * whole + i) (omega (arith, sooner size channels whole left c, next size channels whole left c all, l)))
+          ∙ k .low (c * whole + i) (omega (arith, sooner size channels whole left c, times-more c all, l)))
 
       left-at : (d j : ℕ) → c ≤ d → d < channels → j < left → (b : Bool) → ltb c d ≡ b → piece size (d * all + (whole + j)) after ≡ piece size (channels * whole + (j * channels + d)) before
       left-at d j a g l true e = let m = ltb-true c d e in later (d * all + (whole + j)) (behind d (whole + j) m) ∙ k .lefts d j (omega (arith, m)) g l
@@ -237,7 +232,7 @@ module _ (size channels whole left : ℕ) (before : List ℕ) where
   pub closing-more : (c : ℕ) (kept now kept' after : List ℕ) → c < channels → length now ≡ size * (channels * all) → size * (c * left) + size * left ≤ length kept
       → kept' ≡ put kept (size * (c * left)) (run size left (c * all + whole) now) → after ≡ slid size whole (c * all) (c * whole) now → Closing c kept now → Closing (c + 1) kept' after
   closing-more c kept now kept' after h long aside e f k = record {
-    high = λ p g. ap (piece size p) f ∙ run-after size now (c * whole) whole new wide room p (omega (arith, g, next size channels whole left c all, sooner size channels whole left c)) ∙ k .high p (omega (arith, g, next size channels whole left c all));
+    high = λ p g. ap (piece size p) f ∙ run-after size now (c * whole) whole new wide room p (omega (arith, g, times-more c all, sooner size channels whole left c)) ∙ k .high p (omega (arith, g, times-more c all));
     wholes = λ d i a g. whole-at d i a g (ltb d c) refl;
     lefts = λ d j a g. left-at d j a g (ltb d c) refl;
   }

@@ -3,11 +3,11 @@ use mathlib.Core.Path.{_≡_, refl, sym, ap, subst, _∙_}
 use mathlib.Core.Bool.{Bool, true, false}
 use mathlib.Core.List.{List, _++_}
 use Prim.Native.Nat.{ℕ, _+_, _*_, _≤_, _<_}
-use native.Mathlib.Nat.{mul-add, add-mul, mul-comm, mul-left-comm, mul-le-mul, mul-le-mul-left, one-mul, zero-add}
+use native.Mathlib.Nat.{mul-add, mul-comm, mul-left-comm, mul-le-mul, mul-le-mul-left, zero-add}
 use native.Mathlib.Omega.{arith}
 use lib.Dec.{ltb}
-use lib.ListN.{length, take, drop, length-drop}
-use lib.Seq.{take-length, length-take-le}
+use lib.ListN.{length, take, drop}
+use lib.Seq.{take-length}
 use borrow.Author.Tests.{ltb-true, ltb-false}
 use Rattle.audio.specs.Format.{sampleBytes}
 use Rattle.audio.specs.Inner.{put}
@@ -16,7 +16,7 @@ use Rattle.audio.specs.declared.format.Format.the-variants.{F64, F32}
 use Rattle.audio.proofs.Carry.{places-end}
 use Rattle.audio.proofs.Numbers.{put-length}
 use Rattle.interleaving.specs.Inner.{piece, Transposed, TransposedEach}
-use Rattle.interleaving.proofs.Pieces.{ends-before, put-in, put-part, piece-in, piece-before, piece-after, piece-within}
+use Rattle.interleaving.proofs.Pieces.{part-length, times-more, ends-before, put-in, put-part, piece-in, piece-before, piece-after, piece-within}
 
 -- a sample has at most eight bytes
 pub sample-few : (format : Format) → sampleBytes format ≤ 8
@@ -76,7 +76,7 @@ module _ (size rows columns : ℕ) (before : List ℕ) where
 
       past : (p : ℕ) → (t + 1) * n ≤ p → piece size p (put now (size * (t * n)) tile) ≡ piece size p before
       past p h =
-          let e : (t + 1) * n ≡ t * n + n = add-mul t 1 n ∙ ap (λ (x : ℕ). t * n + x) (one-mul n) in
+          let e = times-more t n in
           let m = mul-le-mul-left {m = t * n + n} {n = p} size (omega (arith, e, h)) in
           piece-after size now (t * n) tile ahead p (omega (arith, m, mul-add size (t * n) n, long)) ∙ k .beyond p (omega (arith, e, h))
 
@@ -92,5 +92,5 @@ module _ (size rows columns : ℕ) (before : List ℕ) where
       whole : t * (size * n) + size * n ≤ length now → Lent t (size * n) (size * n) now tile
       whole room transposed long =
           let at = t * (size * n) in
-          let wide : length tile ≡ size * n = long ∙ length-take-le (size * n) (drop at now) (rw (length-drop at now) (omega (arith, room))) in
+          let wide : length tile ≡ size * n = long ∙ part-length now at (size * n) room in
           rw (put-part now tile at (size * n) wide) (put-length now at tile (omega (arith, room, wide)), tiles-more t now tile room wide transposed k)

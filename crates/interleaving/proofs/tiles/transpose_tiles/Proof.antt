@@ -4,11 +4,11 @@ use Prim.Native.Nat.{ℕ, _+_, _-_, _*_, _≤_}
 use native.Mathlib.Omega.{arith}
 use denote.Ref.{now}
 use borrow.Author.Needs.{needs}
-use lib.ListN.{length, take, drop, length-drop}
-use lib.Seq.{length-take-le}
+use lib.ListN.{length, take, drop}
 use Rattle.audio.specs.Format.{sampleBytes}
 use Rattle.audio.proofs.Carry.{places-end}
 use Rattle.interleaving.specs.Inner.{TransposedEach}
+use Rattle.interleaving.proofs.Pieces.{part-length}
 use Rattle.interleaving.proofs.Tiling.{tiles-none, lent-more}
 use Rattle.interleaving.proofs.tiles.transpose_tiles.Statement.{statement}
 use Rattle.interleaving.proofs.tiles.transpose_tiles.Tie as tie
@@ -48,8 +48,8 @@ transpose-tile-requires c κs =
     let a = s .args in
     let at = l .t * a .size in
     let w : at + a .size - at ≡ a .size = omega arith in
-    let room : a .size ≤ length (drop at (l .bytes)) = rw (length-drop at (l .bytes)) (omega (arith, inside (c .before .before), l .inv .1)) in
-    (s .pre .0, (ap (λ (m : ℕ). length (take m (drop at (l .bytes)))) w ∙ length-take-le (a .size) (drop at (l .bytes)) room ∙ s .pre .1 .0, l .inv .2))
+    let room : at + a .size ≤ length (l .bytes) = omega (arith, inside (c .before .before), l .inv .1) in
+    (s .pre .0, (ap (λ (m : ℕ). length (take m (drop at (l .bytes)))) w ∙ part-length (l .bytes) at (a .size) room ∙ s .pre .1 .0, l .inv .2))
 
 add-t : tie.Need-add-t Inv-loop μ-loop
 add-t c = omega arith
