@@ -1,11 +1,11 @@
--- A list whose elements are replaced in turn, by a loop: what stands in the places passed, and what the rest comes to, stay the whole.
-use mathlib.Core.Path.{_≡_, refl, sym, _∙_}
-use mathlib.Core.List.{List, [], _∷_, _++_, map, append-nil}
-use Prim.Native.Nat.{ℕ, _+_, _≤_, _<_}
+-- A list whose elements are replaced in turn, by a loop: what stands in the places passed, and what the rest comes to, stay the whole. Last, a list that is read from its end.
+use mathlib.Core.Path.{_≡_, refl, sym, ap, _∙_}
+use mathlib.Core.List.{List, [], _∷_, _++_, map, reverse, reverseAux, reverseAux-eq, append-nil}
+use Prim.Native.Nat.{ℕ, zero, suc, _+_, _≤_, _<_}
 use native.Mathlib.Numerals.{add-one}
 use native.Mathlib.Omega.{arith}
-use lib.ListN.{length, getD, set, take, drop, drop-of-length-le}
-use lib.Seq.{take-suc-set, append-snoc, drop-cons, drop-set-lt, take-all}
+use lib.ListN.{length, getD, set, take, drop, length-reverse, drop-of-length-le}
+use lib.Seq.{take-suc-set, append-snoc, drop-cons, drop-set-lt, getD-at, take-all}
 use lib.Ieee.{Float, nan}
 
 module _ (l : List Float) (i : ℕ) (h : i < length l) where
@@ -48,3 +48,11 @@ module _ (l line : List Float) (i : ℕ) where
 
   pub lifted-done : length l ≤ i → length line ≤ i → l ≡ take i l ++ drop i line
   lifted-done h k = rw (none-left line i k) (sym (all-stored l i h))
+
+-- a list laid in reverse before another, read from its end
+pub reversed-at : (l b : List Float) (i k : ℕ) (d : Float) → i + suc k ≡ length l → getD (reverseAux l b) k d ≡ getD l i d
+reversed-at [] b i k d h = absurd (omega (arith, h))
+reversed-at (x ∷ xs) b zero k d h =
+    ap (λ (l : List Float). getD l k d) (reverseAux-eq xs (x ∷ b))
+    ∙ getD-at (reverse xs) x b d k (length-reverse xs ∙ omega arith)
+reversed-at (x ∷ xs) b (suc i) k d h = reversed-at xs (x ∷ b) i k d (omega arith)

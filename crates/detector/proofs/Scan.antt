@@ -1,15 +1,16 @@
 -- The loops of `quiet`: the answer so far and the rest make the whole.
-use mathlib.Core.Path.{_≡_, sym, ap, _∙_, subst}
+use mathlib.Core.Path.{_≡_, sym, _∙_, subst}
 use mathlib.Core.Bool.{Bool, true, false, _&&_}
-use mathlib.Core.List.{List, [], _∷_, _++_, map, reverse, reverseAux, reverseAux-eq}
-use Prim.Native.Nat.{ℕ, zero, suc, _+_, _-_, _<_, _≤_}
+use mathlib.Core.List.{List, [], _++_, map, reverseAux}
+use Prim.Native.Nat.{ℕ, _+_, _-_, _<_, _≤_}
 use native.Mathlib.Numerals.{add-one}
 use native.Mathlib.Omega.{arith}
-use lib.ListN.{length, getD, take, drop, set, length-map, length-reverse, length-reverseAux, List·getD-map, drop-of-length-le}
-use lib.Seq.{drop-cons, getD-at, take-all}
+use lib.ListN.{length, getD, take, drop, set, length-map, length-reverseAux, List·getD-map, drop-of-length-le}
+use lib.Seq.{drop-cons, take-all}
 use lib.Ieee.{Float, nan, neg}
 use Rattle.arithmetic.specs.Number.{within}
 use Rattle.arithmetic.specs.Sanitize.{finiteOrZero}
+use Rattle.arithmetic.proofs.InTurn.{reversed-at}
 use Rattle.detector.specs.Oversample.{remembered}
 use Rattle.detector.specs.Run.{pushesOf}
 use Rattle.detector.specs.Level.{allWithin}
@@ -30,14 +31,6 @@ module _ (m : Float) (xs : List Float) (i : ℕ) where
   within-all h false e = e
 
 -- ---- `remember_newest`
--- a list laid in reverse before another, read from its end
-reversed-at : (l b : List Float) (i k : ℕ) (d : Float) → i + suc k ≡ length l → getD (reverseAux l b) k d ≡ getD l i d
-reversed-at [] b i k d h = absurd (omega (arith, h))
-reversed-at (x ∷ xs) b zero k d h =
-    ap (λ (l : List Float). getD l k d) (reverseAux-eq xs (x ∷ b))
-    ∙ getD-at (reverse xs) x b d k (length-reverse xs ∙ omega arith)
-reversed-at (x ∷ xs) b (suc i) k d h = reversed-at xs (x ∷ b) i k d (omega arith)
-
 module _ (phases : List (List Float)) (store run : List Float) where
   abbrev pub newestFirst : List Float
   newestFirst = reverseAux (map finiteOrZero run) (store ++ [])
