@@ -1,19 +1,19 @@
 -- The stores of the starred rows fit, and their weights are accepted.
-use Prim.Native.Nat.{ℕ, zero, suc, _+_, _*_, _^_}
+use Prim.Native.Nat.{ℕ, _+_, _*_}
 use mathlib.Core.Path.{_≡_, refl}
 use mathlib.Core.Bool.{true}
 use mathlib.Core.List.{List, [], _∷_}
-use native.Mathlib.Nat.{zero-mul, suc-mul, add-comm}
-use lib.ListN.{length, replicate, length-replicate}
+use lib.ListN.{length, length-replicate}
 use lib.Ieee.{Float, ofBits, lt, le}
 use borrow.Author.Tests.{eq-eqb}
 use Rattle.arithmetic.specs.Number.{one}
 use Rattle.settings.specs.Derived.{rowOf}
-use Rattle.settings.specs.Weights.{inUnit, partOf, allInUnit, partsOf, near, accepted}
+use Rattle.settings.specs.Weights.{accepted}
 use Rattle.limiter.specs.Stores.{lengthsOf, lengthsFit}
 use Rattle.limiter.specs.Prepare.{storesRefusal}
 use Rattle.claims.specs.RustWeights.{rustWeights}
-use Rattle.claims.specs.Rows.{lent, share}
+use Rattle.claims.specs.Tent.{tent}
+use Rattle.claims.specs.Rows.{lent}
 
 -- ---- weights
 rust-accepted : accepted rustWeights ≡ true
@@ -24,22 +24,9 @@ one-accepted : accepted (one ∷ []) ≡ true
 unfolding accepted lt le
 one-accepted = refl
 
--- n equal ones: their parts are n times the one part
-equal-inside : (n : ℕ) (w : Float) → inUnit w ≡ true → allInUnit (replicate n w) ≡ true
-equal-inside zero w h = refl
-equal-inside (suc n) w h = rw h (equal-inside n w h)
-
-equal-parts : (n : ℕ) (w : Float) → partsOf (replicate n w) ≡ n * partOf w
-equal-parts zero w = rw (zero-mul (partOf w)) refl
-equal-parts (suc n) w = rw (equal-parts n w, suc-mul n (partOf w)) (add-comm (partOf w) (n * partOf w))
-
-equal-accepted : (n : ℕ) (w : Float) → inUnit w ≡ true → near (n * partOf w) (2 ^ 60) (512 * n) ≡ true → accepted (replicate n w) ≡ true
-unfolding accepted
-equal-accepted n w h k = rw (equal-inside n w h, equal-parts n w, length-replicate n w) k
-
-shares-accepted : accepted (replicate 4085 share) ≡ true
-unfolding ofBits lt le
-shares-accepted = equal-accepted 4085 share refl refl
+tent-accepted : accepted tent ≡ true
+unfolding accepted tent ofBits lt le
+tent-accepted = refl
 
 -- ---- lengths
 lent-fits : (channels look : ℕ) (weights : List Float) (x : Float) (mark : ℕ) → length weights ≡ rowOf look → lengthsFit channels look (lengthsOf (lent channels look weights x mark)) ≡ true
@@ -66,6 +53,10 @@ rust-length : length rustWeights ≡ 61
 unfolding rustWeights
 rust-length = refl
 
+tent-length : length tent ≡ 4085
+unfolding tent
+tent-length = refl
+
 module _ (x : Float) (mark : ℕ) where
   pub passes-72 : storesRefusal 2 72 (lengthsOf (lent 2 72 rustWeights x mark)) rustWeights ≡ 0
   passes-72 = none-refused 2 72 rustWeights x mark rust-length rust-accepted
@@ -73,5 +64,5 @@ module _ (x : Float) (mark : ℕ) where
   pub passes-11 : storesRefusal 2 11 (lengthsOf (lent 2 11 (one ∷ []) x mark)) (one ∷ []) ≡ 0
   passes-11 = none-refused 2 11 (one ∷ []) x mark refl one-accepted
 
-  pub passes-4096 : storesRefusal 2 4096 (lengthsOf (lent 2 4096 (replicate 4085 share) x mark)) (replicate 4085 share) ≡ 0
-  passes-4096 = none-refused 2 4096 (replicate 4085 share) x mark (length-replicate 4085 share) shares-accepted
+  pub passes-4096 : storesRefusal 2 4096 (lengthsOf (lent 2 4096 tent x mark)) tent ≡ 0
+  passes-4096 = none-refused 2 4096 tent x mark tent-length tent-accepted

@@ -1,4 +1,4 @@
--- The claim is false of each of the six limiters of specs/SetupControls.antt: a setup, in 4 to 6 a call after it, and the one place of the claim that two constants contradict.
+-- The claim is false of each of the seven limiters of specs/SetupControls.antt: a setup, in 4 to 6 a call after it, and the one place of the claim that two constants contradict.
 use Prim.Native.Nat.{ℕ}
 use mathlib.Core.Path.{refl, ap}
 use mathlib.Core.List.{[], _∷_}
@@ -23,7 +23,7 @@ use Rattle.claims.specs.Session.{block, parameter}
 use Rattle.claims.specs.Claim.{Claim}
 use Rattle.claims.specs.Table.{firstArising, parameterRows}
 use Rattle.claims.specs.Rows.{stereo}
-use Rattle.claims.specs.SetupControls.{marginFirst, wholeCapTold, zeroUncapped, staysSetUp, emptyUnjudged, valueFirst}
+use Rattle.claims.specs.SetupControls.{marginFirst, wholeCapTold, zeroUncapped, staysSetUp, emptyUnjudged, valueFirst, lopsidedTaken}
 use Rattle.claims.proofs.ControlsStart.{calling, settingsIn, specIn, mono}
 
 -- a value that is a count
@@ -84,3 +84,15 @@ unfolding setting-up
 no-value-first claim =
     eqb-false 23 18 refl
     (ap (λ (r : Reply). r .number) (claim .refused-after defaults (processSpec 0 1 64 Cap.Unlimited) no-stores (λ z. omega arith) (parameter 0 nan ∷ []) .0 .reply))
+
+-- 7: look 14, mono; weights of 1/8, 1/4 and 5/8, which sum up and rise late
+abbrev late : Stores
+late =
+    storesAt (replicate 14 Number.zero) (replicate 15 0) (replicate 15 Number.zero) (bits 0x3fc0_0000_0000_0000 ∷ bits 0x3fd0_0000_0000_0000 ∷ bits 0x3fe4_0000_0000_0000 ∷ [])
+    (replicate 3 one) (replicate 12 Number.zero)
+
+pub no-lopsided-taken : Claim lopsidedTaken → ⊥
+unfolding setting-up tabled
+no-lopsided-taken claim =
+    eqb-false 0 17 refl
+    (ap (λ (r : Reply). r .number) (claim .setup-answered (settingsOf Number.zero Number.zero (bits 0x3ffc_0000_0000_0000) Number.zero) (specIn mono) late))

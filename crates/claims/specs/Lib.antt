@@ -9,4 +9,5 @@ pub mod GainSteps
 pub mod Controls
 pub mod SetupControls
 pub mod RustWeights
+pub mod Tent
 pub mod Rows

@@ -27,6 +27,7 @@ use Rattle.driver.specs.Calls
 use Rattle.floors_text.specs.Print.{ascii}
 use Rattle.floors_text.specs.Text.{textOf}
 use Rattle.claims.specs.RustWeights.{rustWeights}
+use Rattle.claims.specs.Tent.{tent}
 
 abbrev pub half : Float
 half = bits 0x3fe0_0000_0000_0000
@@ -51,18 +52,15 @@ abbrev pub lent : ℕ → ℕ → List Float → Float → ℕ → Stores
 lent channels look weights x mark =
     storesAt (replicate (channels * look) x) (replicate (look + 1) mark) (replicate (look + 1) x) weights (replicate (rowOf look) x) (replicate (channels * 12) x)
 
--- for look 72 those with the Rust's weights; for look 11 the one weight 1.0, the Rust's too; for look 4,096 as many equal ones, each the f64 nearest to 1 / 4,085
+-- for look 72 those with the Rust's weights; for look 11 the one weight 1.0, the Rust's too; for look 4,096 the 4,085 of Tent.antt
 abbrev pub lent72 : Float → ℕ → Stores
 lent72 x mark = lent 2 72 rustWeights x mark
 
 abbrev pub lent11 : Float → ℕ → Stores
 lent11 x mark = lent 2 11 (one ∷ []) x mark
 
-abbrev pub share : Float
-share = bits 0x3f30_0b07_9536_9587
-
 abbrev pub lent4096 : Float → ℕ → Stores
-lent4096 x mark = lent 2 4096 (replicate 4085 share) x mark
+lent4096 x mark = lent 2 4096 tent x mark
 
 -- lookaheads in ms
 abbrev pub ms0·21 : Float

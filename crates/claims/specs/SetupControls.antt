@@ -1,4 +1,4 @@
--- CONTROLS OF SETUP: six limiters of which the claim is false in what setup replies, or in what is replied after a refused one (proofs/SetupControls.antt). Each is `limiting` but for the one place
+-- CONTROLS OF SETUP: seven limiters of which the claim is false in what setup replies, or in what is replied after a refused one (proofs/SetupControls.antt). Each is `limiting` but for the one place
 -- that its comment names.
 use mathlib.Core.Bool.{cond, not, _&&_}
 use mathlib.Core.List.{List, [], _∷_, _++_}
@@ -7,12 +7,13 @@ use lib.ListN.{length, take, replicate}
 use lib.Ieee.Scale.{finite}
 use Rattle.arithmetic.specs.Reply.{Value, count, float, finished, refused, numbered}
 use Rattle.settings.specs.Settings.{processSpec}
+use Rattle.settings.specs.Weights.{sumsUp}
 use Rattle.settings.specs.Accepted.{marginTaken}
 use Rattle.settings.specs.declared.LimiterSettings.{LimiterSettings}
 use Rattle.settings.specs.declared.ProcessSpec.{ProcessSpec}
 use Rattle.settings.specs.declared.memory.Cap.{Cap}
 use Rattle.limiter.specs.State.{started}
-use Rattle.limiter.specs.Stores.{Stores}
+use Rattle.limiter.specs.Stores.{Stores, filled}
 use Rattle.bank.specs.Bank.{setUpOf}
 use Rattle.turns.specs.Machine.{machineOf, thresholdParam}
 use Rattle.turns.specs.Block.{blockOf}
@@ -76,3 +77,10 @@ valueFirst = record {
   parameters = λ m id v. cond (finite v) (parameterOf m id v) (left (refused 23 (count id ∷ float v ∷ [])) m);
   resets = limiting .resets;
 }
+
+-- ---- 7: weights judged by document 01's sentence alone, without Change 3's clauses
+abbrev pub lopsidedTaken : Limiting
+lopsidedTaken = withSetups (λ s spec stores.
+    let r = setupOf s spec stores in
+    cond (eqb (r .reply .number) 17 && sumsUp (stores .weights))
+    (left (finished []) (machineOf (started s spec) (setUpOf (replicate 8 (thresholdParam s)) 1 (spec .rate) .bank) (filled stores))) r)

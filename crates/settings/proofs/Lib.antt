@@ -3,6 +3,8 @@ pub mod Domain
 pub mod Unit
 pub mod WeightPart
 pub mod WeightSum
+pub mod WeightPairs
+pub mod WeightPlaces
 pub mod Rows
 pub mod Wrong
 pub mod Taken

@@ -1,17 +1,16 @@
 -- The loop over the weights: what it has still to find out is what was asked of the whole.
 use mathlib.Core.Path.{_≡_, refl, sym, _∙_}
-use mathlib.Core.Bool.{Bool, true, false, _&&_}
-use mathlib.Core.List.{List, [], _∷_}
+use mathlib.Core.Bool.{Bool, true, false, _&&_, and-false}
+use mathlib.Core.List.{List, []}
 use Prim.Native.Nat.{ℕ, _+_, _*_, _^_, _≤_, _<_}
 use native.Mathlib.Nat.{zero-add, add-zero, add-assoc}
 use native.Mathlib.Omega.{arith}
-use native.Mathlib.Numerals.{add-one}
 use lib.Dec.{leb}
 use lib.ListN.{length, getD, drop, drop-of-length-le}
-use lib.Seq.{drop-cons}
 use lib.Ieee.{Float, nan}
 use borrow.Author.Tests.{lt-leb, le-leb}
-use Rattle.settings.specs.Weights.{inUnit, partOf, allInUnit, partsOf, near, accepted}
+use Rattle.arithmetic.proofs.InTurn.{split}
+use Rattle.settings.specs.Weights.{inUnit, partOf, allInUnit, partsOf, near, sumsUp}
 
 -- the answer where the parts passed sum up to `sum` and `ws` are left
 abbrev pub answerOn : ℕ → ℕ → List Float → Bool
@@ -21,38 +20,29 @@ answerOn slack sum ws = allInUnit ws && near (sum + partsOf ws) (2 ^ 60) slack
 pub record Summed (ws : List Float) (slack sum i : ℕ) : Type 0 where
   pub passed : i ≤ length ws
   pub limit : sum ≤ 2 ^ 60 + slack
-  pub same : answerOn slack sum (drop i ws) ≡ accepted ws
+  pub same : answerOn slack sum (drop i ws) ≡ sumsUp ws
 
 pub at-start : (ws : List Float) → Summed ws (512 * length ws) 0 0
-unfolding accepted
 at-start ws = record { passed = omega arith; limit = omega arith; same = rw (zero-add (partsOf ws)) refl }
 
-and-no : (p q : Bool) → q ≡ false → false ≡ (p && q)
-and-no true q e = sym e
-and-no false q e = refl
-
 module _ (ws : List Float) (slack sum i : ℕ) (s : Summed ws slack sum i) (h : i < length ws) where
-  -- what is left, with its first weight
-  split : drop i ws ≡ getD ws i nan ∷ drop (i + 1) ws
-  split = rw (add-one i) (drop-cons ws i nan h)
-
-  pub at-bad : inUnit (getD ws i nan) ≡ false → false ≡ accepted ws
-  at-bad e = rw (split, e) at (s .same)
+  pub at-bad : inUnit (getD ws i nan) ≡ false → false ≡ sumsUp ws
+  at-bad e = rw (split ws i h, e) at (s .same)
 
   module _ (p : ℕ) (e : inUnit (getD ws i nan) ≡ true) (q : p ≡ partOf (getD ws i nan)) where
-    moved : answerOn slack (sum + p) (drop (i + 1) ws) ≡ accepted ws
-    moved = rw (q, add-assoc sum (partOf (getD ws i nan)) (partsOf (drop (i + 1) ws))) (rw (split, e) at (s .same))
+    moved : answerOn slack (sum + p) (drop (i + 1) ws) ≡ sumsUp ws
+    moved = rw (q, add-assoc sum (partOf (getD ws i nan)) (partsOf (drop (i + 1) ws))) (rw (split ws i h, e) at (s .same))
 
     pub at-next : sum + p ≤ 2 ^ 60 + slack → Summed ws slack (sum + p) (i + 1)
     at-next l = record { passed = omega arith; limit = l; same = moved }
 
     -- a sum past the limit stays past it
-    pub at-most : 2 ^ 60 + slack < sum + p → false ≡ accepted ws
+    pub at-most : 2 ^ 60 + slack < sum + p → false ≡ sumsUp ws
     at-most l =
         let rest = drop (i + 1) ws in
-        and-no (allInUnit rest) (near (sum + p + partsOf rest) (2 ^ 60) slack) (rw (lt-leb (sum + p + partsOf rest) (2 ^ 60 + slack) (omega arith)) refl) ∙ moved
+        sym (rw (lt-leb (sum + p + partsOf rest) (2 ^ 60 + slack) (omega arith)) (and-false (allInUnit rest))) ∙ moved
 
-pub at-end : (ws : List Float) (slack sum i : ℕ) → Summed ws slack sum i → length ws ≤ i → leb (2 ^ 60) (sum + slack) ≡ accepted ws
+pub at-end : (ws : List Float) (slack sum i : ℕ) → Summed ws slack sum i → length ws ≤ i → leb (2 ^ 60) (sum + slack) ≡ sumsUp ws
 at-end ws slack sum i s h =
-    let k : answerOn slack sum [] ≡ accepted ws = rw (drop-of-length-le ws h) at (s .same) in
+    let k : answerOn slack sum [] ≡ sumsUp ws = rw (drop-of-length-le ws h) at (s .same) in
     rw (add-zero sum, le-leb sum (2 ^ 60 + slack) (s .limit)) at k

@@ -1,8 +1,8 @@
 -- Inputs at which the wrong programs of ARCHITECTURE.md's table would answer otherwise: each row computes what the definition answers there, and its comment names the wrong program.
-use Prim.Native.Nat.{ℕ, _^_}
+use Prim.Native.Nat.{ℕ, _+_, _-_, _/_, _^_}
 use mathlib.Core.Path.{_≡_, refl}
 use mathlib.Core.Bool.{true, false}
-use mathlib.Core.List.{[], _∷_}
+use mathlib.Core.List.{List, [], _∷_, reverse}
 use lib.ListN.{replicate}
 use lib.IntN.{pos}
 use lib.Ieee.{Float, nan, binary64, add, sub, mul, div, neg, lt, le, eq, ofInt, ofBits, toBits, toUnsigned}
@@ -12,7 +12,7 @@ use Rattle.arithmetic.specs.Exp.{expOf}
 use Rattle.settings.specs.Settings.{settingsOf, defaults, processSpec}
 use Rattle.settings.specs.Derived.{lookOf, rowOf, coefficientAt, coefficientOf}
 use Rattle.settings.specs.Memory.{needed, capJudged, leftOf}
-use Rattle.settings.specs.Weights.{accepted}
+use Rattle.settings.specs.Weights.{rising, firstHalf, accepted}
 use Rattle.settings.specs.Target.{targetOf}
 use Rattle.settings.specs.Accepted.{refusalOf}
 use Rattle.settings.specs.declared.memory.Cap.{Cap}
@@ -22,16 +22,80 @@ abbrev minusOne : Float
 minusOne = bits 0xbff0_0000_0000_0000
 
 -- ---- weights
--- a sum past its slack of 512 × L taken: 1 and 2^-50, which are 2^60 + 1024 in all, are just taken; 2^-60 more is not
-pub slack :
-    (accepted (one ∷ bits 0x3cd0_0000_0000_0000 ∷ []) ≡ true) × (accepted (one ∷ bits 0x3cd0_0400_0000_0000 ∷ []) ≡ false)
-unfolding accepted lt le ofBits
-slack = (refl, refl)
+-- 2^−8, about 1 − 2^−7 and about 2^−8, in parts of 2^−60: what the middle one has less, and the last one more
+abbrev three : ℕ → ℕ → List Float
+three less extra = bits 0x3f70_0000_0000_0000 ∷ bits (0x3fef_c000_0000_0000 - less / 128) ∷ bits (0x3f70_0000_0000_0000 + extra) ∷ []
 
--- a sum that wraps past 2^64 taken: 17 × 2^60 is 2^60 and 2^64
-pub no-wrapped-sum : accepted (replicate 17 one) ≡ false
-unfolding accepted lt le
+-- a sum past its slack of 512 × L taken: 1,536 off 2^60 are just taken, 1,537 are not, above and below
+pub slack : (accepted (three 0 1536) ≡ true) × (accepted (three 0 1537) ≡ false) × (accepted (three 1536 0) ≡ true) × (accepted (three 1664 127) ≡ false)
+unfolding accepted lt le ofBits
+slack = (refl, refl, refl, refl)
+
+-- a sum that wraps past 2^64 taken: 17 weights that rise to 1 by last places, 17 × 2^60 − 4,608 in all, which 64 bits hold as 2^60 − 4,608
+pub no-wrapped-sum :
+    accepted (bits 0x3fef_ffff_ffff_fff8 ∷ bits 0x3fef_ffff_ffff_fff9 ∷ bits 0x3fef_ffff_ffff_fffa ∷ bits 0x3fef_ffff_ffff_fffb ∷ bits 0x3fef_ffff_ffff_fffc ∷ bits 0x3fef_ffff_ffff_fffd
+    ∷ bits 0x3fef_ffff_ffff_fffe ∷ bits 0x3fef_ffff_ffff_ffff ∷ replicate 9 one)
+    ≡ false
+unfolding accepted lt le ofBits
 no-wrapped-sum = refl
+
+-- mirrored parts that differ by 4,097 taken, or by 4,096 refused; or only a last one that is too large seen, or a first
+pub mirror : (accepted (three 4096 4096) ≡ true) × (accepted (three 4096 4097) ≡ false) × (accepted (reverse (three 4096 4097)) ≡ false)
+unfolding accepted lt le ofBits
+mirror = (refl, refl, refl)
+
+-- what lies below the whole parts counted too, or the parts rounded: 1/4 of a part, and 4,096 and 3/4
+pub whole-parts : accepted (bits 0x3c10_0000_0000_0000 ∷ bits 0x3fef_ffff_ffff_ffe0 ∷ bits 0x3cf0_00c0_0000_0000 ∷ []) ≡ true
+unfolding accepted lt le ofBits
+whole-parts = refl
+
+-- the bits of 1/8, 1/4 and 3/8, and weights by their bits
+abbrev eighth : ℕ
+eighth = 0x3fc0_0000_0000_0000
+
+abbrev quarter : ℕ
+quarter = 0x3fd0_0000_0000_0000
+
+abbrev more : ℕ
+more = 0x3fd8_0000_0000_0000
+
+abbrev four : ℕ → ℕ → ℕ → ℕ → List Float
+four a b c d = bits a ∷ bits b ∷ bits c ∷ bits d ∷ []
+
+-- only the outermost pair compared, or only the innermost; or a fall asked past the middle. 32 last places below 3/8 and as many above are 4,096 parts apart, 128 below 1/8 and 64 above too
+pub each-pair :
+    (accepted (four eighth 0x3fd7_ffff_ffff_ffe0 (more + 32) eighth) ≡ true) × (accepted (four eighth 0x3fd7_ffff_ffff_ffe0 (more + 33) eighth) ≡ false)
+    × (accepted (four 0x3fbf_ffff_ffff_ff80 more more (eighth + 64)) ≡ true) × (accepted (four 0x3fbf_ffff_ffff_ff80 more more (eighth + 65)) ≡ false)
+unfolding accepted lt le ofBits
+each-pair = (refl, refl, refl, refl)
+
+-- 1/8, 1/4, so many last places more than 1/4, and down again
+abbrev five : ℕ → List Float
+five last = bits eighth ∷ four quarter (quarter + last) quarter eighth
+
+-- the rise asked one place too few, or equal neighbours taken: the middle one of five, and the second of four, are to be above the one before
+pub to-the-middle : (accepted (five 1) ≡ true) × (accepted (five 0) ≡ false) × (accepted (four quarter quarter quarter quarter) ≡ false)
+unfolding accepted lt le ofBits
+to-the-middle = (refl, refl, refl)
+
+-- the rise asked one place too many: of four, the third may be below the second
+pub not-past-it : accepted (four eighth more 0x3fd7_ffff_ffff_ffff eighth) ≡ true
+unfolding accepted lt le ofBits
+not-past-it = refl
+
+-- the first pair not asked: six that rise late, of which the sum is right
+pub late-rise : accepted (bits eighth ∷ bits eighth ∷ four quarter quarter eighth eighth) ≡ false
+unfolding accepted lt le ofBits
+late-rise = refl
+
+-- the whole parts asked to rise in place of the weights: of the least two floats both are 0
+pub weights-rise : (accepted (bits 1 ∷ bits 2 ∷ one ∷ bits 2 ∷ bits 1 ∷ []) ≡ true) × (accepted (bits 2 ∷ bits 1 ∷ one ∷ bits 1 ∷ bits 2 ∷ []) ≡ false)
+unfolding accepted lt le ofBits
+weights-rise = (refl, refl)
+
+-- a rise asked of one weight, or of two: there is none to ask for, whatever they are
+pub short-rows : (v w : Float) → (rising (firstHalf (w ∷ [])) ≡ true) × (rising (firstHalf (v ∷ w ∷ [])) ≡ true)
+short-rows v w = (refl, refl)
 
 -- ---- look, release coefficient, target
 -- halves rounded to even: 12 for 12.5, which 1.5625 ms are at 8,000
