@@ -34,7 +34,6 @@ mod show;
 mod shrink;
 mod signals;
 mod singles;
-#[cfg(any(test, feature = "probe"))]
 mod tables;
 #[cfg(feature = "probe")]
 mod time;

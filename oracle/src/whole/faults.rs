@@ -1,13 +1,13 @@
 //! What is done to a call before it is played: lengths that are wrong, bytes
 //! that are no state, and states and stores that were changed from outside.
 
-use crate::calls::{words, Call, Lent, MARKS, ROW, STATE, STORES, WEIGHTS};
+use crate::calls::{floats, words, Call, Lent, MARKS, ROW, STATE, STORES, WEIGHTS};
 use crate::layout::{smoother, state};
 use crate::model::keeper::MOST_FRAMES;
 use crate::model::state::State;
 use crate::numbers::{any, near, not_finite};
-use crate::rings;
 use crate::rng::Rng;
+use crate::{rings, tables};
 
 /// One change. Places are taken round at the length of what they are in, so
 /// that a fault means something on every limiter.
@@ -68,6 +68,10 @@ pub enum Fault {
     Ring {
         seed: u64,
     },
+    /// Weights at the edge of a clause of their rule.
+    Weights {
+        seed: u64,
+    },
     /// Another floor in the row, with a tally that stays true.
     Floor {
         at: usize,
@@ -113,6 +117,7 @@ impl Fault {
                 self.change_state(&mut lent.state);
             }
             Self::Late { .. } | Self::Ring { .. } | Self::Floor { .. } => self.forge(lent),
+            Self::Weights { seed } => aim(&mut lent.stores.0[WEIGHTS], seed),
             Self::StoreWord { which, .. }
             | Self::StoreAdd { which, .. }
             | Self::StoreBit { which, .. }
@@ -183,6 +188,14 @@ impl Fault {
         }
         lent.state = state.bytes();
     }
+}
+
+/// Weights at the edge of a clause of their rule.
+fn aim(store: &mut [u64], seed: u64) {
+    let mut table = floats(store);
+    tables::aim(&mut table, &mut Rng::new(seed));
+    let aimed = store.iter_mut().zip(table);
+    aimed.for_each(|(word, weight)| *word = weight.to_bits());
 }
 
 /// So many places more or fewer; a list is never shorter than empty.
@@ -306,6 +319,7 @@ pub fn weights(rng: &mut Rng) -> Fault {
             let bit = rng.below(64) as u32;
             Fault::StoreBit { which, at, bit }
         }
+        2 => Fault::Weights { seed: rng.word() },
         _ => {
             let by = rng.below(20_000) as i64 - 10_000;
             Fault::StoreAdd { which, at, by }

@@ -4,10 +4,11 @@
 use super::plan::Part;
 use super::*;
 use crate::audio::{Audio, Crossing as _, Format};
-use crate::calls::{Call, Lent, ANSWER};
+use crate::calls::{floats, Call, Lent, ANSWER, WEIGHTS};
 use crate::layout::state as at;
 use crate::model::calls::call as model;
 use crate::model::setup::look;
+use crate::model::weights::{ranged, summed};
 
 const WHOLE: Settings = Settings {
     mode: Mode::Whole,
@@ -380,4 +381,29 @@ fn unjudged(lent: &mut Lent, call: &mut Call) -> u32 {
 fn damage_finds_what_sessions_do_not() {
     let (passed, text) = run(&DAMAGE, Some(unjudged));
     assert!(!passed && text.contains("at: 18"), "{text}");
+}
+
+/// Weights of which only range and sum are judged: those that pass are set up as
+/// others, which pass by every clause.
+fn lopsided(lent: &mut Lent, call: &mut Call) -> u32 {
+    let kept = lent.stores.0[WEIGHTS].clone();
+    let table = floats(&kept);
+    if matches!(call, Call::Setup { .. }) && ranged(&table) && summed(&table) {
+        let last = table.len() - 1;
+        let spike = |i: usize| match i.abs_diff(last - i) {
+            0 => 1.0f64.to_bits(),
+            1 => 0.5f64.to_bits(),
+            _ => 1 + i.min(last - i) as u64,
+        };
+        lent.stores.0[WEIGHTS] = (0..=last).map(spike).collect();
+    }
+    let number = model(lent, call);
+    lent.stores.0[WEIGHTS] = kept;
+    number
+}
+
+#[test]
+fn damage_finds_lopsided_weights() {
+    let (passed, text) = run(&DAMAGE, Some(lopsided));
+    assert!(!passed && text.contains("due 17, seen 0"), "{text}");
 }
