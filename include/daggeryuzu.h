@@ -12,6 +12,11 @@
  * look - 11, at least 1): delay channels * look; marks look + 1; minima look + 1; weights L; row L;
  * detector channels * 12. Each call gets them as the last one left them. No two slices may overlap.
  *
+ * The weights are the caller's to compute, for example as examples/limit.c does; setup judges them, by 17. Each is above 0
+ * and at most 1. Of the whole parts of weight * 2^60, the sum is at most 512 * L from 2^60, and no two at mirrored places
+ * (i and L - 1 - i, from 0) are more than 4096 apart. The weights themselves rise strictly from place 0 to (L - 1) / 2,
+ * rounded down.
+ *
  * Audio is planar: channel c holds frames c * frames onward; a sample is 8 bytes, or 4 in the functions that end
  * in _float, low byte first. audio_len is channels * frames * 8 bytes, * 4 in _float; any other is refusal 20 of a block
  * or drain.
