@@ -58,7 +58,7 @@ returns-2 c =
     let e = c .before .before in
     let l = e .before .before .before .before in
     let ws = l .before .before .args .weights .now in
-    at-most ws (512 * length ws) (l .loop .sum) (l .loop .i) (l .loop .inv) (e .before .before .before .loop-test .taken) (c .before .part .result) (unit e) (c .before .part .ensures .0) (c .if2 .taken)
+    at-most ws (512 * length ws) (l .loop .sum) (l .loop .i) (l .loop .inv) (e .before .before .before .loop-test .taken) (c .before .part .result) (unit e) (c .before .part .ensures .0) (omega (arith, c .if2 .taken))
 
 add-i : tie.Need-add-i Inv-loop μ-loop
 add-i c = omega arith
@@ -71,7 +71,7 @@ loop-again c =
     let e = c .before .before in
     let l = e .before .before .before .before in
     let ws = l .before .before .args .weights .now in
-    at-next ws (512 * length ws) (l .loop .sum) (l .loop .i) (l .loop .inv) (e .before .before .before .loop-test .taken) (c .before .part .result) (unit e) (c .before .part .ensures .0) (c .if2 .left)
+    at-next ws (512 * length ws) (l .loop .sum) (l .loop .i) (l .loop .inv) (e .before .before .before .loop-test .taken) (c .before .part .result) (unit e) (c .before .part .ensures .0) (omega (arith, c .if2 .left))
 
 add-result : tie.Need-add-result Inv-loop μ-loop
 add-result c = omega (arith, c .before .loop .inv .limit, c .before .before .before .pre)
