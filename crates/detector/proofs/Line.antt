@@ -1,154 +1,159 @@
--- A line of samples, the newest first: how the loops over it fill it and read it, and that it gives the answers of the single pushes.
+-- A run and, behind it, what a store remembers, as one list with the newest sample first: its answers, and its newest twelve, are those of the single pushes. Then what the calls of a run add up to.
 use mathlib.Core.Path.{_≡_, refl, sym, ap, _∙_, subst}
-use mathlib.Core.List.{List, [], _∷_, _++_, map, reverse, reverseAux, reverseAux-eq, append-assoc}
-use Prim.Native.Nat.{ℕ, zero, suc, _+_, _-_, _<_, _≤_}
+use mathlib.Core.List.{List, [], _∷_, _++_, map, reverse, reverseAux, reverseAux-eq, append-nil}
+use Prim.Native.Nat.{ℕ, zero, suc, _+_, _-_, _*_, _<_, _≤_}
+use native.Mathlib.Nat.{sub-zero}
 use native.Mathlib.Numerals.{add-one}
-use native.Mathlib.Nat.{sub-self}
 use native.Mathlib.Omega.{arith}
-use lib.ListN.{length, getD, take, drop, set, length-drop, length-map, length-reverse, drop-of-length-le, take-append-drop}
-use lib.Seq.{drop-cons, drop-at, take-at, drop-set-lt, getD-drop, getD-set-same, take-all, length-take-le, lt-length-set, paste, paste-suc}
-use lib.Ieee.{Float}
+use lib.ListN.{length, getD, take, drop, set, length-map, length-reverse, drop-of-length-le, List·getD-map}
+use lib.Seq.{take-suc, take-suc-set, take-all, take-append-le, take-append-add, drop-at, length-take-le, getD-take}
+use lib.Ieee.{Float, nan}
 use borrow.Author.Tests.{eq-eqb, ne-eqb, le-leb, lt-leb}
 use Rattle.arithmetic.specs.Sanitize.{finiteOrZero}
-use Rattle.detector.specs.Oversample.{remembered, shifted, sumsOf, largestOf, Pushed, pushedAt, detected, peakAbsOf}
-use Rattle.detector.specs.Run.{runLength, pushesAt, pushesOf, peaksAbsOf, answersIn}
+use Rattle.arithmetic.proofs.InTurn.{reversed-at}
+use Rattle.detector.specs.Oversample.{remembered, sumsOf, largestOf, pushedAt, detected, peakAbsOf}
+use Rattle.detector.specs.Run.{runLength, pushesAt, pushFirst, pushesOf, peaksAbsOf}
+use Rattle.detector.specs.History.{latest}
+use Rattle.detector.specs.Sums.{factor, added, sumsOn, upTo, answersOf}
+use Rattle.detector.proofs.Store.{push-shifts, latest-more}
 use Rattle.detector.proofs.Copy.{copied-more}
-use Rattle.detector.proofs.Store.{shifted-length, push-shifts, run-pushes}
+use Rattle.detector.proofs.Turns.{joined, front-more}
+use Rattle.detector.proofs.Sums.{sums-more}
 
--- ---- `window`
-pub window-more : (l line : List Float) (at i : ℕ) (d : Float) → i < length l → at + i < length line → take i l ≡ take i (drop at line)
-    → take (i + 1) (set l i (getD line (at + i) d)) ≡ take (i + 1) (drop at line)
-window-more l line at i d p q h =
-    rw (← getD-drop at line i d) (copied-more l (drop at line) i d p (simp length-drop (omega arith)) h)
+-- ---- a run laid down, the oldest first or the newest first
+module _ (run l : List Float) (i : ℕ) (v : Float) (q : i < length run) where
+  pub laid-more : i < length l → v ≡ finiteOrZero (getD run i nan) → take i l ≡ take i (map finiteOrZero run) → take (i + 1) (set l i v) ≡ take (i + 1) (map finiteOrZero run)
+  laid-more p e h =
+      rw (e ∙ sym (List·getD-map finiteOrZero run i nan)) (copied-more l (map finiteOrZero run) i (finiteOrZero nan) p (omega (arith, length-map run finiteOrZero)) h)
 
-pub window-all : (l line : List Float) (at i : ℕ) → length l ≡ remembered → i ≡ remembered → take i l ≡ take i (drop at line) → l ≡ take remembered (drop at line)
-window-all l line at i n e h = sym (take-all remembered l (omega arith)) ∙ subst (λ (k : ℕ). take k l ≡ take k (drop at line)) e h
+  pub newest-more : (to : List Float) → i < length to → v ≡ finiteOrZero (getD run (length run - 1 - i) nan) → l ≡ joined (reverse (map finiteOrZero run)) to i
+      → set l i v ≡ joined (reverse (map finiteOrZero run)) to (i + 1)
+  newest-more to p e h =
+      let m = map finiteOrZero run in
+      let n = length-map run finiteOrZero in
+      front-more (reverse m) to l i (finiteOrZero nan) p h v (omega (arith, n, length-reverse m))
+      (e ∙ sym (List·getD-map finiteOrZero run (length run - 1 - i) nan) ∙ sym (reversed-at m [] (length run - 1 - i) i (finiteOrZero nan) (omega arith)))
 
--- ---- `lay_store`
-pub store-more : (l line store : List Float) (at i : ℕ) (d : Float) → at + i < length line → i < length store → l ≡ paste line at store i
-    → set l (at + i) (getD store i d) ≡ paste line at store (i + 1)
-store-more l line store at i d p q h = rw (h, add-one i) (paste-suc line at store i d p q)
+-- the newest twelve, where n samples stand before a store
+pub newest-twelve : (r store : List Float) (n : ℕ) → length r ≡ n → n ≤ remembered → take remembered (r ++ store) ≡ r ++ take (remembered - n) store
+newest-twelve r store n e h =
+    let k : remembered ≡ length r + (remembered - n) = omega arith in
+    subst (λ (j : ℕ). take j (r ++ store) ≡ r ++ take (remembered - n) store) (sym k) (take-append-add r store (remembered - n))
 
-pub store-all : (l line store : List Float) (at i : ℕ) → i ≡ remembered → l ≡ paste line at store i → l ≡ paste line at store remembered
-store-all l line store at i e h = h ∙ ap (paste line at store) e
+-- ---- samples of a run and of a store
+module _ (run : List Float) (i : ℕ) (p : i < length run) where
+  pub up-to-length : length (upTo run i) ≡ i + 1
+  up-to-length = length-reverse (take (i + 1) run) ∙ length-take-le (i + 1) run (omega arith)
 
--- ---- `lay_run`
+  pub part-up-to : (m : ℕ) → m ≤ i + 1 → length (take m (upTo run i)) ≡ m
+  part-up-to m h = length-take-le m (upTo run i) (omega (arith, up-to-length))
 
--- a store at k, seen from k on
-set-front : (l : List Float) (k : ℕ) (v d : Float) → k < length l → drop k (set l k v) ≡ v ∷ drop (suc k) l
-set-front l k v d p =
-    drop-cons (set l k v) k d (lt-length-set l k v p)
-    ∙ rw (getD-set-same l k v d p, drop-set-lt (suc k) l k v (omega arith))
+  pub sample-up-to : (m k : ℕ) (d : Float) → k < m → m ≤ i + 1 → getD run (i - k) d ≡ getD (take m (upTo run i)) k d
+  sample-up-to m k d h q =
+      let n = length-take-le (i + 1) run (omega arith) in
+      sym (getD-take m (upTo run i) k d h ∙ reversed-at (take (i + 1) run) [] (i - k) k d (omega arith) ∙ getD-take (i + 1) run (i - k) d (omega arith))
 
-pub run-more : (run line : List Float) (i : ℕ) (v d : Float) → i < length run → length run ≤ length line → v ≡ finiteOrZero (getD run i d)
-    → reverseAux (map finiteOrZero (drop (i + 1) run)) (drop (length run - (i + 1)) (set line (length run - 1 - i) v)) ≡ reverseAux (map finiteOrZero (drop i run)) (drop (length run - i) line)
-run-more run line i v d p r e =
-    let n = length run in
-    let a : n - (i + 1) ≡ n - 1 - i = omega arith in
-    let b : n - i ≡ suc (n - 1 - i) = omega arith in
-    rw (a, b, set-front line (n - 1 - i) v d (omega arith), e, add-one i, drop-cons run i d p)
+-- the store's samples, where m newer ones came before them
+module _ (store : List Float) (m end : ℕ) (n : end - m ≤ length store) where
+  pub part-length : length (take (end - m) store) ≡ end - m
+  part-length = length-take-le (end - m) store n
 
-pub run-all : (run line : List Float) (i : ℕ) → i ≡ length run → line ≡ reverseAux (map finiteOrZero (drop i run)) (drop (length run - i) line)
-run-all run line i p = rw (p, sub-self (length run), drop-of-length-le run {i = length run} (omega arith))
+  pub store-more : (table sums next : List Float) (w k : ℕ) (d : Float) → length sums ≤ w → m ≤ k → k < end → next ≡ added sums (take w (drop (factor * k) table)) (getD store (k - m) d)
+      → sumsOn (drop (factor * (k + 1)) table) next (drop (k + 1 - m) (take (end - m) store)) ≡ sumsOn (drop (factor * k) table) sums (drop (k - m) (take (end - m) store))
+  store-more table sums next w k d q h p e =
+      let j : k + 1 - m ≡ k - m + 1 = omega arith in
+      rw j (sums-more table sums next (take (end - m) store) w k (k - m) (getD store (k - m) d) d q (omega (arith, part-length)) (sym (getD-take (end - m) store (k - m) d (omega arith))) e)
 
--- ---- `answer_run`
-module _ (phases : List (List Float)) (line : List Float) where
-  pub answers-length : (n : ℕ) → length (answersIn phases line n) ≡ n
-  unfolding answersIn
-  answers-length zero = refl
-  answers-length (suc n) = ap suc (answers-length n)
+-- ---- the answers of a run
+module _ (sums : List Float → List Float) where
+  pub answers-length : (behind run : List Float) → length (answersOf sums behind run) ≡ length run
+  unfolding answersOf
+  answers-length behind [] = refl
+  answers-length behind (x ∷ xs) = ap suc (answers-length (x ∷ behind) xs)
 
-  answers-at : (n i k : ℕ) (d : Float) → i + suc k ≡ n → getD (answersIn phases line n) i d ≡ largestOf (sumsOf phases (take remembered (drop k line)))
-  unfolding answersIn
-  answers-at zero i k d h = absurd (omega arith)
-  answers-at (suc n) zero k d h = let e : n ≡ k = omega arith in rw e
-  answers-at (suc n) (suc i) k d h = answers-at n i k d (omega arith)
+  answers-at : (behind run : List Float) (i : ℕ) (d : Float) → i < length run → largestOf (sums (take remembered (reverseAux (take (suc i) run) behind))) ≡ getD (answersOf sums behind run) i d
+  unfolding answersOf
+  answers-at behind [] i d h = absurd (omega arith)
+  answers-at behind (x ∷ xs) zero d h = refl
+  answers-at behind (x ∷ xs) (suc i) d h = answers-at (x ∷ behind) xs i d (omega arith)
 
-  pub answer-more : (l samples : List Float) (n i : ℕ) (r d : Float) → i < n → length l ≡ n → samples ≡ take remembered (drop (n - 1 - i) line)
-      → r ≡ largestOf (sumsOf phases samples) → take i l ≡ take i (answersIn phases line n) → take (i + 1) (set l i r) ≡ take (i + 1) (answersIn phases line n)
-  answer-more l samples n i r d p q e f h =
-      rw (f, e, ← answers-at n i (n - 1 - i) d (omega arith)) (copied-more l (answersIn phases line n) i d (omega arith) (rw (answers-length n) p) h)
+  -- an answer a turn
+  pub answer-more : (behind run l : List Float) (i : ℕ) (v : Float) → i < length run → i < length l → take i l ≡ take i (answersOf sums behind run)
+      → v ≡ largestOf (sums (take remembered (reverseAux (take (i + 1) run) behind))) → take (i + 1) (set l i v) ≡ take (i + 1) (answersOf sums behind run)
+  answer-more behind run l i v p q h e =
+      let a = answersOf sums behind run in
+      let w : v ≡ getD a i nan = rw (e, add-one i) (answers-at behind run i nan p) in
+      rw w (copied-more l a i nan q (omega (arith, answers-length behind run)) h)
 
--- ---- the whole: a line of a run and the store behind it
-abbrev lined : List Float → List Float → List Float
-lined run behind = reverseAux (map finiteOrZero run) behind
+-- two ways of summing that agree on twelve samples
+pub answers-same : (f g : List Float → List Float) → ((l : List Float) → length l ≡ remembered → f l ≡ g l) → (behind run : List Float) → remembered ≤ length behind
+    → answersOf f behind run ≡ answersOf g behind run
+unfolding answersOf
+answers-same f g e behind [] h = refl
+answers-same f g e behind (x ∷ xs) h =
+    rw (e (take remembered (x ∷ behind)) (length-take-le remembered (x ∷ behind) (omega arith)))
+    (ap (λ (l : List Float). largestOf (g (take remembered (x ∷ behind))) ∷ l) (answers-same f g e (x ∷ behind) xs (omega arith)))
 
--- past the run stands what is behind it
-past : (run behind : List Float) → drop (length run) (lined run behind) ≡ behind
-past run behind =
-    let m = map finiteOrZero run in
-    ap (drop (length run)) (reverseAux-eq m behind) ∙ drop-at (reverse m) behind (length run) (length-reverse m ∙ length-map run finiteOrZero)
-
--- one push moves the oldest sample out of the store, and no further
-moved : (store rest : List Float) (x : Float) → shifted store x ++ (drop remembered (finiteOrZero x ∷ store) ++ rest) ≡ finiteOrZero x ∷ (store ++ rest)
-unfolding shifted
-moved store rest x =
-    sym (append-assoc (take remembered (finiteOrZero x ∷ store)) (drop remembered (finiteOrZero x ∷ store)) rest)
-    ∙ ap (λ (l : List Float). l ++ rest) (take-append-drop remembered (finiteOrZero x ∷ store))
-
+-- ---- the single pushes
 module _ (phases : List (List Float)) where
-  -- the oldest sample of a line's run first, then the others
-  oldest-first : (xs s rest behind tail : List Float) → length s ≡ remembered → behind ≡ s ++ rest → answersIn phases (lined xs (s ++ rest)) (length xs) ≡ tail
-      → answersIn phases (lined xs behind) (suc (length xs)) ≡ largestOf (sumsOf phases s) ∷ tail
-  unfolding answersIn
-  oldest-first xs s rest behind tail n e h = rw (e, past xs (s ++ rest), take-at s rest remembered n, h)
+  pushes-behind : (run behind : List Float) → remembered ≤ length behind
+      → pushesOf phases (take remembered behind) run ≡ pushesAt (answersOf (sumsOf phases) behind (map finiteOrZero run)) (take remembered (reverseAux (map finiteOrZero run) behind))
+  unfolding pushesOf answersOf detected latest
+  pushes-behind [] behind h = refl
+  pushes-behind (x ∷ xs) behind h =
+      rw (push-shifts phases (take remembered behind) x (length-take-le remembered behind h), latest-more behind [] x, pushes-behind xs (finiteOrZero x ∷ behind) (omega arith))
 
-  answers-pushes : (run store rest : List Float) → length store ≡ remembered → answersIn phases (lined run (store ++ rest)) (length run) ≡ pushesOf phases store run .peaks
-  unfolding answersIn pushesOf detected
-  answers-pushes [] store rest n = refl
-  answers-pushes (x ∷ xs) store rest n =
-      let s = shifted store x in
-      let more = drop remembered (finiteOrZero x ∷ store) ++ rest in
-      let k = shifted-length store x n in
-      rw (push-shifts phases store x n)
-      (oldest-first xs s more (finiteOrZero x ∷ (store ++ rest)) (pushesOf phases s xs .peaks) k (sym (moved store rest x)) (answers-pushes xs s more k))
+  pushes-line : (run store : List Float) → length store ≡ remembered
+      → pushesOf phases store run ≡ pushesAt (answersOf (sumsOf phases) store (map finiteOrZero run)) (take remembered (reverseAux (map finiteOrZero run) store))
+  pushes-line run store n =
+      ap (λ (s : List Float). pushesOf phases s run) (sym (take-all remembered store (omega arith))) ∙ pushes-behind run store (omega arith)
 
-  pub store-pushes : (run store rest : List Float) → length store ≡ remembered → take remembered (lined run (store ++ rest)) ≡ pushesOf phases store run .store
-  unfolding pushesOf detected
-  store-pushes [] store rest n = take-at store rest remembered n
-  store-pushes (x ∷ xs) store rest n =
-      rw (push-shifts phases store x n)
-      (ap (λ (l : List Float). take remembered (lined xs l)) (sym (moved store rest x))
-      ∙ store-pushes xs (shifted store x) (drop remembered (finiteOrZero x ∷ store) ++ rest) (shifted-length store x n))
+  -- what `lay_newest` leaves: of a run of twelve or more, or of a shorter one after `shift_by`
+  module _ (store run : List Float) (n : length store ≡ remembered) where
+    abbrev newest : List Float
+    newest = reverse (map finiteOrZero run)
 
-  -- a run of one is a push
-  one-push : (store run old left : List Float) (peak d : Float) → length run ≡ 1 → length old ≡ length run → pushedAt peak left ≡ peakAbsOf phases store (getD run 0 d) → pushesAt (set old 0 peak) left ≡ pushesOf phases store run
+    newest-length : length newest ≡ length run
+    newest-length = length-reverse (map finiteOrZero run) ∙ length-map run finiteOrZero
+
+    pub remembers-run : (left : List Float) → remembered ≤ length run → left ≡ joined newest store remembered → left ≡ pushesOf phases store run .store
+    remembers-run left h e =
+        rw (e, pushes-line run store n, reverseAux-eq (map finiteOrZero run) store, take-append-le remembered newest store (omega (arith, newest-length)), drop-of-length-le store {i = remembered} (omega arith))
+        (append-nil (take remembered newest))
+
+    pub remembers-both : (moved left : List Float) → length run ≤ remembered → moved ≡ take (length run) store ++ take (remembered - length run) store → left ≡ joined newest moved (length run)
+        → left ≡ pushesOf phases store run .store
+    remembers-both moved left h e f =
+        let k = length run in
+        rw (f, e, pushes-line run store n, reverseAux-eq (map finiteOrZero run) store, newest-twelve newest store k newest-length h, take-all k newest (omega (arith, newest-length)), drop-at (take k store) (take (remembered - k) store) k (length-take-le k store (omega arith)))
+
+  -- what the calls of `push_fours` add up to
+  pub ran : (store run line answers left : List Float) → length store ≡ remembered → line ≡ map finiteOrZero run → answers ≡ answersOf (sumsOf phases) store line → left ≡ pushesOf phases store run .store
+      → pushesAt answers left ≡ pushesOf phases store run
+  ran store run line answers left n e f g = rw (g, f, e, pushes-line run store n)
+
+  -- the same of the part of a run that `push_fours` is lent
+  pub first-part : (store run l left : List Float) (n : ℕ) → n ≤ length run → pushesAt (take (length (take (n - 0) run)) l) left ≡ pushesOf phases store (take (n - 0) run) → pushesAt (take n l) left ≡ pushesOf phases store (take n run)
+  first-part store run l left n h e = rw (sub-zero n, length-take-le n run h) at e
+
+  -- one push after others
+  push-last : (xs store : List Float) (x : Float)
+      → pushesOf phases store (xs ++ (x ∷ []))
+      ≡ pushesAt (pushesOf phases store xs .peaks ++ (peakAbsOf phases (pushesOf phases store xs .store) x .peak ∷ [])) (peakAbsOf phases (pushesOf phases store xs .store) x .store)
   unfolding pushesOf
-  one-push store [] old left peak d n m e = absurd (omega (arith, n))
-  one-push store (x ∷ []) [] left peak d n m e = absurd (omega (arith, m))
-  one-push store (x ∷ []) (y ∷ []) left peak d n m e = ap (λ (o : Pushed). pushesAt (o .peak ∷ []) (o .store)) e
-  one-push store (x ∷ []) (y ∷ z ∷ zs) left peak d n m e = absurd (omega (arith, m))
-  one-push store (x ∷ y ∷ xs) old left peak d n m e = absurd (omega (arith, n))
+  push-last [] store x = refl
+  push-last (y ∷ ys) store x = ap (pushFirst (peakAbsOf phases store y)) (push-last ys (peakAbsOf phases store y .store) x)
 
-  -- a store laid behind a run of n samples
-  laid : (z store : List Float) (n : ℕ) → n ≤ length z → length store ≡ remembered → drop n (paste z n store remembered) ≡ store ++ drop (n + remembered) z
-  laid z store n p q =
-      ap (drop n) (append-assoc (take n z) (take remembered store) (drop (n + remembered) z))
-      ∙ drop-at (take n z) (take remembered store ++ drop (n + remembered) z) n (length-take-le n z p)
-      ∙ ap (λ (l : List Float). l ++ drop (n + remembered) z) (take-all remembered store (omega arith))
+  -- a push a turn
+  pub push-more : (store run left l kept : List Float) (i : ℕ) (peak d : Float) → i < length run → i < length l → pushesAt (take i l) left ≡ pushesOf phases store (take i run)
+      → pushedAt peak kept ≡ peakAbsOf phases left (getD run i d) → pushesAt (take (i + 1) (set l i peak)) kept ≡ pushesOf phases store (take (i + 1) run)
+  push-more store run left l kept i peak d p q e f =
+      rw (add-one i, take-suc run i d p, push-last (take i run) store (getD run i d), take-suc-set l i peak q, ← e, ← f)
 
-  -- what the calls of `remember` add up to
-  pub ran-store : (store run z behind line newest left : List Float) → length run ≤ length z → length store ≡ remembered
-      → behind ≡ paste z (length run) store remembered → line ≡ reverseAux (map finiteOrZero run) (drop (length run) behind)
-      → newest ≡ take remembered line → left ≡ newest → left ≡ pushesOf phases store run .store
-  ran-store store run z behind line newest left p n e0 e1 e2 e3 =
-      let rest = drop (length run + remembered) z in
-      rw (e3, e2, e1, e0, laid z store (length run) p n) (store-pushes run store rest n)
+  pub pushed-all : (store run left l : List Float) (i : ℕ) → length run ≤ i → length l ≤ i → pushesAt (take i l) left ≡ pushesOf phases store (take i run) → pushesAt l left ≡ pushesOf phases store run
+  pushed-all store run left l i p q h = rw (take-all i l q, take-all i run p) at h
 
   module _ (store run old : List Float) where
-    -- what the calls of `peaks_abs` add up to
-    pub ran : (z behind line answers newest left : List Float) → length run ≤ runLength → length store ≡ remembered → length old ≡ length run → runLength ≤ length z
-        → behind ≡ paste z (length run) store remembered → line ≡ reverseAux (map finiteOrZero run) (drop (length run) behind) → answers ≡ answersIn phases line (length old)
-        → newest ≡ take remembered line → left ≡ newest → pushesAt answers left ≡ peaksAbsOf phases store run old
-    ran z behind line answers newest left p n m q e0 e1 e2 e3 e4 =
-        let rest = drop (length run + remembered) z in
-        let e : line ≡ lined run (store ++ rest) = e1 ∙ ap (lined run) (ap (drop (length run)) e0 ∙ laid z store (length run) (omega arith) n) in
-        rw (run-pushes phases store run old p n m, e4, e3, e2, m, e, answers-pushes run store rest n, store-pushes run store rest n)
-
-    pub ran-one : (left : List Float) (peak d : Float) → length run ≤ runLength → length store ≡ remembered → length old ≡ length run → length run ≡ 1 → pushedAt peak left ≡ peakAbsOf phases store (getD run 0 d)
-        → pushesAt (set old 0 peak) left ≡ peaksAbsOf phases store run old
-    ran-one left peak d p n m one e = one-push store run old left peak d one m e ∙ sym (run-pushes phases store run old p n m)
-
     -- where a test fails, answers and store stay
     pub run-alone : runLength < length run → pushesAt old store ≡ peaksAbsOf phases store run old
     unfolding peaksAbsOf

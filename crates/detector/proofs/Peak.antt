@@ -1,4 +1,4 @@
--- The larger magnitude: two tests find it as well as a magnitude and one test, and it is not below 0.
+-- The larger magnitude: it is not below 0, and no answer has a minus sign. First, that two tests, of a value and of its negation, find it too, as `frame` takes a sample's.
 use mathlib.Core.Path.{_≡_, refl}
 use mathlib.Core.Bool.{Bool, true, false, not, cond, _&&_}
 use mathlib.Core.List.{List, [], _∷_}
@@ -13,7 +13,7 @@ use Rattle.arithmetic.proofs.Order.{clash, not-lt→le, le→not-lt, le-then-le
 use Rattle.detector.specs.Oversample.{remembered, shifted, sumsOf, larger, largestFrom, largestOf, pushedAt, detected, peakAbsOf}
 use Rattle.detector.specs.Run.{pushesOf}
 
--- ---- the two tests
+-- ---- two tests
 
 -- what is not below 0 is not below a value with a minus sign
 under : (p s : Float) → lt p zero ≡ false → lt p (withSign true s) ≡ false
@@ -29,7 +29,7 @@ under (fin b m e) (fin t n d) h =
     le→not-lt (fin b m e) (fin true n d) tt tt
     (le-then-le (fin true n d) zero (fin b m e) tt tt tt (not-lt→le zero (fin true n d) tt tt refl) (not-lt→le (fin b m e) zero tt tt h))
 
-no-nan-above : (p : Float) → lt p nan ≡ false
+pub no-nan-above : (p : Float) → lt p nan ≡ false
 unfolding lt
 no-nan-above nan = refl
 no-nan-above (inf s) = refl

@@ -33,6 +33,11 @@ pub short-store-left : peakAbsOf taps (replicate 11 one) one ≡ record { peak =
 unfolding peakAbsOf
 short-store-left = refl
 
+-- the store moved from its newest end: 1.0 would stand in all places but the first
+pub store-moves : peakAbsOf taps (one ∷ share ∷ replicate 10 zero) zero .store ≡ zero ∷ one ∷ share ∷ replicate 9 zero
+unfolding pushing
+store-moves = refl
+
 -- the store not shifted between the pushes of a run: the second 1.0 would meet the same taps as the first
 pub run-shifts :
     map (λ (x : Float). toBits binary64 x) (peaksAbsOf taps silent (one ∷ one ∷ []) (zero ∷ zero ∷ []) .peaks) ≡ 0x3f4f_d62a_b99d_a6bf ∷ 0x3f82_fb4b_0208_206e ∷ []

@@ -1,11 +1,11 @@
 -- The detector over a run, document 01's stretch of up to 32 frames: the single pushes made in turn.
-use Prim.Native.Nat.{ℕ, zero, suc}
+use Prim.Native.Nat.{ℕ}
 use mathlib.Core.Bool.{cond, _&&_}
 use mathlib.Core.List.{List, [], _∷_}
 use lib.Dec.{eqb, leb}
-use lib.ListN.{length, take, drop}
+use lib.ListN.{length}
 use lib.Ieee.{Float}
-use Rattle.detector.specs.Oversample.{Pushed, remembered, sumsOf, largestOf, peakAbsOf}
+use Rattle.detector.specs.Oversample.{Pushed, remembered, peakAbsOf}
 
 -- how many frames a run has at most
 abbrev pub runLength : ℕ
@@ -32,14 +32,3 @@ pushesOf phases store (x ∷ xs) = pushFirst (peakAbsOf phases store x) (pushesO
 unfoldable pub peaksAbsOf : List (List Float) → List Float → List Float → List Float → Pushes
 peaksAbsOf phases store samples answers =
     cond (leb (length samples) runLength && (eqb (length store) remembered && eqb (length answers) (length samples))) (pushesOf phases store samples) (pushesAt answers store)
-
--- ---- how the code goes about it: a line of samples, the newest first
-
--- a run's samples and the remembered ones behind them
-abbrev pub lineLength : ℕ
-lineLength = 44
-
--- the answer for each of the first n samples of a line with those behind it, the oldest first
-unfoldable pub answersIn : List (List Float) → List Float → ℕ → List Float
-answersIn phases line zero = []
-answersIn phases line (suc n) = largestOf (sumsOf phases (take remembered (drop n line))) ∷ answersIn phases line n

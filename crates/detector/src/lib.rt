@@ -2,5 +2,6 @@
 // the store afterwards equal a definition of specs/.
 
 pub mod oversample;
+mod phases;
 pub mod quiet;
 mod taps;

@@ -1,20 +1,18 @@
-// Polyphase FIR oversampling for inter-sample peak detection (oversample.rs), factor 4, 12 taps.
+// Polyphase FIR oversampling for inter-sample peak detection (oversample.rs), factor 4, 12 taps. What a channel
+// remembers is shifted and read where it lies, in its store.
 ghost use mathlib.Core.Path.{_≡_};
-ghost use mathlib.Core.Bool.{false};
-ghost use mathlib.Core.List.{map, reverseAux};
-ghost use Prim.Native.Nat.{_≤_};
+ghost use mathlib.Core.List.{List, _++_, map, reverse};
+ghost use Prim.Native.Nat.{_-_, _%_, _≤_};
 ghost use lib.ListN.{length, take, drop};
-ghost use lib.Seq.{paste};
-ghost use lib.Ieee.{lt};
-ghost use Rattle.arithmetic.specs.Number.{zero};
+ghost use lib.Ieee.{Float};
 ghost use Rattle.arithmetic.specs.Sanitize.{finiteOrZero};
 ghost use Rattle.detector.specs.Taps.{taps};
-ghost use Rattle.detector.specs.Oversample.{remembered, shifted, sumOf, sumsOf, larger, largestOf, pushedAt, peakAbsOf};
-ghost use Rattle.detector.specs.Run.{runLength, lineLength, answersIn, pushesAt, pushesOf, peaksAbsOf};
-use crate::taps::PHASE_0;
-use crate::taps::PHASE_1;
-use crate::taps::PHASE_2;
-use crate::taps::PHASE_3;
+ghost use Rattle.detector.specs.Oversample.{remembered, sumsOf, pushedAt, peakAbsOf};
+ghost use Rattle.detector.specs.Run.{runLength, pushesAt, pushesOf, peaksAbsOf};
+ghost use Rattle.detector.specs.Sums.{answersOf};
+use crate::phases::answer_fours;
+use crate::phases::peak_of_push;
+use crate::taps::TAPS;
 use arithmetic::sanitize::finite_or_zero;
 
 // What a push answers.
@@ -22,68 +20,17 @@ pub struct Peak {
     pub peak: f64,
 }
 
-// The sum of one phase: each product is rounded before it is added, the newest sample's first.
-fn phase_sum(phase: &[f64; 12], samples: &[f64; 12]) -> f64
-    requires { ⌜ length (now phase) ≡ remembered ⌝ }
-    requires { ⌜ length (now samples) ≡ remembered ⌝ }
-    ensures { λ r. ⌜ r ≡ sumOf (now (phase .entry)) (now (samples .entry)) ⌝ }
-{
-    let mut acc = 0.0;
-    for k in 0..12 {
-        acc += phase[k] * samples[k];
-    }
-    acc
-}
-
-// The larger of the peak so far and a sum's magnitude. Two tests with no branch between them are
-// faster than a magnitude and one test.
-fn larger_of(peak: f64, sum: f64) -> f64
-    requires { ⌜ lt peak zero ≡ false ⌝ }
-    ensures { λ r. ⌜ r ≡ larger peak sum ⌝ }
-    ensures { λ r. ⌜ lt r zero ≡ false ⌝ }
-{
-    let mut top = peak;
-    if sum > top {
-        top = sum;
-    }
-    if -sum > top {
-        top = -sum;
-    }
-    top
-}
-
-// The largest magnitude among the interpolated outputs for twelve samples.
-fn peak_of(samples: &[f64; 12]) -> f64
-    requires { ⌜ length (now samples) ≡ remembered ⌝ }
-    ensures { λ r. ⌜ r ≡ largestOf (sumsOf taps (now (samples .entry))) ⌝ }
-{
-    let peak = larger_of(0.0, phase_sum(&PHASE_0, samples));
-    let peak = larger_of(peak, phase_sum(&PHASE_1, samples));
-    let peak = larger_of(peak, phase_sum(&PHASE_2, samples));
-    larger_of(peak, phase_sum(&PHASE_3, samples))
-}
-
-// The remembered samples moved down by one in a local array, with the sanitized newest first.
-fn shift_in(store: &[f64], x: f64) -> [f64; 12]
+// The remembered samples moved down by n in the store itself, from the oldest end, so that none is written
+// over before it has moved. The first n places are left as they were.
+fn shift_by(store: &mut [f64], n: usize)
     requires { ⌜ length (now store) ≡ remembered ⌝ }
-    ensures { λ r. ⌜ r ≡ shifted (now (store .entry)) x ⌝ }
+    requires { ⌜ n ≤ remembered ⌝ }
+    ensures { λ _. ⌜ now (store .exit) ≡ take n (now (store .entry)) ++ take (remembered - n) (now (store .entry)) ⌝ }
 {
-    let newest = finite_or_zero(x);
-    let mut samples = [newest; 12];
-    for i in 0..11 {
-        samples[i + 1] = store[i];
-    }
-    samples
-}
-
-// The local array back into the store.
-fn write_back(store: &mut [f64], samples: &[f64; 12])
-    requires { ⌜ length (now store) ≡ remembered ⌝ }
-    requires { ⌜ length (now samples) ≡ remembered ⌝ }
-    ensures { λ _. ⌜ now (store .exit) ≡ now (samples .entry) ⌝ }
-{
-    for i in 0..12 {
-        store[i] = samples[i];
+    let moved = 12 - n;
+    for i in 0..moved {
+        let k = moved - 1 - i;
+        store[k + n] = store[k];
     }
 }
 
@@ -95,71 +42,82 @@ pub fn peak_abs(store: &mut [f64], x: f64) -> Peak
     if store.len() != 12 {
         return Peak { peak: 0.0 };
     }
-    let samples = shift_in(store, x);
-    write_back(store, &samples);
-    Peak {
-        peak: peak_of(&samples),
-    }
+    // The answer before the shift: sums over samples just stored would wait for the stores.
+    let newest = finite_or_zero(x);
+    let peak = peak_of_push(&TAPS, newest, store);
+    shift_by(store, 1);
+    store[0] = newest;
+    Peak { peak: peak }
 }
 
-// Twelve samples of a line, from `at` on.
-fn window(line: &[f64; 44], at: usize) -> [f64; 12]
-    requires { ⌜ length (now line) ≡ lineLength ⌝ }
-    requires { ⌜ at ≤ runLength ⌝ }
-    ensures { λ r. ⌜ r ≡ take remembered (drop at (now (line .entry))) ⌝ }
+// A run's sanitized samples into a line, the oldest first.
+fn lay_run(samples: &[f64], line: &mut [f64])
+    requires { ⌜ length (now line) ≡ length (now samples) ⌝ }
+    ensures { λ _. ⌜ now (line .exit) ≡ map finiteOrZero (now (samples .entry)) ⌝ }
 {
-    let mut samples = [0.0; 12];
-    for i in 0..12 {
-        samples[i] = line[at + i];
+    let n = samples.len();
+    for i in 0..n {
+        line[i] = finite_or_zero(samples[i]);
     }
-    samples
 }
 
-// The remembered samples into a line, from `at` on.
-fn lay_store(store: &[f64], line: &mut [f64; 44], at: usize)
+// The newest n sanitized samples of a run into the first places of a store, the newest first.
+fn lay_newest(store: &mut [f64], samples: &[f64], n: usize)
+    requires { ⌜ n ≤ length (now store) ⌝ }
+    requires { ⌜ n ≤ length (now samples) ⌝ }
+    ensures { λ _. ⌜ now (store .exit)
+        ≡ take n (reverse (map finiteOrZero (now (samples .entry)))) ++ drop n (now (store .entry)) ⌝ }
+{
+    let end = samples.len();
+    for i in 0..n {
+        store[i] = finite_or_zero(samples[end - 1 - i]);
+    }
+}
+
+// The answers of a run of a multiple of four samples that follows what a store remembers, into the first places.
+// The table is named outside the loop.
+fn answer_run(store: &[f64], run: &[f64], answers: &mut [f64])
     requires { ⌜ length (now store) ≡ remembered ⌝ }
-    requires { ⌜ length (now line) ≡ lineLength ⌝ }
-    requires { ⌜ at ≤ runLength ⌝ }
-    ensures { λ _. ⌜ now (line .exit) ≡ paste (now (line .entry)) at (now (store .entry)) remembered ⌝ }
-    ensures { λ _. ⌜ length (now (line .exit)) ≡ lineLength ⌝ }
+    requires { ⌜ length (now run) % 4 ≡ 0 ⌝ }
+    requires { ⌜ length (now run) ≤ length (now answers) ⌝ }
+    ensures { λ _. ⌜ take (length (now (run .entry))) (now (answers .exit)) ≡ answersOf (sumsOf taps) (now (store .entry)) (now (run .entry)) ⌝ }
 {
-    for i in 0..12 {
-        line[at + i] = store[i];
+    answer_fours(&TAPS, store, run, answers);
+}
+
+// A run of a multiple of four samples pushed, with a line for its sanitized samples.
+fn push_fours(store: &mut [f64], samples: &[f64], answers: &mut [f64], line: &mut [f64])
+    requires { ⌜ length (now store) ≡ remembered ⌝ }
+    requires { ⌜ length (now samples) ≤ runLength ⌝ }
+    requires { ⌜ length (now samples) % 4 ≡ 0 ⌝ }
+    requires { ⌜ length (now samples) ≤ length (now answers) ⌝ }
+    requires { ⌜ length (now line) ≡ length (now samples) ⌝ }
+    ensures { λ _. ⌜ pushesAt (take (length (now (samples .entry))) (now (answers .exit))) (now (store .exit))
+        ≡ pushesOf taps (now (store .entry)) (now (samples .entry)) ⌝ }
+{
+    lay_run(samples, line);
+    answer_run(store, line, answers);
+    remember(store, samples);
+}
+
+// The samples of a run from place `from` on pushed one by one: the whole run is pushed if those before were.
+fn push_from(store: &mut [f64], samples: &[f64], answers: &mut [f64], from: usize)
+    requires { ⌜ length (now store) ≡ remembered ⌝ }
+    requires { ⌜ length (now answers) ≡ length (now samples) ⌝ }
+    requires { ⌜ from ≤ length (now samples) ⌝ }
+    ensures { λ _. ⌜ ((first : List Float) → pushesAt (take from (now (answers .entry))) (now (store .entry)) ≡ pushesOf taps first (take from (now (samples .entry)))
+        → pushesAt (now (answers .exit)) (now (store .exit)) ≡ pushesOf taps first (now (samples .entry))) ⌝ }
+{
+    let n = samples.len();
+    for i in from..n {
+        let p = peak_abs(store, samples[i]);
+        answers[i] = p.peak;
     }
 }
 
-// A run's sanitized samples into the front of a line, the newest first.
-fn lay_run(run: &[f64], line: &mut [f64; 44])
-    requires { ⌜ length (now run) ≤ runLength ⌝ }
-    requires { ⌜ length (now line) ≡ lineLength ⌝ }
-    ensures { λ _. ⌜ now (line .exit)
-        ≡ reverseAux (map finiteOrZero (now (run .entry))) (drop (length (now (run .entry))) (now (line .entry))) ⌝ }
-    ensures { λ _. ⌜ length (now (line .exit)) ≡ lineLength ⌝ }
-{
-    let n = run.len();
-    for i in 0..n {
-        line[n - 1 - i] = finite_or_zero(run[i]);
-    }
-}
-
-// The answer for each sample of a run, the oldest first. The turns are independent of each other, so
-// they can be computed side by side.
-fn answer_run(line: &[f64; 44], answers: &mut [f64])
-    requires { ⌜ length (now line) ≡ lineLength ⌝ }
-    requires { ⌜ length (now answers) ≤ runLength ⌝ }
-    ensures { λ _. ⌜ now (answers .exit) ≡ answersIn taps (now (line .entry)) (length (now (answers .entry))) ⌝ }
-{
-    let n = answers.len();
-    for i in 0..n {
-        let samples = window(line, n - 1 - i);
-        answers[i] = peak_of(&samples);
-    }
-}
-
-// Push a run of up to 32 samples of a channel: `answers` gets what `peak_abs` would answer for each,
-// and the store is left as the single pushes would leave it, in less than half their time. Where the
-// run is longer, the store is not twelve samples long or the answers are not as many as the samples,
-// both are left alone.
+// Push a run of up to 32 samples of a channel: `answers` gets what `peak_abs` would answer for each, and the
+// store is left as the single pushes would leave it; from four samples on, in less time. Where the run is
+// longer, the store is not twelve samples long or the answers are not as many as the samples, both are left alone.
 pub fn peaks_abs(store: &mut [f64], samples: &[f64], answers: &mut [f64])
     ensures { λ _. ⌜ pushesAt (now (answers .exit)) (now (store .exit))
         ≡ peaksAbsOf taps (now (store .entry)) (now (samples .entry)) (now (answers .entry)) ⌝ }
@@ -174,34 +132,18 @@ pub fn peaks_abs(store: &mut [f64], samples: &[f64], answers: &mut [f64])
     if answers.len() != n {
         return;
     }
-    // A run of one is a push: a sample that was only just laid into a line is slow to read back.
-    if n == 1 {
-        let p = peak_abs(store, samples[0]);
-        answers[0] = p.peak;
+    // Fewer than four need no line.
+    if n < 4 {
+        push_from(store, samples, answers, 0);
         return;
     }
-    // The newest sample of the run first, and behind the oldest what the store remembers.
-    let mut line = [0.0; 44];
-    lay_store(store, &mut line, n);
-    lay_run(samples, &mut line);
-    answer_run(&line, answers);
-    let newest = window(&line, 0);
-    write_back(store, &newest);
+    let m = n / 4 * 4;
+    let mut line = [0.0; 32];
+    push_fours(store, &samples[0..m], answers, &mut line[0..m]);
+    push_from(store, samples, answers, m);
 }
 
-// The twelve newest samples of a run that has as many, the newest first.
-fn remember_newest(store: &mut [f64], samples: &[f64])
-    requires { ⌜ length (now store) ≡ remembered ⌝ }
-    requires { ⌜ remembered ≤ length (now samples) ⌝ }
-    ensures { λ _. ⌜ now (store .exit) ≡ pushesOf taps (now (store .entry)) (now (samples .entry)) .store ⌝ }
-{
-    let n = samples.len();
-    for i in 0..12 {
-        store[i] = finite_or_zero(samples[n - 1 - i]);
-    }
-}
-
-// The store as the pushes of a run would leave it.
+// The store as the pushes of a run would leave it: of twelve samples or more, the newest twelve.
 pub fn remember(store: &mut [f64], samples: &[f64])
     requires { ⌜ length (now store) ≡ remembered ⌝ }
     requires { ⌜ length (now samples) ≤ runLength ⌝ }
@@ -209,12 +151,9 @@ pub fn remember(store: &mut [f64], samples: &[f64])
 {
     let n = samples.len();
     if n >= 12 {
-        remember_newest(store, samples);
+        lay_newest(store, samples, 12);
         return;
     }
-    let mut line = [0.0; 44];
-    lay_store(store, &mut line, n);
-    lay_run(samples, &mut line);
-    let newest = window(&line, 0);
-    write_back(store, &newest);
+    shift_by(store, n);
+    lay_newest(store, samples, n);
 }

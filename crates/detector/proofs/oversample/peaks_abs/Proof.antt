@@ -1,12 +1,13 @@
--- `peaks_abs`: one push, or the line, the answers in it and the newest twelve of it, or nothing.
+-- `peaks_abs`: a run pushed, or left alone.
+use mathlib.Core.Path.{refl, sym, _∙_}
+use Prim.Native.Nat.{_*_, _/_}
 use borrow.Author.Needs.{needs}
-use lib.Dec.{lit≤}
-use lib.ListN.{replicate}
-use lib.Ieee.{binary64, ofBits}
+use lib.ListN.{length}
 use denote.Ref.{now}
 use Rattle.detector.specs.Taps.{taps}
-use Rattle.detector.specs.Run.{lineLength}
-use Rattle.detector.proofs.Line.{ran, ran-one, store-alone, run-alone, answers-alone}
+use Rattle.detector.specs.Run.{pushesOf}
+use Rattle.detector.proofs.Store.{run-pushes}
+use Rattle.detector.proofs.Line.{first-part, run-alone, store-alone, answers-alone}
 use Rattle.detector.proofs.oversample.peaks_abs.Statement.{statement}
 use Rattle.detector.proofs.oversample.peaks_abs.Tie as tie
 
@@ -25,14 +26,8 @@ returns-3 c =
     let a = c .before .before .before .before .before .before .args in
     answers-alone taps (now (a .store)) (now (a .samples)) (now (a .answers)) (c .before .before .if1 .left) (c .before .if2 .left) (c .if3 .taken)
 
-shared-slice-read-peak-abs : tie.Need-shared-slice-read-peak-abs
-shared-slice-read-peak-abs c = search needs
-
-peak-abs-requires : tie.Need-peak-abs-requires
-peak-abs-requires c κs = search needs
-
-slice-write-answers : tie.Need-slice-write-answers
-slice-write-answers c = search needs
+push-from-requires : tie.Need-push-from-requires
+push-from-requires c κs = search needs
 
 same-length : tie.Need-same-length
 same-length c = search needs
@@ -41,25 +36,38 @@ same-length-2 : tie.Need-same-length-2
 same-length-2 c = search needs
 
 returns-4 : tie.Need-returns-4
+unfolding pushesOf
 returns-4 c =
-    let a = c .before .before .before .before .before .before .before .before .before .before .before .before .args in
-    let p = c .before .before .peak-abs in
-    ran-one taps (now (a .store)) (now (a .samples)) (now (a .answers)) (p .last .0) (p .result .peak) _ (c .before .before .before .before .before .before .before .before .if1 .left) (c .before .before .before .before .before .before .before .if2 .left) (c .before .before .before .before .before .before .if3 .left) (c .before .before .before .before .before .if4 .taken) (p .ensures)
+    let i = c .before .before .before .before .before .before .before .before in
+    let a = c .before .before .before .before .before .before .before .before .before .before .before .before .before .before .args in
+    c .before .before .before .before .push-from .ensures (now (a .store)) refl ∙ sym (run-pushes taps (now (a .store)) (now (a .samples)) (now (a .answers)) (i .before .before .if1 .left) (i .before .if2 .left) (i .if3 .left))
 
-lay-store-requires : tie.Need-lay-store-requires
-lay-store-requires c κs = search needs
+mul-m : tie.Need-mul-m
+mul-m c = search needs
 
-lay-run-requires : tie.Need-lay-run-requires
-lay-run-requires c κs = search needs
+sub-push-fours : tie.Need-sub-push-fours
+sub-push-fours c = search needs
 
-answer-run-requires : tie.Need-answer-run-requires
-answer-run-requires c κs = search needs
+part-push-fours-start : tie.Need-part-push-fours-start
+part-push-fours-start c = search needs
 
-window-requires : tie.Need-window-requires
-window-requires c κs = search needs
+part-push-fours-end : tie.Need-part-push-fours-end
+part-push-fours-end c = search needs
 
-write-back-requires : tie.Need-write-back-requires
-write-back-requires c κs = search needs
+sub-push-fours-2 : tie.Need-sub-push-fours-2
+sub-push-fours-2 c = search needs
+
+part-line-start : tie.Need-part-line-start
+part-line-start c = search needs
+
+part-line-end : tie.Need-part-line-end
+part-line-end c = search needs
+
+push-fours-requires : tie.Need-push-fours-requires
+push-fours-requires c κs = search needs
+
+push-from-requires-2 : tie.Need-push-from-requires-2
+push-from-requires-2 c κs = search needs
 
 same-length-3 : tie.Need-same-length-3
 same-length-3 c = search needs
@@ -69,16 +77,11 @@ same-length-4 c = search needs
 
 returns-5 : tie.Need-returns-5
 returns-5 c =
+    let f = c .before .before .before .before .before .before .before .before .before .before .before .before .push-fours in
+    let i = c .before .before .before .before .before .before .before .before .before .before .before .before .before .before .before .before .before .before in
     let a = c .before .before .before .before .before .before .before .before .before .before .before .before .before .before .before .before .before .before .before .before .before .before .before .before .args in
-    let s = c .before .before .before .before .before .before .before .before .before .before .before .before .before .before .lay-store in
-    let l = c .before .before .before .before .before .before .before .before .before .before .before .before .lay-run in
-    let r = c .before .before .before .before .before .before .before .before .before .answer-run in
-    let w = c .before .before .before .before .before .window in
-    let b = c .before .before .write-back in
-    ran taps (now (a .store)) (now (a .samples)) (now (a .answers)) (replicate lineLength (ofBits binary64 0)) (s .last .1 .0) (l .last .1 .0) (r .last .1 .0) (w .result) (b .last .0)
-    (c .before .before .before .before .before .before .before .before .before .before .before .before .before .before .before .before .before .before .before .before .if1 .left) (c .before .before .before .before .before .before .before .before .before .before .before .before .before .before .before .before .before .before .before .if2 .left) (c .before .before .before .before .before .before .before .before .before .before .before .before .before .before .before .before .before .before .if3 .left) (lit≤ tt) (s .ensures .0) (l .ensures .0) (r .ensures) (w .ensures) (b .ensures)
+    c .before .before .before .before .push-from2 .ensures (now (a .store)) (first-part taps (now (a .store)) (now (a .samples)) (f .last .1 .1 .0) (f .last .0) (length (now (a .samples)) / 4 * 4) (search needs) (f .ensures))
+    ∙ sym (run-pushes taps (now (a .store)) (now (a .samples)) (now (a .answers)) (i .before .before .if1 .left) (i .before .if2 .left) (i .if3 .left))
 
 pub peaks-abs-spec : {M : Type 1} → statement M
-peaks-abs-spec =
-    tie.close
-    (tie.spec returns returns-2 returns-3 shared-slice-read-peak-abs peak-abs-requires slice-write-answers same-length same-length-2 returns-4 lay-store-requires lay-run-requires answer-run-requires window-requires write-back-requires same-length-3 same-length-4 returns-5)
+peaks-abs-spec = tie.close (tie.spec returns returns-2 returns-3 push-from-requires same-length same-length-2 returns-4 mul-m sub-push-fours part-push-fours-start part-push-fours-end sub-push-fours-2 part-line-start part-line-end push-fours-requires push-from-requires-2 same-length-3 same-length-4 returns-5)

@@ -1,22 +1,24 @@
--- `remember_newest`: at each turn the store agrees with the run, the newest first, on the samples passed.
-use mathlib.Core.Path.{_≡_, refl}
+-- `lay_newest`: at each turn the samples passed stand in the first places.
+use mathlib.Core.Path.{_≡_, refl, ap, _∙_}
+use mathlib.Core.List.{map, reverse}
 use Prim.Native.Nat.{_-_, _≤_}
 use borrow.Author.Needs.{needs}
-use lib.ListN.{length, take, length-set}
+use lib.ListN.{length, length-set}
 use denote.Ref.{now}
-use Rattle.detector.specs.Taps.{taps}
-use Rattle.detector.proofs.Scan.{newestFirst, newest-more, newest-all}
-use Rattle.detector.proofs.oversample.remember_newest.Statement.{statement}
-use Rattle.detector.proofs.oversample.remember_newest.Tie as tie
+use Rattle.arithmetic.specs.Sanitize.{finiteOrZero}
+use Rattle.detector.proofs.Turns.{joined}
+use Rattle.detector.proofs.Line.{newest-more}
+use Rattle.detector.proofs.oversample.lay_newest.Statement.{statement}
+use Rattle.detector.proofs.oversample.lay_newest.Tie as tie
 
 abbrev Inv-loop : tie.InvT-loop
-Inv-loop store₀ samples n i₀ store i = (i ≤ 12) × (length store ≡ 12) × (take i store ≡ take i (newestFirst taps store₀ samples))
+Inv-loop store₀ samples n end i₀ store i = (i ≤ n) × (length store ≡ length store₀) × (store ≡ joined (reverse (map finiteOrZero samples)) store₀ i)
 
 abbrev μ-loop : tie.MeasureT-loop
-μ-loop store₀ samples n i₀ store i = 12 - i
+μ-loop store₀ samples n end i₀ store i = n - i
 
 loop-holds : tie.Need-loop-holds Inv-loop μ-loop
-loop-holds c = (search needs, c .before .before .pre .0, refl)
+loop-holds c = (search needs, refl, refl)
 
 sub-finite-or-zero : tie.Need-sub-finite-or-zero Inv-loop μ-loop
 sub-finite-or-zero c = search needs
@@ -51,7 +53,7 @@ loop-again c =
     let a = l .before .before .before .args in (
       search needs,
       simp length-set (l .loop .inv .1),
-      newest-more taps (now (a .store)) (now (a .samples)) (l .loop .store) (l .loop .i) (c .finite-or-zero .result) (search needs) (search needs) (c .finite-or-zero .ensures) (l .loop .inv .2),
+      newest-more (now (a .samples)) (l .loop .store) (l .loop .i) (c .finite-or-zero .result) (search needs) (now (a .store)) (search needs) (c .finite-or-zero .ensures) (l .loop .inv .2),
     )
 
 same-length : tie.Need-same-length Inv-loop μ-loop
@@ -60,10 +62,9 @@ same-length c = search needs
 returns : tie.Need-returns Inv-loop μ-loop
 returns c =
     let l = c .before in
-    let s = l .before .before .before in
-    newest-all taps (now (s .args .store)) (now (s .args .samples)) (l .loop .store) (l .loop .i) (search needs) (l .loop .inv .1) (s .pre .0) (l .loop .inv .2)
+    let a = l .before .before .before .args in
+    let e : l .loop .i ≡ a .n = search needs in
+    l .loop .inv .2 ∙ ap (joined (reverse (map finiteOrZero (now (a .samples)))) (now (a .store))) e
 
-pub remember-newest-spec : {M : Type 1} → statement M
-remember-newest-spec =
-    tie.close
-    (tie.spec Inv-loop μ-loop loop-holds sub-finite-or-zero sub-finite-or-zero-2 mul-finite-or-zero shared-slice-read-finite-or-zero finite-or-zero-requires mul-store slice-write-store add-i loop-less loop-again same-length returns)
+pub lay-newest-spec : {M : Type 1} → statement M
+lay-newest-spec = tie.close (tie.spec Inv-loop μ-loop loop-holds sub-finite-or-zero sub-finite-or-zero-2 mul-finite-or-zero shared-slice-read-finite-or-zero finite-or-zero-requires mul-store slice-write-store add-i loop-less loop-again same-length returns)
