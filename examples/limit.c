@@ -1,5 +1,6 @@
 /* Limits a second of a loud stereo tone through the C functions, interleaved as a file would hold it, and prints the
- * highest sample, in and out: of f64 samples, or of f32 where the first word is `float`. */
+ * highest sample, in and out, and where the peak of the last block sat: of f64 samples, or of f32 where the first word
+ * is `float`. */
 #include "daggeryuzu.h"
 
 #include <math.h>
@@ -42,6 +43,17 @@ static double highest(const block *audio, int is_float) {
     return top;
 }
 
+/* where a block's highest peak sat, by what it told */
+static void print_place(const uint64_t *answer) {
+    const double frame = (double)answer[1];
+    const unsigned channel = (unsigned)answer[2];
+    if (answer[0] == DAGGERYUZU_PEAK_ON_SAMPLE)
+        printf("peak of the last block on a sample, frame %.3f, channel %u\n", frame, channel);
+    else if (answer[0] == DAGGERYUZU_PEAK_BETWEEN)
+        printf("peak of the last block between samples, frame %.3f, channel %u\n",
+            frame - 5.875 + (double)answer[3] / 4, channel);
+}
+
 int main(int argc, char **argv) {
     const int is_float = argc > 1 && strcmp(argv[1], "float") == 0;
     uint8_t state[DAGGERYUZU_STATE];
@@ -76,5 +88,6 @@ int main(int argc, char **argv) {
         return 1;
     }
     printf("highest %s sample in %.10f, out %.10f\n", is_float ? "f32" : "f64", in, out);
+    print_place(answer);
     return 0;
 }

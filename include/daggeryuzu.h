@@ -32,7 +32,17 @@
  * The functions expect the floating-point environment that C and Rust code start with: round to nearest, no
  * flush-to-zero, no denormals-are-zero.
  *
- * Events are three words each: offset into the block, parameter id, bits of the value. */
+ * Events are three words each: offset into the block, parameter id, bits of the value.
+ *
+ * A finished block tells where its highest peak sat. A frame's peak is the largest, over the channels, of the sample's
+ * magnitude, 0.0 where it is not finite, and the detector's answer. The frame told, counted from 0 in the block, is the
+ * first whose peak is the block's highest:
+ *   DAGGERYUZU_PEAK_NONE                             no frames, or no peak above 0.0
+ *   DAGGERYUZU_PEAK_ON_SAMPLE, frame, channel        a sample is that high; the lowest channel that has one
+ *   DAGGERYUZU_PEAK_BETWEEN, frame, channel, phase   no sample is; the lowest channel whose detector is, and the first
+ *                                                    of its phases, 0 to 3, that is
+ * A phase is the signal between two samples, at frame - 5.875 + phase / 4, since the detector hears it that late; below 0
+ * it lies in what came before the block. A drain tells no place. */
 #ifndef DAGGERYUZU_H
 #define DAGGERYUZU_H
 
@@ -45,6 +55,10 @@ extern "C" {
 
 #define DAGGERYUZU_STATE 512
 #define DAGGERYUZU_ANSWER 8
+
+#define DAGGERYUZU_PEAK_NONE 0
+#define DAGGERYUZU_PEAK_ON_SAMPLE 1
+#define DAGGERYUZU_PEAK_BETWEEN 2
 
 /* look, the frames by which the audio is held back, of a lookahead in ms (its bits) at a rate */
 uint64_t daggeryuzu_look(uint64_t lookahead_ms_bits, uint32_t rate);
@@ -61,7 +75,7 @@ uint32_t daggeryuzu_setup(
     double *delay, size_t delay_len, uint64_t *marks, size_t marks_len, double *minima, size_t minima_len,
     const double *weights, size_t weights_len, double *row, size_t row_len, double *detector, size_t detector_len);
 
-/* refusals 18, 16, 19, 20, 21 (index), 22 */
+/* refusals 18, 16, 19, 20, 21 (index), 22; answer: where the highest peak sat (above) */
 uint32_t daggeryuzu_process(
     uint8_t *state, size_t state_len, uint64_t *answer, size_t answer_len,
     uint64_t position, size_t frames, const uint64_t *events, size_t events_len, uint8_t *audio, size_t audio_len,

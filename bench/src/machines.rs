@@ -51,7 +51,7 @@ impl Ours {
         let mut done = Ok(());
         let time = timed(|| {
             for block in blocks.iter_mut() {
-                done = done.and(self.limiter.process(self.position, block, &[]));
+                done = done.and(self.limiter.process(self.position, block, &[]).map(|_| ()));
                 self.position += (block.len() / channels) as u64;
             }
         });

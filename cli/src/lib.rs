@@ -6,6 +6,7 @@ pub mod demo;
 pub mod detector;
 pub mod failure;
 pub mod gains;
+pub mod input;
 pub mod interrupt;
 pub mod limit;
 pub mod meter;

@@ -8,6 +8,7 @@ use daggeryuzu::{Limiter, Refusal};
 
 use crate::failure::Failure;
 use crate::gains::Gains;
+use crate::input::{Highest, Input};
 use crate::meter::{Measured, Meter};
 use crate::sndfile::{Encoding, Reader, Sample};
 
@@ -16,6 +17,8 @@ use crate::sndfile::{Encoding, Reader, Sample};
 pub struct Outcome {
     /// What went in.
     pub input: Measured,
+    /// Its highest peak; silence has none.
+    pub highest: Option<Highest>,
     /// What came out, as the file holds it.
     pub output: Measured,
     /// The gains in between.
@@ -39,40 +42,31 @@ pub fn limit<T: Sample>(
 ) -> Result<Outcome, Failure> {
     let started = Instant::now();
     let (channels, silence) = (reader.format().channels, T::from_f64(0.0));
-    let mut input = Meter::new(channels);
+    let mut input = Input::new(channels);
     let mut out = Out::new(channels, limiter.latency(), reader.format().encoding);
     let mut samples = vec![silence; channels * block];
-    let mut position = 0;
     loop {
-        tick(position)?;
+        tick(input.position())?;
         let frames = reader.read(&mut samples)?;
         if frames == 0 {
             break;
         }
         let audio = &mut samples[..channels * frames];
-        input.take(audio);
         out.held.extend(&*audio);
-        render(limiter, position, audio).map_err(refused)?;
-        position += frames as u64;
+        input.render(limiter, audio).map_err(refused)?;
         sink(out.take(audio))?;
     }
+    let (input, highest) = input.finish(limiter).map_err(refused)?;
     samples.resize(channels * limiter.latency(), silence);
     let frames = drain(limiter, &mut samples).map_err(refused)?;
     sink(out.take(&mut samples[..channels * frames]))?;
     Ok(Outcome {
-        input: input.finish(),
+        input,
+        highest,
         output: out.meter.finish(),
         gains: out.gains,
         elapsed: started.elapsed(),
     })
-}
-
-/// A block through the limiter, interleaved before and after. It has at most 65,536
-/// frames of 8 channels, which are the most samples that can be rearranged.
-fn render<T: Sample>(limiter: &mut Limiter, position: u64, audio: &mut [T]) -> Result<(), Refusal> {
-    limiter.deinterleave(audio)?;
-    limiter.process(position, audio, &[])?;
-    limiter.interleave(audio)
 }
 
 /// The tail, interleaved: its frames.

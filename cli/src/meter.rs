@@ -35,9 +35,10 @@ impl Meter {
         }
     }
 
-    /// Takes interleaved samples. One that is not finite counts as silence, as
-    /// the limiter takes it.
-    pub fn take<T: Sample>(&mut self, samples: &[T]) {
+    /// Takes interleaved samples: their highest peak, on a sample or by the detector. A
+    /// sample that is not finite counts as silence, as the limiter takes it.
+    pub fn take<T: Sample>(&mut self, samples: &[T]) -> f64 {
+        let mut highest = 0.0_f64;
         for frame in samples.chunks_exact(self.detectors.len()) {
             let (mut sample, mut detector) = (0.0_f64, 0.0_f64);
             for (x, d) in frame.iter().zip(&mut self.detectors) {
@@ -50,7 +51,9 @@ impl Meter {
             self.peaks.sample = self.peaks.sample.max(sample);
             self.peaks.detector = self.peaks.detector.max(detector);
             self.envelope.push(sample.max(detector));
+            highest = highest.max(sample.max(detector));
         }
+        highest
     }
 
     /// Ends the stream with silence.
@@ -85,10 +88,12 @@ mod tests {
     #[test]
     fn channels_are_metered_apart_and_the_higher_counts() {
         let mut meter = Meter::new(2);
-        meter.take(&[0.5, -0.25, f64::NAN, 0.0]);
+        assert_eq!(meter.take(&[0.5, -0.25, f64::NAN, 0.0]), 0.5);
+        assert!(meter.take(&[0.0; 22]) < 0.5);
+        assert_eq!(meter.take(&[0.0; 2]), 0.0);
         let seen = meter.finish();
         assert_eq!(seen.peaks.sample, 0.5);
         assert_eq!(seen.not_finite, 1);
-        assert_eq!(seen.envelope.frames(), 2);
+        assert_eq!(seen.envelope.frames(), 14);
     }
 }

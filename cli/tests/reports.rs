@@ -21,17 +21,6 @@ fn tone(folder: &Folder, kind: i32) {
     write(&folder.at("in.wav"), format, &samples);
 }
 
-/// The value of a member, as it is written.
-fn member<'a>(json: &'a str, name: &str) -> &'a str {
-    let start = format!("\"{name}\": ");
-    let rest = json
-        .split(&start)
-        .nth(1)
-        .unwrap_or_else(|| panic!("no {name}"));
-    let end = rest.find([',', '\n', '}', ' ']).unwrap_or(rest.len());
-    &rest[..end]
-}
-
 #[test]
 fn the_numbers_are_those_of_the_file() {
     the_numbers(PCM_24);
@@ -73,7 +62,8 @@ fn the_numbers(kind: i32) {
     assert!(out <= -1.1 + 1e-5, "{out}");
     let least = number("gain_db");
     assert!((least - (-1.1 - seen)).abs() < 0.2, "{least}");
-    let frame = number("frame");
+    let least = json.split("\"least_gain\": ").nth(1).expect("a gain");
+    let frame: f64 = member(least, "frame").parse().expect("a frame");
     assert!((24_000.0..24_480.0).contains(&frame), "{frame}");
     assert!(json.contains("\"time\": \"00:00:00.50"), "{json}");
     let below = number("frames_below_unity");
@@ -157,10 +147,13 @@ fn silence_has_no_level_and_no_gain() {
         told.contains("unity throughout") && told.contains("-inf dBFS in"),
         "{told}"
     );
+    assert!(told.contains("\nhighest peak    none\n"), "{told}");
     let json = fs::read_to_string(json).expect("the report");
     assert_eq!(member(&json, "least_gain"), "null");
+    assert_eq!(member(&json, "highest_peak"), "null");
     assert_eq!(member(&json, "sample_peak_dbfs"), "null");
     let svg = fs::read_to_string(svg).expect("the picture");
+    assert!(!svg.contains("<circle") && !svg.contains("peak in "));
     assert!(!svg.contains("NaN") && !svg.contains("inf"));
 }
 

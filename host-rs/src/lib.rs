@@ -10,7 +10,8 @@
 //! let spec = ProcessSpec { sample_rate: 48_000, channels: 2, max_block: 512, max_memory: None };
 //! let mut limiter = Limiter::prepare(LimiterSettings::default(), spec)?;
 //! let mut audio = vec![0.0_f32; 2 * 512]; // f32 or f64; planar: channel after channel
-//! limiter.process(0, &mut audio, &[])?;
+//! let highest = limiter.process(0, &mut audio, &[])?; // where its highest peak sat
+//! assert_eq!(highest, None); // silence has none
 //! let mut tail = vec![0.0_f32; 2 * limiter.latency()];
 //! let produced = limiter.flush(&mut tail)?;
 //! assert!(produced.done);
@@ -23,6 +24,7 @@
 #![warn(missing_docs)]
 
 mod interleaving;
+mod peak_place;
 mod refusal;
 mod sample;
 mod settings;
@@ -30,6 +32,7 @@ mod stores;
 pub mod sys;
 
 pub use interleaving::{deinterleave, interleave};
+pub use peak_place::PeakPlace;
 pub use refusal::Refusal;
 pub use sample::Sample;
 pub use settings::{LimiterSettings, ProcessSpec};
@@ -91,6 +94,9 @@ impl Limiter {
     /// Events are sorted by their offsets. A block of one sample type may
     /// follow one of the other.
     ///
+    /// The answer says where the highest peak of what came in sat; none where the
+    /// block is empty or nothing in it is above 0.0.
+    ///
     /// # Errors
     /// 20, 21 or 22; 18, 16 and 19 never arise here, because nobody else
     /// writes the state and the stores.
@@ -99,7 +105,7 @@ impl Limiter {
         position: u64,
         audio: &mut [T],
         events: &[ParamEvent],
-    ) -> Result<(), Refusal> {
+    ) -> Result<Option<PeakPlace>, Refusal> {
         self.events.clear();
         for e in events {
             self.events
@@ -108,11 +114,12 @@ impl Limiter {
         let frames = audio.len() / self.spec.channels;
         let (state, events, stores) = (&mut self.state, &self.events, self.stores.lent());
         let audio = sys::bytes(audio);
-        told(|answer| T::PROCESS(state, answer, position, frames, events, audio, stores))?;
-        Ok(())
+        told(|answer| T::PROCESS(state, answer, position, frames, events, audio, stores))
+            .map(PeakPlace::told)
     }
 
-    /// Drains the tail: silence goes in, what was held back comes out.
+    /// Drains the tail: silence goes in, what was held back comes out. It says nothing
+    /// of peaks.
     ///
     /// # Errors
     /// 20 or 22.

@@ -17,6 +17,15 @@ pub const STATE: usize = 512;
 /// wants none lends an empty one.
 pub const ANSWER: usize = 8;
 
+/// The first word of a finished block's answer: no peak; 0 in all words.
+pub const PEAK_NONE: u64 = 0;
+
+/// The highest peak sat on a sample; its frame and channel follow.
+pub const PEAK_ON_SAMPLE: u64 = 1;
+
+/// The highest peak sat between samples; frame, channel and phase follow.
+pub const PEAK_BETWEEN: u64 = 2;
+
 extern "C" {
     fn daggeryuzu_look(lookahead_ms: u64, rate: u32) -> u64;
     fn daggeryuzu_bytes_needed(channels: usize, look: usize) -> u64;
@@ -346,8 +355,9 @@ macro_rules! blocks_and_drains {
 }
 
 blocks_and_drains! {
-    /// Limits a block in place: 18, 16, 19, 20, 21 (its index), 22. Events are three
-    /// words each: offset, id, bits of the value. A sample is 8 bytes, low byte first.
+    /// Limits a block in place: 18, 16, 19, 20, 21 (its index), 22. It tells where the
+    /// highest peak sat: see [`PeakPlace`](crate::PeakPlace). Events are three words
+    /// each: offset, id, bits of the value. A sample is 8 bytes, low byte first.
     process: daggeryuzu_process,
     /// Drains the tail: 18, 16, 19, 20, 22. It tells the frames written and whether
     /// the tail is done. A sample is 8 bytes, low byte first.

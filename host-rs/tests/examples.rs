@@ -10,11 +10,13 @@ use std::process::Command;
 const ANSWERS: [(&[&str], &str); 2] = [
     (
         &[],
-        "highest f64 sample in 2.0000000000, out 0.8810488730\n",
+        "highest f64 sample in 2.0000000000, out 0.8810488730\n\
+         peak of the last block between samples, frame 275.375, channel 0\n",
     ),
     (
         &["float"],
-        "highest f32 sample in 2.0000000000, out 0.8810488582\n",
+        "highest f32 sample in 2.0000000000, out 0.8810488582\n\
+         peak of the last block between samples, frame 275.375, channel 0\n",
     ),
 ];
 

@@ -1,9 +1,12 @@
 //! include/daggeryuzu.h and src/sys.rs declare what crate host exports: the same
-//! functions, with the same parameters in the same order.
+//! functions, with the same parameters in the same order. The header's numbers are the
+//! wrapper's.
 
 use std::collections::BTreeMap;
 use std::fs;
 use std::path::{Path, PathBuf};
+
+use daggeryuzu::sys;
 
 type Functions = BTreeMap<String, Vec<String>>;
 
@@ -130,4 +133,29 @@ fn the_header_declares_what_is_exported() {
         exported.len()
     );
     assert_eq!(declared(), exported);
+}
+
+/// The numbers that the header defines.
+fn defined() -> BTreeMap<String, u64> {
+    let text = fs::read_to_string(root().join("include/daggeryuzu.h")).unwrap();
+    let lines = text
+        .lines()
+        .filter_map(|l| l.strip_prefix("#define DAGGERYUZU_"));
+    let numbers = lines.filter_map(|l| l.split_once(' '));
+    numbers
+        .map(|(name, n)| (name.to_string(), n.trim().parse().unwrap()))
+        .collect()
+}
+
+#[test]
+fn the_wrapper_has_the_headers_numbers() {
+    let ours = [
+        ("STATE", sys::STATE as u64),
+        ("ANSWER", sys::ANSWER as u64),
+        ("PEAK_NONE", sys::PEAK_NONE),
+        ("PEAK_ON_SAMPLE", sys::PEAK_ON_SAMPLE),
+        ("PEAK_BETWEEN", sys::PEAK_BETWEEN),
+    ];
+    let ours = ours.map(|(name, n)| (name.to_string(), n));
+    assert_eq!(defined(), BTreeMap::from(ours));
 }

@@ -15,6 +15,7 @@ pub const STORES: [&str; 6] = ["delay", "marks", "minima", "weights", "row", "de
 pub const MARKS: usize = 1;
 pub const WEIGHTS: usize = 3;
 pub const ROW: usize = 4;
+pub const DETECTOR: usize = 5;
 
 /// The lent stores, in that order, each as the bits of what it holds.
 #[derive(Clone, Debug, Default, PartialEq, Eq)]

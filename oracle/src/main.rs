@@ -37,6 +37,7 @@ mod singles;
 mod tables;
 #[cfg(feature = "probe")]
 mod time;
+mod twelves;
 mod whole;
 
 // The module tree of the Rust: its files as `build.rs` found them, and the

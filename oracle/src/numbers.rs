@@ -70,6 +70,11 @@ pub fn subnormal(rng: &mut Rng) -> f64 {
     f64::from_bits(rng.word() & !(0x7ff << 52))
 }
 
+/// A zero, or one of the smallest numbers that there are.
+pub fn smallest(rng: &mut Rng) -> f64 {
+    f64::from_bits(rng.pick(&[0, 0, 0, 1, 1, 2, 3]) | (rng.word() & SIGN))
+}
+
 /// A finite number of about 1e308, where sums and products overflow.
 pub fn huge(rng: &mut Rng) -> f64 {
     f64::from_bits((rng.word() & !(0x7ff << 52)) | (0x7fe << 52))

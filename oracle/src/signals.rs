@@ -3,7 +3,7 @@
 use std::f64::consts::TAU;
 
 use crate::dsp::math;
-use crate::numbers::{any, huge, log_uniform, not_finite, subnormal, uniform};
+use crate::numbers::{any, huge, log_uniform, not_finite, smallest, subnormal, uniform};
 use crate::rng::Rng;
 use crate::singles;
 
@@ -22,9 +22,14 @@ pub enum Signal {
     Damaged,
     Levels,
     Anything,
+    /// Two samples of one magnitude among silence: between them the sums of two
+    /// phases are equal.
+    Pairs,
+    /// The smallest numbers that there are: their products are often equal.
+    Smallest,
 }
 
-/// All kinds, in the order in which they are recorded.
+/// All kinds but the last two, in the order in which they are recorded.
 pub const SIGNALS: [Signal; 12] = [
     Signal::Silence,
     Signal::Speech,
@@ -44,6 +49,7 @@ pub const SIGNALS: [Signal; 12] = [
 pub fn signal(kind: Signal, length: usize, rng: &mut Rng) -> Vec<f64> {
     let voice = Voice::new(rng);
     let period = 1 + rng.below(20) as usize;
+    let mut pulse = 0.0;
     (0..length)
         .map(|i| match kind {
             Signal::Silence => rng.pick(&[0.0, 0.0, 0.0, -0.0]),
@@ -60,8 +66,21 @@ pub fn signal(kind: Signal, length: usize, rng: &mut Rng) -> Vec<f64> {
             Signal::Damaged => voice.at(i, rng),
             Signal::Levels => log_uniform(rng, 0x7fe),
             Signal::Anything => any(rng),
+            Signal::Pairs if i % (13 + period) == 0 => {
+                pulse = height(rng);
+                pulse
+            }
+            Signal::Pairs if i % (13 + period) == 1 => rng.pick(&[pulse, pulse, pulse, -pulse]),
+            Signal::Pairs => 0.0,
+            Signal::Smallest => smallest(rng),
         })
         .collect()
+}
+
+/// The height of a pulse, of either sign.
+pub fn height(rng: &mut Rng) -> f64 {
+    let x = uniform(rng, 0.5, 1.5);
+    rng.pick(&[x, -x])
 }
 
 /// A sample of a kind at 32 bits, times a level: `x`, but that kinds at the ends

@@ -11,6 +11,9 @@ use taps::TAPS;
 const PHASES: usize = 4;
 const LENGTH: usize = 12;
 
+/// The frames of silence in which the last sample is still heard.
+pub const TAIL: usize = LENGTH - 1;
+
 /// Tap by tap, the four phases side by side: one sum of each goes on at a time.
 const TABLE: [[f64; PHASES]; LENGTH] = {
     let mut table = [[0.0; PHASES]; LENGTH];
@@ -49,7 +52,7 @@ impl Detector {
 
     /// The largest magnitude among the answers to silence that are still due.
     pub fn finish(mut self) -> f64 {
-        (1..LENGTH).fold(0.0, |most, _| self.push(0.0).max(most))
+        (0..TAIL).fold(0.0, |most, _| self.push(0.0).max(most))
     }
 }
 

@@ -3,7 +3,12 @@
 use std::fmt::Write as _;
 use std::path::Path;
 
-use super::Report;
+use daggeryuzu::PeakPlace;
+
+use super::{peak, Report};
+use crate::gains::Least;
+use crate::input::Highest;
+use crate::meter::Measured;
 use crate::words::{clock, db};
 
 /// One object, one member to a line.
@@ -11,20 +16,8 @@ use crate::words::{clock, db};
 pub fn json(report: &Report) -> String {
     let (format, outcome) = (&report.format, &report.outcome);
     let settings = &report.settings;
-    let peaks = |m: &crate::meter::Measured| {
-        object(&[
-            ("sample_peak_dbfs", number(db(m.peaks.sample))),
-            ("detector_peak_dbfs", number(db(m.peaks.detector))),
-        ])
-    };
-    let least = outcome.gains.least().map_or("null".into(), |least| {
-        object(&[
-            ("gain", number(Some(least.gain))),
-            ("gain_db", number(db(least.gain))),
-            ("frame", least.frame.to_string()),
-            ("time", quoted(&clock(least.frame, format.rate))),
-        ])
-    });
+    let least = outcome.gains.least().map(|l| least(report, l));
+    let highest = outcome.highest.map(|p| highest(report, &p));
     let members = [
         (
             "program",
@@ -49,7 +42,8 @@ pub fn json(report: &Report) -> String {
         ("target_dbfs", number(Some(report.target_db()))),
         ("in", peaks(&outcome.input)),
         ("out", peaks(&outcome.output)),
-        ("least_gain", least),
+        ("highest_peak", highest.unwrap_or("null".into())),
+        ("least_gain", least.unwrap_or("null".into())),
         (
             "frames_below_unity",
             outcome.gains.below_unity().to_string(),
@@ -70,6 +64,40 @@ pub fn json(report: &Report) -> String {
         .map(|(name, value)| format!("  {}: {value}", quoted(name)))
         .collect();
     format!("{{\n{}\n}}\n", lines.join(",\n"))
+}
+
+fn peaks(measured: &Measured) -> String {
+    object(&[
+        ("sample_peak_dbfs", number(db(measured.peaks.sample))),
+        ("detector_peak_dbfs", number(db(measured.peaks.detector))),
+    ])
+}
+
+fn least(report: &Report, least: Least) -> String {
+    object(&[
+        ("gain", number(Some(least.gain))),
+        ("gain_db", number(db(least.gain))),
+        ("frame", least.frame.to_string()),
+        ("time", quoted(&clock(least.frame, report.format.rate))),
+    ])
+}
+
+/// Its channel counts from 0, as frames do.
+fn highest(report: &Report, highest: &Highest) -> String {
+    let seconds = highest.at(report.frames()) / f64::from(report.format.rate);
+    let phase = match highest.place {
+        PeakPlace::OnSample { .. } => "null".into(),
+        PeakPlace::Between { phase, .. } => phase.to_string(),
+    };
+    object(&[
+        ("dbfs", number(db(highest.height))),
+        ("time", quoted(&peak::time(report, highest))),
+        ("seconds", number(Some(seconds))),
+        ("frame", highest.frame().to_string()),
+        ("channel", highest.place.channel().to_string()),
+        ("where", quoted(peak::seat(highest.place))),
+        ("phase", phase),
+    ])
 }
 
 fn object(members: &[(&str, String)]) -> String {

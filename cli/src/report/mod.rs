@@ -1,6 +1,7 @@
 //! What is told at the end.
 
 mod json;
+mod peak;
 mod svg;
 mod text;
 

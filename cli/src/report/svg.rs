@@ -2,7 +2,8 @@
 
 use std::fmt::Write as _;
 
-use super::Report;
+use super::{peak, Report};
+use crate::input::Highest;
 use crate::series::Series;
 use crate::words::{clock, db, grouped, level};
 
@@ -19,7 +20,8 @@ text{font-family:system-ui,'DejaVu Sans',sans-serif;font-size:13px;fill:#3c4650}
 .end{text-anchor:end}.middle{text-anchor:middle}\
 .grid{stroke:#e3e8ec;fill:none}.frame{stroke:#9aa5ae;fill:none}\
 .in{fill:#c3ccd6}.out{fill:#2a7ab0}.gain{fill:#e39a2d}\
-.target{stroke:#c22f2f;stroke-width:1.5;stroke-dasharray:7 4}.told{fill:#c22f2f;font-weight:600;paint-order:stroke;stroke:#fff;stroke-width:3px}";
+.target{stroke:#c22f2f;stroke-width:1.5;stroke-dasharray:7 4}.mark{stroke:#1d252c;stroke-width:1.5;fill:#fff}\
+.told,.high{font-weight:600;paint-order:stroke;stroke:#fff;stroke-width:3px}.told{fill:#c22f2f}.high{fill:#1d252c}";
 
 /// A stretch of the picture with an axis in dB.
 struct Panel {
@@ -122,19 +124,50 @@ pub fn svg(report: &Report) -> String {
     levels.area(&mut svg, "in", &outcome.input.envelope, QUIET, frames);
     levels.area(&mut svg, "out", &outcome.output.envelope, QUIET, frames);
     gain.area(&mut svg, "gain", outcome.gains.curve(), 0.0, frames);
-    let y = levels.y(report.target_db());
+    target(&mut svg, report.target_db(), &levels);
+    levels.frame(&mut svg);
+    gain.frame(&mut svg);
+    if let Some(peak) = outcome.highest {
+        mark(&mut svg, report, &peak, &levels);
+    }
+    svg.push_str("</svg>\n");
+    svg
+}
+
+/// The target's line, named at its right end.
+fn target(svg: &mut String, db: f64, levels: &Panel) {
+    let y = levels.y(db);
     let _ = write!(
         svg,
         "<path class='target' d='M{LEFT} {y:.1}H{RIGHT}'/>\n\
-         <text class='told end' x='{}' y='{:.1}'>target {:+.2} dBFS</text>\n",
+         <text class='told end' x='{}' y='{:.1}'>target {db:+.2} dBFS</text>\n",
         RIGHT - 8.0,
-        y - 6.0,
-        report.target_db()
+        y - 6.0
     );
-    levels.frame(&mut svg);
-    gain.frame(&mut svg);
-    svg.push_str("</svg>\n");
-    svg
+}
+
+/// A ring where and as high as the highest peak in was: the area of what went in lies
+/// below it, and between samples a few frames after it, where it was heard. It is named
+/// toward the middle, clear of the target's name.
+fn mark(svg: &mut String, report: &Report, peak: &Highest, levels: &Panel) {
+    let (at, frames) = (peak.at(report.frames()), report.frames().max(1) as f64);
+    let x = LEFT + at / frames * (RIGHT - LEFT);
+    let y = levels.y(db(peak.height).unwrap_or(f64::MIN));
+    let (class, beside) = if x < (LEFT + RIGHT) / 2.0 {
+        ("high", x + 8.0)
+    } else {
+        ("high end", x.min(RIGHT - 160.0) - 8.0)
+    };
+    let _ = write!(
+        svg,
+        "<circle class='mark' cx='{x:.1}' cy='{y:.1}' r='4'><title>{}</title></circle>\n\
+         <text class='{class}' x='{beside:.1}' y='{:.1}'>peak in {} dBFS, channel {}, {}</text>\n",
+        peak::words(report, peak),
+        y - 8.0,
+        level(peak.height),
+        peak.place.channel() + 1,
+        peak::seat(peak.place)
+    );
 }
 
 /// The gain axis: its low end and its step.

@@ -2,7 +2,7 @@
 
 use std::fmt::Write as _;
 
-use super::Report;
+use super::{peak, Report};
 use crate::words::{clock, grouped, level};
 
 /// The lines for a reader.
@@ -46,6 +46,8 @@ pub fn text(report: &Report) -> String {
     let pair = |a, b| format!("{} dBFS in, {} dBFS out", level(a), level(b));
     line("sample peak", pair(input.sample, output.sample));
     line("detector peak", pair(input.detector, output.detector));
+    let highest = outcome.highest.map(|p| peak::words(report, &p));
+    line("highest peak", highest.unwrap_or("none".into()));
     line(
         "least gain",
         match outcome.gains.least() {

@@ -98,6 +98,17 @@ pub fn text(path: &Path) -> &str {
     path.to_str().expect("a path of text")
 }
 
+/// The value of a member, as it is written.
+pub fn member<'a>(json: &'a str, name: &str) -> &'a str {
+    let start = format!("\"{name}\": ");
+    let rest = json
+        .split(&start)
+        .nth(1)
+        .unwrap_or_else(|| panic!("no {name}"));
+    let end = rest.find([',', '\n', '}', ' ']).unwrap_or(rest.len());
+    &rest[..end]
+}
+
 /// Writes a sound file of interleaved samples, rounded to its encoding.
 pub fn write(path: &Path, format: Format, samples: &[f64]) {
     let file = File::create(path).expect("a file");

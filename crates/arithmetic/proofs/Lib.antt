@@ -1,5 +1,6 @@
 -- Laws on f64 values that belong to no one function. `Order`, `Within` and `Unit` are what the layers above cite.
 pub mod Order
+pub mod Heights
 pub mod Within
 pub mod Cases
 pub mod Values

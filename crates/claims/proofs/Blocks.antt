@@ -8,23 +8,27 @@ use lib.Dec.{eqb, leb}
 use lib.ListN.{length, drop, length-map}
 use lib.Ieee.{Float}
 use borrow.Author.Tests.{eqb-true, leb-true}
-use Rattle.arithmetic.specs.Reply.{Reply, finished, refused, count, andThen, must}
+use Rattle.arithmetic.specs.Reply.{Reply, refused, count, andThen, must}
 use Rattle.arithmetic.proofs.Order.{and-true}
 use Rattle.arithmetic.proofs.Passed.{passed-must, passed-then}
 use Rattle.audio.specs.Format.{sizeOf, samplesOf, writtenBytes}
 use Rattle.audio.specs.declared.format.Format.{Format}
 use Rattle.keeper.specs.InOrder.{mostFrames}
 use Rattle.frame.specs.Rules.{Rules, rulesOf}
+use Rattle.frame.specs.Seat.{PeakAt}
 use Rattle.frame.specs.Frame.{Framed}
+use Rattle.frame.specs.Run.{peaksOfFrames}
+use Rattle.frame.specs.Place.{placeOf}
 use Rattle.bank.specs.declared.smoother.Smoother.{Smoother}
 use Rattle.bank.specs.declared.smoother_bank.SmootherBank.{SmootherBank}
 use Rattle.turns.specs.Machine.{Machine, machineOf}
 use Rattle.turns.specs.Events.{Event, misplaced, eventsReply}
-use Rattle.turns.specs.Block.{Renderer, Rendered, rendered, RunsLeft, Outcome, outputsOf, refusedAs, reaches, blockReply, blockDone, blockBy}
+use Rattle.turns.specs.Block.{Renderer, Rendered, rendered, RunsLeft, Outcome, outputsOf, refusedAs, reaches, blockReply, placeReply, blockDone, blockBy}
+use Rattle.turns.proofs.Told.{place-finished}
 use Rattle.claims.specs.Session.{block, limiting, called}
-use Rattle.claims.specs.Book.{Book, lookIn, coeffIn}
+use Rattle.claims.specs.Book.{Joined, Book, lookIn, coeffIn, peakAtOf, peaksJoining}
 use Rattle.claims.specs.BookCalls.{latchWhere, Joining, joiningFrom, lastTarget, blockJudged, blockEntered, enter}
-use Rattle.claims.specs.Claim.{Given}
+use Rattle.claims.specs.Claim.{FramesHold, Given}
 use Rattle.claims.proofs.Each.{renderEach, each-left}
 use Rattle.claims.proofs.Latches.{bankWith}
 use Rattle.claims.proofs.Runs.{runs-each}
@@ -42,6 +46,15 @@ never-events frames before index (e ∷ es) = go (misplaced frames before e) (ne
     go : (p : Bool) → Never (eventsReply frames (e .offset) (suc index) es .number) → Never (cond p (refused 21 (count index ∷ [])) (eventsReply frames (e .offset) (suc index) es) .number)
     go true later = never-later 21 (omega arith)
     go false later = later
+
+-- ---- the place: the linked peaks that frames show, and where they sat, are the book's
+peaks-joining : (rules : Rules) (look channels : ℕ) (weights : List Float) (coeff : Float) (drops : ℕ) (fs js : List Joined) (shown : List Framed) → FramesHold rules look channels weights coeff drops fs js shown
+    → peaksOfFrames shown ≡ peaksJoining (rules .linking) channels fs js
+unfolding peaksJoining
+peaks-joining rules look channels weights coeff drops fs [] [] h = refl
+peaks-joining rules look channels weights coeff drops fs (j ∷ js) (f ∷ shown) h =
+    ap (λ (p : PeakAt). p ∷ peaksOfFrames shown) (h .0 .at)
+    ∙ ap (λ (ps : List PeakAt). peakAtOf (rules .linking) channels (j ∷ fs) ∷ ps) (peaks-joining rules look channels weights coeff (drops + f .dropped) (j ∷ fs) js shown (h .1))
 
 module _ (drops : ℕ) (b : Book) (m : Machine) (t : Tied b m) (n : CountedIn drops b m) (format : Format) (position frames : ℕ) (events : List Event) (bytes : List ℕ) where
   abbrev rules : Rules
@@ -73,7 +86,7 @@ module _ (drops : ℕ) (b : Book) (m : Machine) (t : Tied b m) (n : CountedIn dr
 
   -- what runs leave, as an outcome
   abbrev outcomeOf : RunsLeft → Outcome
-  outcomeOf r = record { reply = finished []; machine = r .machine; bytes = writtenBytes format frames (m .limiter .channels) frames bytes (outputsOf (r .frames)); frames = r .frames }
+  outcomeOf r = record { reply = placeReply (placeOf (peaksOfFrames (r .frames))); machine = r .machine; bytes = writtenBytes format frames (m .limiter .channels) frames bytes (outputsOf (r .frames)); frames = r .frames }
 
   module _ (short : frames ≤ 65536) (fit : sizeOf format bytes ≡ b .spec .channels * frames) (passed : eventsReply frames 0 0 events .number ≡ 0) (room : length (b .frames) + frames ≤ mostFrames) where
     block-holds : Holding rules (lookIn b) (b .spec .channels) (b .weights) (coeffIn b) drops (m .limiter) (m .stores) (b .frames) (joined .frames) shown
@@ -113,13 +126,21 @@ module _ (drops : ℕ) (b : Book) (m : Machine) (t : Tied b m) (n : CountedIn dr
           drained-is = each-drained rules (lookIn b) (b .spec .channels) (b .weights) (coeffIn b) (joined .frames) l (m .stores) ∙ rw (many, t .drained) refl;
         })
 
+    -- the place that it names is the book's
+    block-place : placeReply (placeOf (peaksOfFrames (shown .frames))) ≡ blockEntered b position frames events audio .reply
+    unfolding blockEntered
+    block-place =
+        ap (λ (ps : List PeakAt). placeReply (placeOf ps))
+        (peaks-joining rules (lookIn b) (b .spec .channels) (b .weights) (coeffIn b) drops (b .frames) (joined .frames) (shown .frames) (block-holds .frames))
+
     block-left : Done drops b m (block format position frames events bytes) (blockDone (rendered rules) format m position frames events bytes) (blockEntered b position frames events audio)
     unfolding blockEntered
     block-left =
         let e = blockEntered b position frames events audio in
         subst (λ (r : RunsLeft). Done drops b m (block format position frames events bytes) (outcomeOf r) e)
         (sym (runs-each rules b position frames events audio m (drop 1 (m .bank .smoothers)) (tied-whole b m t .one .count) (t .slots) (t .channels) (t .settings) passed))
-        (finished-done drops b m t n (block format position frames events bytes) (outcomeOf (record { machine = machineOf (shown .limiter) bank (shown .stores); frames = shown .frames })) e refl refl (block-holds .frames)
+        (finished-done drops b m t n (block format position frames events bytes) (outcomeOf (record { machine = machineOf (shown .limiter) bank (shown .stores); frames = shown .frames })) e
+        block-place (place-finished (placeOf (peaksOfFrames (shown .frames)))) (block-holds .frames)
         (each-left rules (joined .frames) (m .limiter) (m .stores)) block-given block-tied (block-holds .counted))
 
   -- ---- the call

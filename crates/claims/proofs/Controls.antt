@@ -1,4 +1,4 @@
--- The claim is false of each of the twenty-one limiters of specs/Controls.antt, and `GainClaim` of each of its three gain steps: a few calls after a start (`mono`, or `stereo` where the comment says so; ControlsStart), and the one place of the claim that two constants contradict.
+-- The claim is false of each of the twenty-two limiters of specs/Controls.antt, and `GainClaim` of each of its three gain steps: a few calls after a start (`mono`, or `stereo` where the comment says so; ControlsStart), and the one place of the claim that two constants contradict.
 use Prim.Native.Nat.{ℕ}
 use mathlib.Core.Path.{refl, ap, sym}
 use mathlib.Core.Bool.{true}
@@ -19,9 +19,9 @@ use Rattle.driver.specs.Calls.{gainReply}
 use Rattle.claims.specs.Session.{block, drain, parameter, reset}
 use Rattle.claims.specs.Claim.{Claim}
 use Rattle.claims.specs.GainSteps.{GainClaim}
-use Rattle.claims.specs.Controls.{steppedBy, gainStepBy, frameBy, framesBy, renderedBy, storedFirst}
+use Rattle.claims.specs.Controls.{steppedBy, gainStepBy, frameBy, framesBy, renderedBy, storedFirst, lastWith, lastPlaceOf}
 use Rattle.claims.specs.Controls.{shortWindow, equalsStay, detectorStopped, rowKept, drainedKept, targetLost, noDelay, lateEvents, refusing, doneAtOnce, fullGain}
-use Rattle.claims.specs.Controls.{noGain, onlySilence, reversedWeights, firstLinked, releaseExchanged, tallyKept, dropInvented, stepInvents, ringInvented, ringHidden, stepForgets, stepForges, cutNotRounded}
+use Rattle.claims.specs.Controls.{noGain, onlySilence, reversedWeights, firstLinked, releaseExchanged, tallyKept, dropInvented, stepInvents, ringInvented, ringHidden, stepForgets, stepForges, cutNotRounded, lastOfEquals}
 use Rattle.claims.proofs.ControlsStart.{calling, booking, after-mono, after-stereo, gains-after-mono}
 
 -- a value as a number: a count, or a float's bits
@@ -199,3 +199,8 @@ no-cut-off claim =
     eqb-false 0x3fef_ffff_e000_0000 0x3ff0_0000_0000_0000 refl
     (ap (λ (xs : List Float). bitsAt 0 xs)
     (after-mono cutNotRounded refl claim (block F64 0 1 [] (audioOf (0x3fef_ffff_f800_0000 ∷ [])) ∷ drain F32 11 (replicate 44 0) ∷ []) .1 .0 .frames .1 .1 .1 .1 .1 .1 .1 .1 .1 .1 .0 .outputs))
+
+-- 25: 1 in both frames, which is the linked peak of both: the block should name the first of them, frame 0
+pub no-last-of-equals : Claim lastOfEquals → ⊥
+unfolding calling booking lastWith lastPlaceOf
+no-last-of-equals claim = eqb-false 1 0 refl (ap (λ (r : Reply). valueAt 1 r) (after-mono lastOfEquals refl claim (block F64 0 2 [] (audioOf (oneBits ∷ oneBits ∷ [])) ∷ []) .0 .reply))

@@ -12,7 +12,7 @@ use Rattle.arithmetic.specs.Exp.{expOf}
 use Rattle.audio.specs.Bytes.{wordOf, bytesOf, cut, joined}
 use Rattle.audio.specs.Planar.{frameAt, framesAt, written}
 use Rattle.audio.specs.Format.{sampleOf, bytesFor, sizeOf, placesOf, writtenBytes}
-use Rattle.detector.specs.Oversample.{remembered, peakAbsOf, detected, shifted, sumsOf, sumOf, sumFrom, larger, largestFrom, largestOf}
+use Rattle.detector.specs.Oversample.{remembered, peakAbsOf, detected, shifted, sumsOf, sumOf, sumFrom, larger, largestFrom, largestOf, firstAt, phaseOf}
 use Rattle.detector.specs.Taps.{taps, phase0, phase1, phase2, phase3}
 use Rattle.detector.specs.History.{latest}
 use Rattle.keeper.specs.InOrder
@@ -41,6 +41,8 @@ use Rattle.bank.specs.declared.param.Smoothing.the-variants.{Linear}
 use Rattle.bank.specs.declared.smoother.Smoother.{Smoother}
 use Rattle.bank.specs.declared.smoother_bank.SmootherBank.{SmootherBank}
 use Rattle.frame.specs.Rules.{tapsOf, countsIn, leavesBy}
+use Rattle.frame.specs.Seat.{voicesFrom, betweenFrom, sampleFrom, seatOf}
+use Rattle.frame.specs.Place.{highestOf, firstWith, placeOf}
 use Rattle.frame.specs.Frame.{linkedFrom, delayedFrom, frameOf}
 use Rattle.frame.specs.Run.{framesOf}
 use Rattle.turns.specs.Machine
@@ -51,7 +53,7 @@ use Rattle.turns.specs.Drain.{drainReply, drainBy}
 use Rattle.driver.specs.Calls
 use Rattle.driver.specs.Calls.{Left, setupOf, parameterReply, parameterOf}
 use Rattle.claims.specs.Session.{Call, Limiting}
-use Rattle.claims.specs.Book.{Book, between, peakFrom, requiredOf, floorsOf, keptFrom, keptIn, attackRow, notOne, gainAfter, leavingFrom}
+use Rattle.claims.specs.Book.{Book, between, peakFrom, voicesOf, peakAtOf, peaksJoining, requiredOf, floorsOf, keptFrom, keptIn, attackRow, notOne, gainAfter, leavingFrom}
 use Rattle.claims.specs.BookCalls.{openedNew, enter, blockEntered, drainEntered, joiningFrom, thresholdAt, latchWhere, samplesFrom, joinAll, lastTarget}
 use Rattle.claims.specs.Claim.{Claim, Holds}
 use Rattle.claims.specs.GainSteps.{GainStepping, GainsHold, GainClaim}
@@ -62,8 +64,13 @@ unfolding ofBits toBits lt le eq ne isNan add sub mul div neg ofInt toUnsigned e
 numbers = ⊥
 
 unfoldable detecting : Type 0
-unfolding tapsOf countsIn linkedFrom peakAbsOf detected shifted sumsOf sumOf sumFrom larger largestFrom largestOf taps phase0 phase1 phase2 phase3
+unfolding tapsOf countsIn linkedFrom voicesFrom peakAbsOf detected shifted sumsOf sumOf sumFrom larger largestFrom largestOf firstAt phaseOf taps phase0 phase1 phase2 phase3
 detecting = ⊥
+
+-- where peaks sat
+unfoldable placing : Type 0
+unfolding betweenFrom sampleFrom seatOf highestOf firstWith placeOf
+placing = ⊥
 
 unfoldable framing : Type 0
 unfolding detecting gainStepOf steppedOf pushed meanOf followed leavesBy delayedFrom frameOf framesOf rendered
@@ -85,12 +92,12 @@ banking = ⊥
 
 -- a call of the limiter
 unfoldable pub calling : Type 0
-unfolding numbers bytewise framing judging banking blockReply blockBy eventsReply drainReply drainBy runsFrom runsThrough latched latchedAll Calls.resetOf Reset.resetOf parameterReply parameterOf
+unfolding numbers bytewise framing placing judging banking blockReply blockBy eventsReply drainReply drainBy runsFrom runsThrough latched latchedAll Calls.resetOf Reset.resetOf parameterReply parameterOf
 calling = ⊥
 
 -- the book's share in it
 unfoldable pub booking : Type 0
-unfolding enter blockEntered drainEntered joiningFrom thresholdAt latchWhere samplesFrom joinAll lastTarget between latest peakFrom requiredOf floorsOf keptFrom keptIn attackRow notOne gainAfter leavingFrom
+unfolding enter blockEntered drainEntered joiningFrom thresholdAt latchWhere samplesFrom joinAll lastTarget between latest peakFrom voicesOf peakAtOf peaksJoining requiredOf floorsOf keptFrom keptIn attackRow notOne gainAfter leavingFrom
 booking = ⊥
 
 -- a setup

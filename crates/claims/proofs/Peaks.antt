@@ -1,19 +1,20 @@
--- The detector's store is told by the book: a channel's twelve places hold the newest twelve of its samples, so the linked peak of a frame is the book's.
+-- The detector's store is told by the book: a channel's twelve places hold the newest twelve of its samples, so the linked peak of a frame, and where it sat, are the book's.
 use mathlib.Core.Path.{_≡_, refl, sym, ap, _∙_}
 use mathlib.Core.List.{List, [], _∷_, _++_}
 use Prim.Native.Nat.{ℕ, zero, suc, _+_, _*_}
 use native.Mathlib.Nat.{suc-mul}
 use native.Mathlib.Omega.{arith}
-use lib.ListN.{length, getD, drop, replicate, replicate-append-replicate}
+use lib.ListN.{length, getD, take, drop, replicate, replicate-append-replicate}
 use lib.Seq.{take-at, drop-at, drop-drop, getD-drop}
 use lib.Ieee.{Float}
 use Rattle.arithmetic.specs.Number
-use Rattle.detector.specs.Oversample.{remembered, sumsOf, largestOf, detected}
+use Rattle.detector.specs.Oversample.{remembered, Pushed, detected, peakAbsOf}
 use Rattle.detector.specs.History.{silent, latest}
 use Rattle.detector.proofs.Store.{latest-none, latest-length, push-latest}
 use Rattle.frame.specs.Rules.{Linking}
+use Rattle.frame.specs.Seat.{Voice, voiceOf, voicesFrom, peakAmong}
 use Rattle.frame.specs.Frame.{Linked, heard, linkedFrom}
-use Rattle.claims.specs.Book.{Joined, channelOf, between, peakFrom}
+use Rattle.claims.specs.Book.{Joined, channelOf, between, peakFrom, voicesOf, peakAtOf}
 
 -- ---- the samples of a frame, channel by channel
 module _ (c : ℕ) (ys : List Float) (x : Float) (xs : List Float) (at : drop c ys ≡ x ∷ xs) where
@@ -49,30 +50,40 @@ module _ (linking : Linking) (fs : List Joined) (ys : List Float) (target : Floa
   abbrev joined : List Joined
   joined = record { samples = ys; target = target } ∷ fs
 
-  -- the answer of the detector that holds the newest samples of a channel, x the newest of them
-  abbrev answer : ℕ → Float → Float
-  answer c x = largestOf (sumsOf (linking .taps) (latest silent (x ∷ channelOf c fs)))
+  -- what the detector answers and leaves that holds the newest samples of a channel, x the newest of them
+  abbrev push : ℕ → Float → Pushed
+  push c x = detected (linking .taps) (latest silent (x ∷ channelOf c fs))
 
-  peak-more : (c k : ℕ) (peak x : Float) → getD ys c Number.zero ≡ x → peakFrom linking c (suc k) peak joined ≡ peakFrom linking (c + 1) k (heard (linking .counts c) peak x (answer c x)) joined
-  unfolding peakFrom between
-  peak-more c k peak x e = ap (λ (y : Float). peakFrom linking (c + 1) k (heard (linking .counts c) peak y (answer c y)) joined) e
+  -- by the book, where x is the channel's sample
+  peak-more : (c k : ℕ) (peak x : Float) → getD ys c Number.zero ≡ x → peakFrom linking c (suc k) peak joined ≡ peakFrom linking (c + 1) k (heard (linking .counts c) peak x (push c x .peak)) joined
+  unfolding peakFrom between detected
+  peak-more c k peak x e = ap (λ (y : Float). peakFrom linking (c + 1) k (heard (linking .counts c) peak y (push c y .peak)) joined) e
 
-  stores-more : (c k : ℕ) (x : Float) → getD ys c Number.zero ≡ x → storesFrom c (suc k) joined ≡ latest silent (x ∷ channelOf c fs) ++ storesFrom (c + 1) k joined
-  unfolding storesFrom
-  stores-more c k x e = ap (λ (y : Float). latest silent (y ∷ channelOf c fs) ++ storesFrom (c + 1) k joined) e
+  stores-more : (c k : ℕ) (x : Float) → getD ys c Number.zero ≡ x → storesFrom c (suc k) joined ≡ push c x .store ++ storesFrom (c + 1) k joined
+  unfolding storesFrom detected
+  stores-more c k x e = ap (λ (y : Float). push c y .store ++ storesFrom (c + 1) k joined) e
+
+  voices-more : (c k : ℕ) (x : Float) → getD ys c Number.zero ≡ x → voicesOf linking c (suc k) joined ≡ voiceOf (linking .counts c) x (push c x) ∷ voicesOf linking (c + 1) k joined
+  unfolding voicesOf between detected
+  voices-more c k x e = ap (λ (y : Float). voiceOf (linking .counts c) y (push c y) ∷ voicesOf linking (c + 1) k joined) e
+
+  -- by the limiter: the channel's store stands first
+  push-first : (c : ℕ) (x : Float) (rest : List Float)
+      → (let detector = latest silent (channelOf c fs) ++ rest in
+      (peakAbsOf (linking .taps) (take remembered detector) x ≡ push c x) × (drop remembered detector ≡ rest))
+  push-first c x rest =
+      let old = latest silent (channelOf c fs) in
+      let n = latest-length silent (channelOf c fs) refl in
+      (rw (take-at old rest remembered n) (push-latest silent (linking .taps) (channelOf c fs) x refl), drop-at old rest remembered n)
 
   -- a channel's turn, with what the later channels leave
   abbrev pushedBefore : ℕ → Float → Linked → Linked
-  pushedBefore c x later = record { peak = later .peak; detector = latest silent (x ∷ channelOf c fs) ++ later .detector }
+  pushedBefore c x later = record { peak = later .peak; detector = push c x .store ++ later .detector }
 
   turn : (c : ℕ) (peak x : Float) (xs : List Float) → linkedFrom linking c peak (storesFrom c (suc (length xs)) fs) (x ∷ xs)
-      ≡ pushedBefore c x (linkedFrom linking (c + 1) (heard (linking .counts c) peak x (answer c x)) (storesFrom (c + 1) (length xs) fs) xs)
-  unfolding linkedFrom storesFrom detected
-  turn c peak x xs =
-      let old = latest silent (channelOf c fs) in
-      let rest = storesFrom (c + 1) (length xs) fs in
-      let n = latest-length silent (channelOf c fs) refl in
-      rw (take-at old rest remembered n, drop-at old rest remembered n, push-latest silent (linking .taps) (channelOf c fs) x refl) refl
+      ≡ pushedBefore c x (linkedFrom linking (c + 1) (heard (linking .counts c) peak x (push c x .peak)) (storesFrom (c + 1) (length xs) fs) xs)
+  unfolding linkedFrom storesFrom
+  turn c peak x xs = let first = push-first c x (storesFrom (c + 1) (length xs) fs) in rw (first .0, first .1) refl
 
   linked-from : (c : ℕ) (peak : Float) (xs : List Float) → drop c ys ≡ xs
       → linkedFrom linking c peak (storesFrom c (length xs) fs) xs ≡ record { peak = peakFrom linking c (length xs) peak joined; detector = storesFrom c (length xs) joined }
@@ -80,9 +91,24 @@ module _ (linking : Linking) (fs : List Joined) (ys : List Float) (target : Floa
   linked-from c peak (x ∷ xs) at =
       let here = sample-here c ys x xs at in
       rw (peak-more c (length xs) peak x here, stores-more c (length xs) x here)
-      (turn c peak x xs ∙ ap (pushedBefore c x) (linked-from (c + 1) (heard (linking .counts c) peak x (answer c x)) xs (samples-later c ys x xs at)))
+      (turn c peak x xs ∙ ap (pushedBefore c x) (linked-from (c + 1) (heard (linking .counts c) peak x (push c x .peak)) xs (samples-later c ys x xs at)))
 
+  -- and what it brings
+  voice-turn : (c : ℕ) (x : Float) (xs : List Float)
+      → voicesFrom linking c (storesFrom c (suc (length xs)) fs) (x ∷ xs) ≡ voiceOf (linking .counts c) x (push c x) ∷ voicesFrom linking (c + 1) (storesFrom (c + 1) (length xs) fs) xs
+  unfolding voicesFrom storesFrom
+  voice-turn c x xs = let first = push-first c x (storesFrom (c + 1) (length xs) fs) in rw (first .0, first .1) refl
+
+  voices-from : (c : ℕ) (xs : List Float) → drop c ys ≡ xs → voicesFrom linking c (storesFrom c (length xs) fs) xs ≡ voicesOf linking c (length xs) joined
+  voices-from c [] at = unfold voicesFrom voicesOf in refl
+  voices-from c (x ∷ xs) at =
+      rw (voices-more c (length xs) x (sample-here c ys x xs at))
+      (voice-turn c x xs ∙ ap (λ (vs : List Voice). voiceOf (linking .counts c) x (push c x) ∷ vs) (voices-from (c + 1) xs (samples-later c ys x xs at)))
+
+-- the frame's linked peak and where it sat, and the stores after it
 pub detector-step : (linking : Linking) (channels : ℕ) (detector : List Float) (fs : List Joined) (xs : List Float) (target : Float) → length xs ≡ channels → DetectorTied channels detector fs
-    → (linkedFrom linking 0 Number.zero detector xs .peak ≡ peakFrom linking 0 channels Number.zero (record { samples = xs; target = target } ∷ fs))
+    → (peakAmong (linkedFrom linking 0 Number.zero detector xs .peak) (voicesFrom linking 0 detector xs) ≡ peakAtOf linking channels (record { samples = xs; target = target } ∷ fs))
     × DetectorTied channels (linkedFrom linking 0 Number.zero detector xs .detector) (record { samples = xs; target = target } ∷ fs)
-detector-step linking channels detector fs xs target n t = rw (t .stores, sym n) (rw (linked-from linking fs xs target 0 Number.zero xs refl) (refl, record { stores = refl }))
+unfolding peakAtOf
+detector-step linking channels detector fs xs target n t =
+    rw (t .stores, sym n) (rw (linked-from linking fs xs target 0 Number.zero xs refl, voices-from linking fs xs target 0 xs refl) (refl, record { stores = refl }))

@@ -1,5 +1,5 @@
 -- The limiter tied to the book: what moves with the frames is what the book's frames make of it. A frame keeps the tie, and demand 3 holds of what it shows.
-use mathlib.Core.Path.{_≡_, refl, sym, subst, _∙_}
+use mathlib.Core.Path.{_≡_, refl, sym, ap, subst, _∙_}
 use mathlib.Core.List.{List, [], _∷_, map}
 use Prim.Native.Nat.{ℕ, _+_, _≤_, _<_}
 use native.Mathlib.Omega.{arith}
@@ -11,11 +11,12 @@ use Rattle.keeper.specs.InOrder.{mostFrames}
 use Rattle.envelope.specs.Mean.{meanOf}
 use Rattle.envelope.specs.Step.{gainStepOf}
 use Rattle.frame.specs.Rules.{Linking, Rules}
+use Rattle.frame.specs.Seat.{PeakAt}
 use Rattle.frame.specs.Frame.{linkedFrom, requiredGain, Moving, Framed, frameOf}
 use Rattle.frame.specs.Run.{Frames, framesOf}
 use Rattle.frame.proofs.Keeps.{frame-gain}
 use Rattle.envelope.proofs.Gain.{next-inside}
-use Rattle.claims.specs.Book.{Joined, requiredOf, floorsOf, attackRow, notOne, gainAfter}
+use Rattle.claims.specs.Book.{Joined, peakAtOf, requiredOf, floorsOf, attackRow, notOne, gainAfter}
 use Rattle.claims.specs.BookCalls.{joinAll}
 use Rattle.claims.specs.Claim.{FrameHolds, FramesHold, droppedIn}
 use Rattle.claims.proofs.Peaks.{DetectorTied, detector-step}
@@ -53,8 +54,8 @@ module _ (rules : Rules) (look channels : ℕ) (weights : List Float) (coeff tar
 
     -- the book's required gain is the one that the limiter asks for
     required-is : unitGain asked ∷ requiredOf (rules .linking) channels fs ≡ requiredOf (rules .linking) channels (joinedAt target xs ∷ fs)
-    unfolding requiredOf
-    required-is = rw (detector-step (rules .linking) channels (mv .detector) fs xs target known (t .detector) .0) refl
+    unfolding requiredOf peakAtOf
+    required-is = rw (ap (λ (p : PeakAt). p .peak) (detector-step (rules .linking) channels (mv .detector) fs xs target known (t .detector) .0)) refl
 
     frame-env : length fs < mostFrames → StepTied look weights coeff (mv .env) asked (requiredOf (rules .linking) channels fs)
     frame-env room = env-step look weights coeff (mv .env) asked (requiredOf (rules .linking) channels fs) (t .env) (rw (required-length (rules .linking) channels fs) room)
@@ -84,6 +85,7 @@ module _ (rules : Rules) (look channels : ℕ) (weights : List Float) (coeff tar
         let gains = requiredOf (rules .linking) channels (j ∷ fs) in
         let mean : g .mean ≡ meanOf weights (attackRow look gains) = subst (λ (gs : List Float). g .mean ≡ meanOf weights (attackRow look gs)) required-is (s .mean) in
         record {
+          at = detector-step (rules .linking) channels (mv .detector) fs xs target known (t .detector) .0;
           floor = subst (λ (gs : List Float). g .floor ≡ getD (floorsOf look gs) 0 nan) required-is (s .floor ∙ sym (floors-first look (unitGain asked) (requiredOf (rules .linking) channels fs)));
           kept = env-kept look weights coeff (g .env) gains (frame-tied room .env);
           dropped = frame-counted drops room c;

@@ -1,9 +1,10 @@
 -- The book: samples, threshold, kept target and drained count of its own, and what follows from them. It has no ring, no marks or minima, no tally, no position of a row or a delay line;
 -- how many entries a ring keeps it finds by plain scan (`keptIn`).
 --
--- What it shares with the limiter are the rules of what was set up and of the call's sample type (`rulesOf`: taps, which channels count, output rule), formulas of document 01 on plain arguments, and the table:
+-- What it shares with the limiter are the rules of what was set up and of the call's sample type (`rulesOf`: taps, which channels count, output rule), formulas of document 01 and of its changes on plain arguments, and the table:
 --   setup: lookOf, rowOf, coefficientOf, targetOf, thresholdParam
 --   a frame's peak and required gain: sumsOf and largestOf (the detector), heard, requiredGain, unitGain, finiteOrZero
+--   where a peak sat, Change 5: phaseOf (the detector), seatOf (among the channels), placeOf (among a block's frames), and placeReply, which tells it
 --   mean and gain: meanOf (over the book's row and the lent weights; it looks at the row's floors, at no tally), followed
 --   the threshold: smootherOf, targetSet, immediateSet, stepped, resetOne
 --   the table's refusals: eventsReply, reaches, the limits
@@ -13,9 +14,9 @@ use mathlib.Core.List.{List, [], _∷_, _++_, map}
 use lib.ListN.{take, getD, replicate}
 use lib.Ieee.{Float, binary64, mul, eq, lt}
 use Rattle.arithmetic.specs.Number
-use Rattle.arithmetic.specs.Number.{one}
+use Rattle.arithmetic.specs.Number.{one, absOf}
 use Rattle.arithmetic.specs.Sanitize.{finiteOrZero, unitGain}
-use Rattle.detector.specs.Oversample.{sumsOf, largestOf}
+use Rattle.detector.specs.Oversample.{sumsOf, largestOf, phaseOf}
 use Rattle.detector.specs.History.{silent, latest}
 use Rattle.keeper.specs.Floor.{floorOf}
 use Rattle.envelope.specs.Mean.{meanOf}
@@ -24,6 +25,7 @@ use Rattle.settings.specs.Derived.{lookOf, rowOf, coefficientOf}
 use Rattle.settings.specs.declared.LimiterSettings.{LimiterSettings}
 use Rattle.settings.specs.declared.ProcessSpec.{ProcessSpec}
 use Rattle.frame.specs.Rules.{Linking, Rules}
+use Rattle.frame.specs.Seat.{Voice, PeakAt, peakAmong}
 use Rattle.frame.specs.Frame.{heard, requiredGain}
 use Rattle.bank.specs.declared.smoother.Smoother.{Smoother}
 
@@ -57,14 +59,34 @@ coeffIn b = coefficientOf (b .settings .«release_ms») (b .spec .rate)
 abbrev pub channelOf : ℕ → List Joined → List Float
 channelOf c fs = map (λ (f : Joined). getD (f .samples) c Number.zero) fs
 
--- the detector's answer: the newest twelve samples, 0 before the start
+-- the detector's sums, one a phase: of the newest twelve samples, 0 before the start
+abbrev pub sumsIn : Linking → ℕ → List Joined → List Float
+sumsIn linking c fs = sumsOf (linking .taps) (latest silent (channelOf c fs))
+
+-- the detector's answer
 unfoldable pub between : Linking → ℕ → List Joined → Float
-between linking c fs = largestOf (sumsOf (linking .taps) (latest silent (channelOf c fs)))
+between linking c fs = largestOf (sumsIn linking c fs)
 
 -- the highest peak over k channels from channel c on, on the samples and between them
 unfoldable pub peakFrom : Linking → ℕ → ℕ → Float → List Joined → Float
 peakFrom linking c zero peak fs = peak
 peakFrom linking c (suc k) peak fs = peakFrom linking (c + 1) k (heard (linking .counts c) peak (getD (channelOf c fs) 0 Number.zero) (between linking c fs)) fs
+
+-- ---- where the peak sat
+-- what k channels from channel c on bring: whether each counts, its sample's magnitude, sanitized, its detector's answer, and the phase of that
+unfoldable pub voicesOf : Linking → ℕ → ℕ → List Joined → List Voice
+voicesOf linking c zero fs = []
+voicesOf linking c (suc k) fs =
+    record { counts = linking .counts c; sample = absOf (finiteOrZero (getD (channelOf c fs) 0 Number.zero)); answer = between linking c fs; phase = phaseOf (sumsIn linking c fs) } ∷ voicesOf linking (c + 1) k fs
+
+-- the highest peak over so many channels, and where it sat
+unfoldable pub peakAtOf : Linking → ℕ → List Joined → PeakAt
+peakAtOf linking channels fs = peakAmong (peakFrom linking 0 channels Number.zero fs) (voicesOf linking 0 channels fs)
+
+-- those of frames that join a history one after the other: these are oldest first, as they join
+unfoldable pub peaksJoining : Linking → ℕ → List Joined → List Joined → List PeakAt
+peaksJoining linking channels history [] = []
+peaksJoining linking channels history (f ∷ fs) = peakAtOf linking channels (f ∷ history) ∷ peaksJoining linking channels (f ∷ history) fs
 
 -- ---- required gains, floors
 -- "the target divided by a frame's highest peak over all channels, kept within 0 and 1; in silence it is 1": of each frame

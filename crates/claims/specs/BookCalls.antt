@@ -13,14 +13,16 @@ use Rattle.keeper.specs.InOrder.{mostFrames}
 use Rattle.settings.specs.Target.{targetOf}
 use Rattle.settings.specs.declared.LimiterSettings.{LimiterSettings}
 use Rattle.settings.specs.declared.ProcessSpec.{ProcessSpec}
+use Rattle.frame.specs.Rules.{linkingOf}
+use Rattle.frame.specs.Place.{placeOf}
 use Rattle.bank.specs.Smoother.{smootherOf, targetSet, immediateSet, stepped, resetOne}
 use Rattle.bank.specs.declared.smoother.Smoother.{Smoother}
 use Rattle.turns.specs.Machine.{thresholdParam}
 use Rattle.turns.specs.Events.{Event, eventsReply}
-use Rattle.turns.specs.Block.{reaches}
+use Rattle.turns.specs.Block.{reaches, placeReply}
 use Rattle.turns.specs.Drain.{longestDrain}
 use Rattle.claims.specs.Session.{Call, block, drain, parameter, reset}
-use Rattle.claims.specs.Book.{Joined, Book, lookIn}
+use Rattle.claims.specs.Book.{Joined, Book, lookIn, peaksJoining}
 
 -- ---- opening
 -- afresh: the target is the default threshold's
@@ -134,12 +136,17 @@ blockJudged b position frames events size =
     andThen (must (leb frames (b .spec .«max_block») && eqb size (b .spec .channels * frames)) 20)
     (andThen (eventsReply frames 0 0 events) (must (reaches position frames && leb (length (b .frames) + frames) mostFrames) 22))
 
--- the frames, then the events that no frame of the block latched; a block of no frames leaves the drained count
+-- the frames, then the events that no frame of the block latched; a block of no frames leaves the drained count.
+-- Change 5: the reply names "the first frame, counted from 0 in the block, with the highest linked peak", and where that sat
 unfoldable pub blockEntered : Book → ℕ → ℕ → List Event → List Float → Entry
 blockEntered b position frames events audio =
     let j = joiningFrom b position frames events audio 0 frames (b .threshold) in
     let rest = latchWhere (λ (f : ℕ). leb frames f) position events (j .threshold) in
-    record { reply = finished []; joined = j .frames; book = grown b rest (cond (eqb frames 0) (b .drained) 0) (j .frames) }
+    record {
+      reply = placeReply (placeOf (peaksJoining (linkingOf (b .settings)) (b .spec .channels) (b .frames) (j .frames)));
+      joined = j .frames;
+      book = grown b rest (cond (eqb frames 0) (b .drained) 0) (j .frames);
+    }
 
 -- ---- a drain: 20, 22
 abbrev pub drainJudged : Book → ℕ → ℕ → Reply

@@ -30,7 +30,7 @@ use Rattle.bank.specs.Bank.{unset, valueOf}
 use Rattle.turns.specs.Machine.{Machine, machineOf, thresholdOf, prepared, readyRefusal, resetRefusal}
 use Rattle.turns.specs.Block.{Outcome, outputsOf, refusedAs}
 use Rattle.claims.specs.Session.{Call, block, drain, parameter, reset, bytesIn, Limiting, called}
-use Rattle.claims.specs.Book.{Joined, Book, lookIn, coeffIn, requiredOf, floorsOf, keptIn, attackRow, notOne, gainAfter, leavingFrom}
+use Rattle.claims.specs.Book.{Joined, Book, lookIn, coeffIn, peakAtOf, requiredOf, floorsOf, keptIn, attackRow, notOne, gainAfter, leavingFrom}
 use Rattle.claims.specs.BookCalls.{Entry, opened, openedNew, enter, valueIn}
 use Rattle.claims.specs.Table.{firstArising, setupTable}
 use Rattle.claims.specs.Refused.{AllGive18}
@@ -39,6 +39,8 @@ use Rattle.claims.specs.Refused.{AllGive18}
 -- f is what the limiter showed in a frame; fs are the book's frames, that one first; look, channels, weights and release coefficient are those of the setup; drops are those that the limiter showed
 -- since the start, before f
 pub record FrameHolds (rules : Rules) (look channels : ℕ) (weights : List Float) (coeff : Float) (drops : ℕ) (fs : List Joined) (f : Framed) : Type 0 where
+  -- its linked peak, and where that sat, Change 5: "If a sample there is that high, it says so with the lowest such channel; if not, it gives the lowest channel whose detector is that high, and its phase"
+  pub at : f .at ≡ peakAtOf (rules .linking) channels fs
   -- "the gain step uses the true floor, where only frames since the latest finished reset, or since setup, count"
   pub floor : f .floor ≡ getD (floorsOf look (requiredOf (rules .linking) channels fs)) 0 nan
   -- "From the ring's back drop each entry not below it; then from the front each entry whose frame is more than look back; append": as many are kept as a plain scan of the book's gains finds
@@ -115,7 +117,7 @@ movingLeft b m reset o = cond (eqb (o .reply .number) 0) (movingAfresh b (m .sto
 
 -- ---- one call: drops are those shown since the start before it, m are the state and stores before it, o is what the limiter makes of it, e what the book does
 pub record CallHolds (drops : ℕ) (b : Book) (m : Machine) (call : Call) (o : Outcome) (e : Entry) : Type 0 where
-  -- the answers are the book's
+  -- the answers are the book's; that to a finished block gives, Change 5, "the first frame, counted from 0 in the block, with the highest linked peak", and where that sat
   pub reply : o .reply ≡ e .reply
   -- 18, 16 and 19 never arise
   pub never : (o .reply .number ≡ 18 → ⊥) × ((o .reply .number ≡ 16 → ⊥) × (o .reply .number ≡ 19 → ⊥))

@@ -1,10 +1,10 @@
--- THE CONTROLS: twenty-one limiters of which the claim is false, and three gain steps of which `GainClaim` is false (proofs/Controls.antt). Each is `limiting`, or `gainStep`, but for the one place that its comment names.
+-- THE CONTROLS: twenty-two limiters of which the claim is false, and three gain steps of which `GainClaim` is false (proofs/Controls.antt). Each is `limiting`, or `gainStep`, but for the one place that its comment names.
 use Prim.Native.Nat.{ℕ, _+_, _-_, _*_, _/_, _^_}
 use mathlib.Core.Bool.{false, cond, _&&_}
 use mathlib.Core.List.{List, [], _∷_, _++_, map, reverse}
 use lib.Dec.{eqb}
 use lib.ListN.{length, take, drop, getD, set}
-use lib.Ieee.{Float, nan, binary64, toBits, le, add, sub, mul}
+use lib.Ieee.{Float, nan, binary64, toBits, le, eq, add, sub, mul}
 use Rattle.arithmetic.specs.Number
 use Rattle.arithmetic.specs.Number.{bits, one}
 use Rattle.arithmetic.specs.Sanitize.{finiteOrZero, flushDenormal, unitGain}
@@ -21,14 +21,16 @@ use Rattle.envelope.specs.Mean.{meanOf}
 use Rattle.envelope.specs.Follow.{followed}
 use Rattle.envelope.specs.Step.{Enveloped, enveloped, GainStepped, gainStepped}
 use Rattle.frame.specs.Rules.{Linking, Rules, linkingOf, rulesOf}
+use Rattle.frame.specs.Seat.{PeakAt, voicesFrom, peakAmong}
+use Rattle.frame.specs.Place.{Place, placeAt, noPlace, highestOf}
 use Rattle.frame.specs.Frame.{Linked, linkedFrom, requiredGain, givenOut, Delayed, delayedFrom, Moving, Framed}
-use Rattle.frame.specs.Run.{Frames, frameFirst}
+use Rattle.frame.specs.Run.{Frames, frameFirst, peaksOfFrames}
 use Rattle.limiter.specs.Stores.{storesAt}
 use Rattle.limiter.specs.Run.{movingOf, envelopeOf, movedOn, storesOf}
 use Rattle.limiter.specs.declared.state.Limiter.{Limiter}
 use Rattle.turns.specs.Machine.{Machine, machineOf}
 use Rattle.turns.specs.Events.{Event}
-use Rattle.turns.specs.Block.{Renderer, Outcome, rendered, renderedIn, blockReply, blockDone, blockBy, blockOf, refusedAs}
+use Rattle.turns.specs.Block.{Renderer, Outcome, rendered, renderedIn, blockReply, placeReply, blockDone, blockBy, blockOf, refusedAs}
 use Rattle.turns.specs.Drain.{drainBy, drainOf, withDrained}
 use Rattle.driver.specs.Calls.{Left, left, setupOf, parameterOf, resetOf, gainReply, gainOf, gainDone}
 use Rattle.claims.specs.Session.{Limiting}
@@ -128,6 +130,7 @@ frameBy steps rules weights coeff look target m xs =
     let g = gainStepBy steps weights coeff (m .env) (requiredGain target (l .peak)) in
     let d = steps .delays (rules .leaves) look (m .pos) (g .env .gain) (m .delay) xs in
     record {
+      at = peakAmong (l .peak) (voicesFrom (rules .linking) 0 (m .detector) xs);
       floor = g .floor;
       dropped = g .dropped;
       mean = g .mean;
@@ -343,7 +346,7 @@ ringShown k mv = record {
 }
 
 abbrev pub framed : ℕ → Moving → Framed → Framed
-framed dropped mv f = record { floor = f .floor; dropped = dropped; mean = f .mean; gain = f .gain; outputs = f .outputs; moving = mv }
+framed dropped mv f = record { at = f .at; floor = f .floor; dropped = dropped; mean = f .mean; gain = f .gain; outputs = f .outputs; moving = mv }
 
 abbrev pub shownAs : (Framed → Framed) → Outcome → Outcome
 shownAs shows o = record { reply = o .reply; machine = o .machine; bytes = o .bytes; frames = map shows (o .frames) }
@@ -394,3 +397,17 @@ abbrev pub cutNotRounded : Limiting
 cutNotRounded =
     limitingWith (λ format m position frames events bytes. blockBy (rendered (cutRules m format)) format m position frames events bytes)
     (λ format m frames bytes. drainBy (rendered (cutRules m format)) format m frames bytes) (λ m. resetOf m)
+
+-- ---- 25: a finished block names the last of equally high frames
+-- the last frame, counted from i, that has this peak, or else the one found before
+unfoldable pub lastWith : Float → ℕ → Place → List PeakAt → Place
+lastWith top i found [] = found
+lastWith top i found (p ∷ ps) = lastWith top (i + 1) (cond (eq (p .peak) top) (placeAt i (p .seat)) found) ps
+
+unfoldable pub lastPlaceOf : List PeakAt → Place
+lastPlaceOf ps = cond (eq (highestOf ps) Number.zero) noPlace (lastWith (highestOf ps) 0 noPlace ps)
+
+abbrev pub lastOfEquals : Limiting
+lastOfEquals = withBlocks (λ format m position frames events bytes.
+    let o = rightBlocks format m position frames events bytes in
+    replying o (cond (eqb (o .reply .number) 0) (placeReply (lastPlaceOf (peaksOfFrames (o .frames)))) (o .reply)))

@@ -1,5 +1,5 @@
 -- Four answers of a run side by side: sixteen sums, of which those of an answer are a tap ahead of the one before it.
-use mathlib.Core.Path.{_≡_, refl, ap, _∙_}
+use mathlib.Core.Path.{_≡_, refl, sym, ap, _∙_}
 use mathlib.Core.List.{List, [], _∷_, _++_, reverseAux, reverseAux-eq, reverseAux-append, append-assoc}
 use Prim.Native.Nat.{ℕ, zero, suc, _+_, _-_, _*_, _<_, _≤_}
 use native.Mathlib.Nat.{add-zero}
@@ -187,3 +187,25 @@ module _ (sums : List Float → List Float) (behind run : List Float) where
       let h2 : Agree l2 (at + 2) = rw i2 at (answer-more sums behind run l1 (at + 1) v1 (omega arith) (omega arith) h1 e1) in
       let h3 : Agree l3 (at + 3) = rw i3 at (answer-more sums behind run l2 (at + 2) v2 (omega arith) (omega arith) h2 e2) in
       rw i4 at (answer-more sums behind run l3 (at + 3) v3 p (omega arith) h3 e3)
+
+-- ---- one answer: the run from place i back, and what the store holds behind it
+module _ (table store run first : List Float) (i : ℕ) (h : i < length run) where
+  abbrev zeros : List Float
+  zeros = replicate factor Number.zero
+
+  pub one-across : (last : List Float) → i < remembered → first ≡ sumsOn table zeros (take (i + 1) (upTo run i)) → last ≡ sumsOn (drop (factor * (i + 1)) table) first (take (remembered - (i + 1)) store)
+      → last ≡ sumsBy table (samplesAt store run i)
+  unfolding sumsBy
+  one-across last k e f =
+      let xs = upTo run i in
+      let ys = take (remembered - (i + 1)) store in
+      let n = up-to-length run i h in
+      let all : first ≡ sumsOn table zeros xs = e ∙ ap (sumsOn table zeros) (take-all (i + 1) xs (omega (arith, n))) in
+      let joint : xs ++ ys ≡ samplesAt store run i = sym (ap (take remembered) (reverseAux-eq (take (i + 1) run) store) ∙ newest-twelve xs store (i + 1) n (omega arith)) in
+      f ∙ ap (λ (l : List Float). sumsOn (drop (factor * (i + 1)) table) l ys) all ∙ ap (λ (j : ℕ). sumsOn (drop (factor * j) table) (sumsOn table zeros xs) ys) (sym n) ∙ sums-append xs ys table zeros ∙ ap (sumsOn table zeros) joint
+
+  pub one-within : remembered ≤ i → first ≡ sumsOn table zeros (take remembered (upTo run i)) → first ≡ sumsBy table (samplesAt store run i)
+  unfolding sumsBy
+  one-within k e =
+      let n = up-to-length run i h in
+      e ∙ ap (sumsOn table zeros) (sym (ap (take remembered) (reverseAux-eq (take (i + 1) run) store) ∙ take-append-le remembered (upTo run i) store (omega (arith, n))))

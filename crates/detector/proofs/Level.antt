@@ -6,7 +6,7 @@ use Prim.Native.Nat.{ℕ, zero, suc, _+_, _*_, _/_, _^_, _≤_, _<_}
 use native.Mathlib.Nat.{add-mul, mul-assoc, mul-comm, mul-left-comm, mul-le-mul-right, le-refl, le-trans, lt-div-mul-add, le-div-iff-mul-le, div-lt-iff-lt-mul, div-mul-le-self}
 use native.Mathlib.Omega.{arith}
 use lib.Dec.{T, leb, eqb, lit<, lit≤}
-use lib.IntN.{ℤ, negsuc}
+use lib.IntN.{ℤ, pos, negsuc}
 use lib.ListN.{length, take}
 use lib.Ieee.{Float, nan, inf, fin, binary64, up, down, add, mul, neg, lt, le, ofBits}
 use lib.Ieee.Fits.{down-pos}
@@ -24,7 +24,7 @@ use Rattle.arithmetic.proofs.Magnitude.{within-bound, bound→le}
 use Rattle.detector.specs.Taps.{phase0, phase1, phase2, phase3, taps}
 use Rattle.detector.specs.Oversample.{remembered, shifted, sumFrom, sumOf, sumsOf, larger, largestFrom, largestOf, detected}
 use Rattle.detector.specs.Run.{pushesOf}
-use Rattle.detector.specs.Level.{share, leastCeiling, levelOf, allWithin, liesWithin, allBelow, magnitudes, StaysBelow}
+use Rattle.detector.specs.Level.{share, leastCeiling, levelOf, heightOf, allWithin, liesWithin, allBelow, magnitudes, StaysBelow}
 use Rattle.detector.proofs.Store.{shifted-length, push-shifts}
 
 -- ---- the taps
@@ -125,6 +125,56 @@ below a b x k e c h p q =
     let v = simp (mul-assoc, mul-comm, mul-left-comm) at (mul-le-mul-right b p) in
     rw q (simp (mul-comm, mul-left-comm) (omega arith))
 
+-- ---- samples within −m and m, m being at most l parts: they and their answers are at most a height
+module _ (m : Float) (s : signOf m ≡ false) (l : ℕ) (p : Bound l (2 ^ 42) m) (n : ℕ) (d : ℤ) (room : 1841 * l < 2 ^ 53) (high : l * down d ≤ n * up d * 2 ^ 42) (higher : 1841 * l * down d ≤ n * up d * 2 ^ 52) where
+  -- a sample
+  sample-below : (x : Float) → within (neg m) m x ≡ true → le (absOf x) (fin false n d) ≡ true
+  sample-below x h = bound→le x n d (lit< tt) (within-bound m x s p h) high
+
+  kept : (x : Float) → within (neg m) m x ≡ true → finiteOrZero x ≡ x
+  kept x h = sanitized-same x (within-bound m x s p h .known)
+
+  above-zero : le Number.zero (fin false n d) ≡ true
+  above-zero = numbers→le Number.zero (fin false n d) tt tt (omega arith)
+
+  -- a phase's sum
+  sum-below : (phase ds : List Float) → allFinite phase ≡ true → grainsOf phase ≤ 1841 → allWithin m ds ≡ true → le (absOf (sumOf phase ds)) (fin false n d) ≡ true
+  unfolding sumOf
+  sum-below phase ds f g h =
+      let q : grainsOf phase * l ≤ 1841 * l = mul-le-mul-right l g in
+      bound→le (sumFrom Number.zero phase ds) n d (lit< tt)
+      (wider (sumFrom Number.zero phase ds) (omega arith) (sum-bounded m s l p Number.zero 0 phase ds f h (omega arith) (record { known = tt; most = omega arith }))) higher
+
+  -- an answer, and a run's
+  answer-below : (phases : List (List Float)) → small phases ≡ true → (ds : List Float) → allWithin m ds ≡ true → (q : Float) → le q (fin false n d) ≡ true
+      → le (largestFrom q (sumsOf phases ds)) (fin false n d) ≡ true
+  unfolding largestFrom sumsOf
+  answer-below [] g ds h q k = k
+  answer-below (phase ∷ phases) g ds h q k =
+      let g0 = and-true (allFinite phase && leb (grainsOf phase) 1841) (small phases) g in
+      let g1 = and-true (allFinite phase) (leb (grainsOf phase) 1841) (g0 .0) in
+      answer-below phases (g0 .1) ds h (larger q (sumOf phase ds))
+      (picked q (sumOf phase ds) (fin false n d) k (sum-below phase ds (g1 .0) (leb-true (grainsOf phase) 1841 (g1 .1)) h))
+
+  answers-below : (store run : List Float) → length store ≡ remembered → allWithin m store ≡ true → allWithin m run ≡ true → allBelow (fin false n d) (pushesOf taps store run .peaks) ≡ true
+  unfolding allWithin allBelow pushesOf detected shifted largestOf
+  answers-below store [] e q h = refl
+  answers-below store (x ∷ xs) e q h =
+      let k = and-true (within (neg m) m x) (allWithin m xs) h in
+      let w : allWithin m (shifted store x) ≡ true = take-within m remembered (finiteOrZero x ∷ store) (rw (kept x (k .0), k .0) q) in
+      rw (push-shifts taps store x e, answer-below taps taps-small (shifted store x) w Number.zero above-zero) (answers-below (shifted store x) xs (shifted-length store x e) w (k .1))
+
+  magnitudes-below : (run : List Float) → allWithin m run ≡ true → allBelow (fin false n d) (magnitudes run) ≡ true
+  unfolding allWithin allBelow magnitudes
+  magnitudes-below [] h = refl
+  magnitudes-below (x ∷ xs) h =
+      let k = and-true (within (neg m) m x) (allWithin m xs) h in
+      rw (kept x (k .0), sample-below x (k .0)) (magnitudes-below xs (k .1))
+
+  below-both : (store samples : List Float) → length store ≡ remembered → allWithin m store ≡ true → allWithin m samples ≡ true → StaysBelow (fin false n d) store samples
+  below-both store samples e p q = record { twelve = e; heard = magnitudes-below samples q; answers = answers-below store samples e p q }
+
+-- ---- a ceiling from 2 to the −13 to 1
 module _ (n : ℕ) (d : ℤ) (lo : down d ≤ n * up d * 2 ^ 13) (hi : n * up d ≤ down d) where
   at-least : 2 ^ 19 ≤ parts n d
   at-least = le-div-iff-mul-le (down-pos d) .1 (omega arith)
@@ -147,57 +197,19 @@ module _ (n : ℕ) (d : ℤ) (lo : down d ≤ n * up d * 2 ^ 13) (hi : n * up d 
   unfolding ofBits
   level-sign = plus-product n d 2476979795053773 (negsuc 51)
 
-  -- a sample
-  sample-below : (x : Float) → within (neg (levelAt n d)) (levelAt n d) x ≡ true → le (absOf x) (fin false n d) ≡ true
-  sample-below x h =
-      bound→le x n d (lit< tt) (within-bound (levelAt n d) x level-sign level-bound h)
-      (below (levelParts n d) 1024 (n * up d) (parts n d) (down d) (2 ^ 42) (omega (arith, at-least)) (div-mul-le-self (n * up d * 2 ^ 32) (down d)) refl)
-
-  kept : (x : Float) → within (neg (levelAt n d)) (levelAt n d) x ≡ true → finiteOrZero x ≡ x
-  kept x h = sanitized-same x (within-bound (levelAt n d) x level-sign level-bound h .known)
-
-  above-zero : le Number.zero (fin false n d) ≡ true
-  above-zero = numbers→le Number.zero (fin false n d) tt tt (omega arith)
-
-  -- a phase's sum
-  sum-below : (phase ds : List Float) → allFinite phase ≡ true → grainsOf phase ≤ 1841 → allWithin (levelAt n d) ds ≡ true → le (absOf (sumOf phase ds)) (fin false n d) ≡ true
-  unfolding sumOf
-  sum-below phase ds f g h =
+  level-below : (store samples : List Float) → length store ≡ remembered → allWithin (levelAt n d) store ≡ true → allWithin (levelAt n d) samples ≡ true → StaysBelow (fin false n d) store samples
+  level-below store samples e p q =
       let l = levelParts n d in
-      let q : grainsOf phase * l ≤ 1841 * l = mul-le-mul-right l g in
-      bound→le (sumFrom Number.zero phase ds) n d (lit< tt)
-      (wider (sumFrom Number.zero phase ds) (omega arith) (sum-bounded (levelAt n d) level-sign l level-bound Number.zero 0 phase ds f h (omega (arith, at-most)) (record { known = tt; most = omega arith })))
-      (below (1841 * l) (2 ^ 20) (n * up d) (parts n d) (down d) (2 ^ 52) (omega (arith, at-least)) (div-mul-le-self (n * up d * 2 ^ 32) (down d)) refl)
+      let whole = div-mul-le-self (n * up d * 2 ^ 32) (down d) in
+      below-both (levelAt n d) level-sign l level-bound n d (omega (arith, at-most))
+      (below l 1024 (n * up d) (parts n d) (down d) (2 ^ 42) (omega (arith, at-least)) whole refl)
+      (below (1841 * l) (2 ^ 20) (n * up d) (parts n d) (down d) (2 ^ 52) (omega (arith, at-least)) whole refl) store samples e p q
 
-  -- an answer, and a run's
-  answer-below : (phases : List (List Float)) → small phases ≡ true → (ds : List Float) → allWithin (levelAt n d) ds ≡ true → (p : Float) → le p (fin false n d) ≡ true
-      → le (largestFrom p (sumsOf phases ds)) (fin false n d) ≡ true
-  unfolding largestFrom sumsOf
-  answer-below [] g ds h p q = q
-  answer-below (phase ∷ phases) g ds h p q =
-      let g0 = and-true (allFinite phase && leb (grainsOf phase) 1841) (small phases) g in
-      let g1 = and-true (allFinite phase) (leb (grainsOf phase) 1841) (g0 .0) in
-      answer-below phases (g0 .1) ds h (larger p (sumOf phase ds))
-      (picked p (sumOf phase ds) (fin false n d) q (sum-below phase ds (g1 .0) (leb-true (grainsOf phase) 1841 (g1 .1)) h))
+-- ---- silence
+silence-below : (store samples : List Float) → length store ≡ remembered → allWithin Number.zero store ≡ true → allWithin Number.zero samples ≡ true → StaysBelow Number.zero store samples
+silence-below store samples e p q = below-both Number.zero refl 0 (record { known = tt; most = lit≤ tt }) 0 (pos 0) (lit< tt) (lit≤ tt) (lit≤ tt) store samples e p q
 
-  answers-below : (store run : List Float) → length store ≡ remembered → allWithin (levelAt n d) store ≡ true → allWithin (levelAt n d) run ≡ true
-      → allBelow (fin false n d) (pushesOf taps store run .peaks) ≡ true
-  unfolding allWithin allBelow pushesOf detected shifted largestOf
-  answers-below store [] e q h = refl
-  answers-below store (x ∷ xs) e q h =
-      let m = levelAt n d in
-      let k = and-true (within (neg m) m x) (allWithin m xs) h in
-      let w : allWithin m (shifted store x) ≡ true = take-within m remembered (finiteOrZero x ∷ store) (rw (kept x (k .0), k .0) q) in
-      rw (push-shifts taps store x e, answer-below taps taps-small (shifted store x) w Number.zero above-zero) (answers-below (shifted store x) xs (shifted-length store x e) w (k .1))
-
-  magnitudes-below : (run : List Float) → allWithin (levelAt n d) run ≡ true → allBelow (fin false n d) (magnitudes run) ≡ true
-  unfolding allWithin allBelow magnitudes
-  magnitudes-below [] h = refl
-  magnitudes-below (x ∷ xs) h =
-      let k = and-true (within (neg (levelAt n d)) (levelAt n d) x) (allWithin (levelAt n d) xs) h in
-      rw (kept x (k .0), sample-below x (k .0)) (magnitudes-below xs (k .1))
-
--- ---- samples within the level of a ceiling stay below the ceiling
+-- ---- samples within the level of a ceiling stay at most its height
 low-numbers : (n : ℕ) (d : ℤ) → le leastCeiling (fin false n d) ≡ true → down d ≤ n * up d * 2 ^ 13
 unfolding ofBits
 low-numbers n d h = omega (arith, le→numbers (fin false 1 (negsuc 12)) (fin false n d) tt tt h)
@@ -222,23 +234,29 @@ levelled ceiling store samples h e p q = go ceiling (within→finite leastCeilin
     go (fin false n d) f k p q =
         let lo = low-numbers n d (k .0) in
         let hi : n * up d ≤ down d = omega (arith, le→numbers (fin false n d) Number.one tt tt (k .1)) in
-        record { twelve = e; heard = magnitudes-below n d lo hi samples q; answers = answers-below n d lo hi store samples e p q }
+        level-below n d lo hi store samples e p q
 
-pub stays : (ceiling : Float) (store samples : List Float) → liesWithin store samples (levelOf ceiling) ≡ true → StaysBelow ceiling store samples
-unfolding liesWithin levelOf lt
-stays ceiling store samples h = go (within leastCeiling Number.one ceiling) refl
+pub stays : (ceiling : Float) (store samples : List Float) → liesWithin store samples (levelOf ceiling) ≡ true → StaysBelow (heightOf ceiling) store samples
+unfolding liesWithin levelOf heightOf
+stays ceiling store samples h = go (within leastCeiling Number.one ceiling) refl h
   where
-    go : (b : Bool) → within leastCeiling Number.one ceiling ≡ b → StaysBelow ceiling store samples
-    go true e =
-        let m = mul binary64 ceiling share in
-        let h0 = and-true (eqb (length store) remembered) ((lt Number.zero m && allWithin m store) && allWithin m samples) (rw e at h) in
-        let h1 = and-true (lt Number.zero m && allWithin m store) (allWithin m samples) (h0 .1) in
-        levelled ceiling store samples e (eqb-true (length store) remembered (h0 .0)) (and-true (lt Number.zero m) (allWithin m store) (h1 .0) .1) (h1 .1)
-    go false e = let k = and-true (eqb (length store) remembered) false (rw e at h) in clash false (k .1) refl
+    go : (b : Bool) → within leastCeiling Number.one ceiling ≡ b
+        → (let m = cond b (mul binary64 ceiling share) Number.zero in eqb (length store) remembered && (allWithin m store && allWithin m samples) ≡ true)
+        → StaysBelow (cond b ceiling Number.zero) store samples
+    go b e h =
+        let m = cond b (mul binary64 ceiling share) Number.zero in
+        let h0 = and-true (eqb (length store) remembered) (allWithin m store && allWithin m samples) h in
+        let h1 = and-true (allWithin m store) (allWithin m samples) (h0 .1) in
+        at-level b e (eqb-true (length store) remembered (h0 .0)) (h1 .0) (h1 .1)
+      where
+        at-level : (b : Bool) → within leastCeiling Number.one ceiling ≡ b → length store ≡ remembered → allWithin (cond b (mul binary64 ceiling share) Number.zero) store ≡ true
+            → allWithin (cond b (mul binary64 ceiling share) Number.zero) samples ≡ true → StaysBelow (cond b ceiling Number.zero) store samples
+        at-level true e n p q = levelled ceiling store samples e n p q
+        at-level false e n p q = silence-below store samples n p q
 
 -- ---- `lies_within`
 pub lies-in : (store samples : List Float) (level : Float) (a b : Bool) → length store ≡ remembered → a ≡ allWithin level store → b ≡ allWithin level samples
-    → (lt Number.zero level && a) && b ≡ liesWithin store samples level
+    → a && b ≡ liesWithin store samples level
 unfolding liesWithin
 lies-in store samples level a b n e f = rw (eq-eqb (length store) remembered n, e, f) refl
 

@@ -11,11 +11,11 @@ use lib.Ieee.{Float, nan}
 use borrow.Author.Tests.{eq-eqb, ne-eqb, le-leb, lt-leb}
 use Rattle.arithmetic.specs.Sanitize.{finiteOrZero}
 use Rattle.arithmetic.proofs.InTurn.{reversed-at}
-use Rattle.detector.specs.Oversample.{remembered, sumsOf, largestOf, pushedAt, detected, peakAbsOf}
+use Rattle.detector.specs.Oversample.{remembered, shifted, sumsOf, largestOf, Pushed, detected, peakAbsOf}
 use Rattle.detector.specs.Run.{runLength, pushesAt, pushFirst, pushesOf, peaksAbsOf}
 use Rattle.detector.specs.History.{latest}
-use Rattle.detector.specs.Sums.{factor, added, sumsOn, upTo, answersOf}
-use Rattle.detector.proofs.Store.{push-shifts, latest-more}
+use Rattle.detector.specs.Sums.{factor, added, sumsOn, upTo, samplesAt, answersOf}
+use Rattle.detector.proofs.Store.{push-shifts, stores-length, latest-more}
 use Rattle.detector.proofs.Copy.{copied-more}
 use Rattle.detector.proofs.Turns.{joined, front-more}
 use Rattle.detector.proofs.Sums.{sums-more}
@@ -77,6 +77,16 @@ module _ (sums : List Float → List Float) where
   answers-at behind (x ∷ xs) zero d h = refl
   answers-at behind (x ∷ xs) (suc i) d h = answers-at (x ∷ behind) xs i d (omega arith)
 
+  answers-first : (behind run : List Float) (m : ℕ) → answersOf sums behind (take m run) ≡ take m (answersOf sums behind run)
+  unfolding answersOf
+  answers-first behind run zero = refl
+  answers-first behind [] (suc m) = refl
+  answers-first behind (x ∷ xs) (suc m) = ap (λ (l : List Float). largestOf (sums (take remembered (x ∷ behind))) ∷ l) (answers-first (x ∷ behind) xs m)
+
+  -- what `answer_fours` leaves of the part of a run that it is lent
+  pub first-answers : (behind run l : List Float) (m : ℕ) → m ≤ length run → take (length (take (m - 0) run)) l ≡ answersOf sums behind (take (m - 0) run) → take m l ≡ take m (answersOf sums behind run)
+  first-answers behind run l m h e = (rw (sub-zero m, length-take-le m run h) at e) ∙ answers-first behind run m
+
   -- an answer a turn
   pub answer-more : (behind run l : List Float) (i : ℕ) (v : Float) → i < length run → i < length l → take i l ≡ take i (answersOf sums behind run)
       → v ≡ largestOf (sums (take remembered (reverseAux (take (i + 1) run) behind))) → take (i + 1) (set l i v) ≡ take (i + 1) (answersOf sums behind run)
@@ -127,14 +137,13 @@ module _ (phases : List (List Float)) where
         let k = length run in
         rw (f, e, pushes-line run store n, reverseAux-eq (map finiteOrZero run) store, newest-twelve newest store k newest-length h, take-all k newest (omega (arith, newest-length)), drop-at (take k store) (take (remembered - k) store) k (length-take-le k store (omega arith)))
 
-  -- what the calls of `push_fours` add up to
-  pub ran : (store run line answers left : List Float) → length store ≡ remembered → line ≡ map finiteOrZero run → answers ≡ answersOf (sumsOf phases) store line → left ≡ pushesOf phases store run .store
-      → pushesAt answers left ≡ pushesOf phases store run
-  ran store run line answers left n e f g = rw (g, f, e, pushes-line run store n)
+  -- what the calls of a run add up to
+  pub ran : (store run answers left : List Float) → answers ≡ pushesOf phases store run .peaks → left ≡ pushesOf phases store run .store → pushesAt answers left ≡ pushesOf phases store run
+  ran store run answers left f g = rw (f, g)
 
-  -- the same of the part of a run that `push_fours` is lent
-  pub first-part : (store run l left : List Float) (n : ℕ) → n ≤ length run → pushesAt (take (length (take (n - 0) run)) l) left ≡ pushesOf phases store (take (n - 0) run) → pushesAt (take n l) left ≡ pushesOf phases store (take n run)
-  first-part store run l left n h e = rw (sub-zero n, length-take-le n run h) at e
+  -- the answers, from the line of sanitized samples
+  pub answers-are : (store run line answers : List Float) → length store ≡ remembered → line ≡ map finiteOrZero run → answers ≡ answersOf (sumsOf phases) store line → answers ≡ pushesOf phases store run .peaks
+  answers-are store run line answers n e f = f ∙ rw (e, pushes-line run store n)
 
   -- one push after others
   push-last : (xs store : List Float) (x : Float)
@@ -144,14 +153,25 @@ module _ (phases : List (List Float)) where
   push-last [] store x = refl
   push-last (y ∷ ys) store x = ap (pushFirst (peakAbsOf phases store y)) (push-last ys (peakAbsOf phases store y .store) x)
 
-  -- a push a turn
-  pub push-more : (store run left l kept : List Float) (i : ℕ) (peak d : Float) → i < length run → i < length l → pushesAt (take i l) left ≡ pushesOf phases store (take i run)
-      → pushedAt peak kept ≡ peakAbsOf phases left (getD run i d) → pushesAt (take (i + 1) (set l i peak)) kept ≡ pushesOf phases store (take (i + 1) run)
-  push-more store run left l kept i peak d p q e f =
-      rw (add-one i, take-suc run i d p, push-last (take i run) store (getD run i d), take-suc-set l i peak q, ← e, ← f)
+  pub store-after : (store run : List Float) (i : ℕ) (d : Float) → i < length run → pushesOf phases store (take (i + 1) run) .store ≡ peakAbsOf phases (pushesOf phases store (take i run) .store) (getD run i d) .store
+  store-after store run i d h = rw (add-one i, take-suc run i d h, push-last (take i run) store (getD run i d))
 
-  pub pushed-all : (store run left l : List Float) (i : ℕ) → length run ≤ i → length l ≤ i → pushesAt (take i l) left ≡ pushesOf phases store (take i run) → pushesAt l left ≡ pushesOf phases store run
-  pushed-all store run left l i p q h = rw (take-all i l q, take-all i run p) at h
+  first-mapped : (n : ℕ) (l : List Float) → map finiteOrZero (take n l) ≡ take n (map finiteOrZero l)
+  first-mapped zero l = refl
+  first-mapped (suc n) [] = refl
+  first-mapped (suc n) (x ∷ xs) = ap (λ (l : List Float). finiteOrZero x ∷ l) (first-mapped n xs)
+
+  -- the answer at place i of the line is that of a push onto what the samples before it left
+  pub answer-there : (store run line : List Float) (i : ℕ) → length store ≡ remembered → i < length run → line ≡ map finiteOrZero run
+      → peakAbsOf phases (pushesOf phases store (take i run) .store) (getD run i nan) ≡ detected phases (samplesAt store line i)
+  unfolding detected
+  answer-there store run line i n h e =
+      let s = pushesOf phases store (take i run) .store in
+      let x = getD run i nan in
+      let p = push-shifts phases s x (stores-length phases store (take i run) ∙ n) in
+      let left : shifted s x ≡ samplesAt store line i =
+      ap (λ (o : Pushed). o .store) (sym p) ∙ sym (store-after store run i nan h) ∙ rw (pushes-line (take (i + 1) run) store n, e) (ap (λ (l : List Float). take remembered (reverseAux l store)) (first-mapped (i + 1) run)) in
+      p ∙ ap (detected phases) left
 
   module _ (store run old : List Float) where
     -- where a test fails, answers and store stay

@@ -12,6 +12,7 @@ use Rattle.arithmetic.specs.Number.{zero, absOf, signOf, withSign}
 use Rattle.arithmetic.proofs.Order.{clash, not-lt→le, le→not-lt, le-then-le}
 use Rattle.detector.specs.Oversample.{remembered, shifted, sumsOf, larger, largestFrom, largestOf, pushedAt, detected, peakAbsOf}
 use Rattle.detector.specs.Run.{pushesOf}
+use Rattle.detector.specs.declared.answer.Phase.the-variants.{Nowhere}
 
 -- ---- two tests
 
@@ -111,7 +112,7 @@ module _ (phases : List (List Float)) where
   unfolding peakAbsOf detected largestOf
   push-unsigned store x = go (eqb (length store) remembered)
     where
-      go : (b : Bool) → signOf (cond b (detected phases (shifted store x)) (pushedAt zero store) .peak) ≡ false
+      go : (b : Bool) → signOf (cond b (detected phases (shifted store x)) (pushedAt zero Nowhere store) .peak) ≡ false
       go true = largest-unsigned zero (sumsOf phases (shifted store x)) refl
       go false = refl
 

@@ -62,6 +62,11 @@ module _ (phases : List (List Float)) where
   unfolding peaksAbsOf
   run-pushes store run old p n m = rw (le-leb (length run) runLength p, eq-eqb (length store) remembered n, eq-eqb (length old) (length run) m)
 
+  pub stores-length : (store run : List Float) → length (pushesOf phases store run .store) ≡ length store
+  unfolding pushesOf
+  stores-length store [] = refl
+  stores-length store (x ∷ xs) = stores-length (peakAbsOf phases store x .store) xs ∙ push-length phases store x
+
   pub pushes-length : (store run : List Float) → length (pushesOf phases store run .peaks) ≡ length run
   unfolding pushesOf
   pushes-length store [] = refl

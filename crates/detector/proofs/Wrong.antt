@@ -3,12 +3,13 @@ use mathlib.Core.Path.{_≡_, refl}
 use mathlib.Core.Bool.{true, false}
 use mathlib.Core.List.{List, [], _∷_, map, reverse}
 use lib.ListN.{replicate}
-use lib.Ieee.{Float, nan, binary64, add, mul, neg, lt, le, eq, ofBits, toBits}
+use lib.Ieee.{Float, nan, inf, binary64, add, mul, neg, lt, le, eq, ofBits, toBits}
 use Rattle.arithmetic.specs.Number.{bits, zero, one}
 use Rattle.detector.specs.Taps.{taps, phase0, phase1, phase2, phase3}
-use Rattle.detector.specs.Oversample.{sumFrom, sumOf, sumsOf, larger, largestFrom, largestOf, shifted, detected, peakAbsOf}
+use Rattle.detector.specs.Oversample.{sumFrom, sumOf, sumsOf, larger, largestFrom, largestOf, firstAt, phaseOf, shifted, detected, peakAbsOf}
 use Rattle.detector.specs.Run.{pushesOf, peaksAbsOf}
 use Rattle.detector.specs.History.{silent}
+use Rattle.detector.specs.declared.answer.Phase.the-variants.{Nowhere, At}
 use Rattle.detector.specs.Level.{share, levelOf, allWithin, liesWithin}
 
 -- what an `unfolding` line names, so that a push computes
@@ -28,8 +29,15 @@ pub nan-sum-loses : (largestOf (nan ∷ one ∷ []) ≡ one) × (largestOf (one 
 unfolding largestOf largestFrom larger lt
 nan-sum-loses = (refl, refl)
 
+-- the last of equal phases, or any but the first infinite one; a NaN's; one of a peak of 0.0
+pub first-phase :
+    (phaseOf (share ∷ neg one ∷ one ∷ []) ≡ At 1) × (phaseOf (one ∷ inf true ∷ inf false ∷ []) ≡ At 1)
+    × (phaseOf (nan ∷ one ∷ []) ≡ At 1) × (phaseOf (nan ∷ zero ∷ []) ≡ Nowhere)
+unfolding phaseOf firstAt largestOf largestFrom larger lt eq neg ofBits
+first-phase = (refl, refl, refl, refl)
+
 -- a store of another length shifted: 11 samples stay as they are, and the answer is 0.0
-pub short-store-left : peakAbsOf taps (replicate 11 one) one ≡ record { peak = zero; store = replicate 11 one }
+pub short-store-left : peakAbsOf taps (replicate 11 one) one ≡ record { peak = zero; phase = Nowhere; store = replicate 11 one }
 unfolding peakAbsOf
 short-store-left = refl
 
@@ -59,6 +67,11 @@ level-below-ceiling = (refl, refl)
 pub not-quiet : (liesWithin (nan ∷ replicate 11 zero) [] share ≡ false) × (liesWithin silent (one ∷ []) share ≡ false) × (liesWithin silent (share ∷ []) share ≡ true)
 unfolding liesWithin allWithin le lt eq neg ofBits
 not-quiet = (refl, refl, refl)
+
+-- a sample passed over that is not silent, where the ceiling is 0 or has no level
+pub only-silence : (liesWithin silent (zero ∷ neg zero ∷ []) (levelOf zero) ≡ true) × (liesWithin silent (bits 1 ∷ []) (levelOf zero) ≡ false)
+unfolding liesWithin allWithin levelOf le lt eq neg ofBits
+only-silence = (refl, refl)
 
 -- the run's samples remembered oldest first, or the store left as it was
 pub newest-remembered : pushesOf taps silent (one ∷ share ∷ []) .store ≡ share ∷ one ∷ replicate 10 zero

@@ -4,7 +4,7 @@ use mathlib.Core.Bool.{Bool, true, cond, _&&_}
 use mathlib.Core.List.{List, [], _∷_}
 use lib.Dec.{eqb}
 use lib.ListN.{length}
-use lib.Ieee.{Float, binary64, mul, neg, lt, le}
+use lib.Ieee.{Float, binary64, mul, neg, le}
 use Rattle.arithmetic.specs.Number.{bits, zero, one, absOf, within}
 use Rattle.arithmetic.specs.Sanitize.{finiteOrZero}
 use Rattle.detector.specs.Taps.{taps}
@@ -19,18 +19,22 @@ share = bits 0x3fe1_9999_9999_999a
 abbrev pub leastCeiling : Float
 leastCeiling = bits 0x3f20_0000_0000_0000
 
--- the level for a ceiling from there to 1, and 0 for any other
+-- the level for a ceiling from there to 1, and 0 for any other, within which there is nothing but silence
 unfoldable pub levelOf : Float → Float
-levelOf ceiling = cond (le leastCeiling ceiling && le ceiling one) (mul binary64 ceiling share) zero
+levelOf ceiling = cond (within leastCeiling one ceiling) (mul binary64 ceiling share) zero
+
+-- what samples within that level stay at most: the ceiling, or 0
+unfoldable pub heightOf : Float → Float
+heightOf ceiling = cond (within leastCeiling one ceiling) ceiling zero
 
 -- whether each value lies within −m and m; no NaN does
 unfoldable pub allWithin : Float → List Float → Bool
 allWithin m [] = true
 allWithin m (x ∷ xs) = within (neg m) m x && allWithin m xs
 
--- twelve remembered samples and those of a run, all within −level and level, for a level above 0
+-- twelve remembered samples and those of a run, all within −level and level
 unfoldable pub liesWithin : List Float → List Float → Float → Bool
-liesWithin store samples level = eqb (length store) remembered && ((lt zero level && allWithin level store) && allWithin level samples)
+liesWithin store samples level = eqb (length store) remembered && (allWithin level store && allWithin level samples)
 
 -- whether each value is at most the ceiling
 unfoldable pub allBelow : Float → List Float → Bool

@@ -2,23 +2,21 @@
 // remembers is shifted and read where it lies, in its store.
 ghost use mathlib.Core.Path.{_≡_};
 ghost use mathlib.Core.List.{List, _++_, map, reverse};
-ghost use Prim.Native.Nat.{_-_, _%_, _≤_};
-ghost use lib.ListN.{length, take, drop};
-ghost use lib.Ieee.{Float};
+ghost use Prim.Native.Nat.{_-_, _≤_, _<_};
+ghost use lib.ListN.{length, getD, take, drop};
+ghost use lib.Ieee.{Float, nan};
 ghost use Rattle.arithmetic.specs.Sanitize.{finiteOrZero};
 ghost use Rattle.detector.specs.Taps.{taps};
 ghost use Rattle.detector.specs.Oversample.{remembered, sumsOf, pushedAt, peakAbsOf};
 ghost use Rattle.detector.specs.Run.{runLength, pushesAt, pushesOf, peaksAbsOf};
 ghost use Rattle.detector.specs.Sums.{answersOf};
-use crate::phases::answer_fours;
+use crate::answer::Peak;
+use crate::answer::Phase;
+use crate::phases::answer_all;
+use crate::phases::answer_one;
 use crate::phases::peak_of_push;
 use crate::taps::TAPS;
 use arithmetic::sanitize::finite_or_zero;
-
-// What a push answers.
-pub struct Peak {
-    pub peak: f64,
-}
 
 // The remembered samples moved down by n in the store itself, from the oldest end, so that none is written
 // over before it has moved. The first n places are left as they were.
@@ -35,19 +33,23 @@ fn shift_by(store: &mut [f64], n: usize)
 }
 
 // Push one input sample of a channel and answer the largest magnitude among the four interpolated
-// outputs. A store that is not twelve samples long is left alone, and the answer is 0.0.
+// outputs, and the first that has it. A store that is not twelve samples long is left alone, and the answer
+// is 0.0.
 pub fn peak_abs(store: &mut [f64], x: f64) -> Peak
-    ensures { λ r. ⌜ pushedAt (r .peak) (now (store .exit)) ≡ peakAbsOf taps (now (store .entry)) x ⌝ }
+    ensures { λ r. ⌜ pushedAt (r .peak) (r .phase) (now (store .exit)) ≡ peakAbsOf taps (now (store .entry)) x ⌝ }
 {
     if store.len() != 12 {
-        return Peak { peak: 0.0 };
+        return Peak {
+            peak: 0.0,
+            phase: Phase::Nowhere,
+        };
     }
     // The answer before the shift: sums over samples just stored would wait for the stores.
     let newest = finite_or_zero(x);
-    let peak = peak_of_push(&TAPS, newest, store);
+    let answer = peak_of_push(&TAPS, newest, store);
     shift_by(store, 1);
     store[0] = newest;
-    Peak { peak: peak }
+    answer
 }
 
 // A run's sanitized samples into a line, the oldest first.
@@ -74,50 +76,69 @@ fn lay_newest(store: &mut [f64], samples: &[f64], n: usize)
     }
 }
 
-// The answers of a run of a multiple of four samples that follows what a store remembers, into the first places.
-// The table is named outside the loop.
+// The answers of a run that follows what a store remembers. The table is named outside the loops.
 fn answer_run(store: &[f64], run: &[f64], answers: &mut [f64])
     requires { ⌜ length (now store) ≡ remembered ⌝ }
-    requires { ⌜ length (now run) % 4 ≡ 0 ⌝ }
-    requires { ⌜ length (now run) ≤ length (now answers) ⌝ }
-    ensures { λ _. ⌜ take (length (now (run .entry))) (now (answers .exit)) ≡ answersOf (sumsOf taps) (now (store .entry)) (now (run .entry)) ⌝ }
+    requires { ⌜ length (now answers) ≡ length (now run) ⌝ }
+    ensures { λ _. ⌜ now (answers .exit) ≡ answersOf (sumsOf taps) (now (store .entry)) (now (run .entry)) ⌝ }
 {
-    answer_fours(&TAPS, store, run, answers);
+    answer_all(&TAPS, store, run, answers);
 }
 
-// A run of a multiple of four samples pushed, with a line for its sanitized samples.
-fn push_fours(store: &mut [f64], samples: &[f64], answers: &mut [f64], line: &mut [f64])
+// The answers of a run, with a line for its sanitized samples.
+fn answer_line(store: &[f64], samples: &[f64], answers: &mut [f64], line: &mut [f64])
     requires { ⌜ length (now store) ≡ remembered ⌝ }
-    requires { ⌜ length (now samples) ≤ runLength ⌝ }
-    requires { ⌜ length (now samples) % 4 ≡ 0 ⌝ }
-    requires { ⌜ length (now samples) ≤ length (now answers) ⌝ }
+    requires { ⌜ length (now answers) ≡ length (now samples) ⌝ }
     requires { ⌜ length (now line) ≡ length (now samples) ⌝ }
-    ensures { λ _. ⌜ pushesAt (take (length (now (samples .entry))) (now (answers .exit))) (now (store .exit))
-        ≡ pushesOf taps (now (store .entry)) (now (samples .entry)) ⌝ }
+    ensures { λ _. ⌜ now (answers .exit) ≡ pushesOf taps (now (store .entry)) (now (samples .entry)) .peaks ⌝ }
 {
     lay_run(samples, line);
     answer_run(store, line, answers);
-    remember(store, samples);
 }
 
-// The samples of a run from place `from` on pushed one by one: the whole run is pushed if those before were.
-fn push_from(store: &mut [f64], samples: &[f64], answers: &mut [f64], from: usize)
+// What the pushes of a run of up to 32 samples would answer, peaks alone; the store is only read.
+pub fn answers_abs(store: &[f64], samples: &[f64], answers: &mut [f64])
     requires { ⌜ length (now store) ≡ remembered ⌝ }
+    requires { ⌜ length (now samples) ≤ runLength ⌝ }
     requires { ⌜ length (now answers) ≡ length (now samples) ⌝ }
-    requires { ⌜ from ≤ length (now samples) ⌝ }
-    ensures { λ _. ⌜ ((first : List Float) → pushesAt (take from (now (answers .entry))) (now (store .entry)) ≡ pushesOf taps first (take from (now (samples .entry)))
-        → pushesAt (now (answers .exit)) (now (store .exit)) ≡ pushesOf taps first (now (samples .entry))) ⌝ }
+    ensures { λ _. ⌜ now (answers .exit) ≡ pushesOf taps (now (store .entry)) (now (samples .entry)) .peaks ⌝ }
 {
     let n = samples.len();
-    for i in from..n {
-        let p = peak_abs(store, samples[i]);
-        answers[i] = p.peak;
-    }
+    let mut line = [0.0; 32];
+    answer_line(store, samples, answers, &mut line[0..n]);
 }
 
-// Push a run of up to 32 samples of a channel: `answers` gets what `peak_abs` would answer for each, and the
-// store is left as the single pushes would leave it; from four samples on, in less time. Where the run is
-// longer, the store is not twelve samples long or the answers are not as many as the samples, both are left alone.
+// The answer at place i of a run, with a line for its sanitized samples.
+fn answer_on(store: &[f64], samples: &[f64], line: &mut [f64], i: usize) -> Peak
+    requires { ⌜ length (now store) ≡ remembered ⌝ }
+    requires { ⌜ length (now line) ≡ length (now samples) ⌝ }
+    requires { ⌜ i < length (now samples) ⌝ }
+    ensures { λ r. ⌜ r .peak
+        ≡ peakAbsOf taps (pushesOf taps (now (store .entry)) (take i (now (samples .entry))) .store) (getD (now (samples .entry)) i nan) .peak ⌝ }
+    ensures { λ r. ⌜ r .phase
+        ≡ peakAbsOf taps (pushesOf taps (now (store .entry)) (take i (now (samples .entry))) .store) (getD (now (samples .entry)) i nan) .phase ⌝ }
+{
+    lay_run(samples, line);
+    answer_one(&TAPS, store, line, i)
+}
+
+// What the push of sample `at` of a run would answer, after those before it; the store is only read.
+pub fn answer_at(store: &[f64], samples: &[f64], at: usize) -> Peak
+    requires { ⌜ length (now store) ≡ remembered ⌝ }
+    requires { ⌜ length (now samples) ≤ runLength ⌝ }
+    requires { ⌜ at < length (now samples) ⌝ }
+    ensures { λ r. ⌜ r .peak
+        ≡ peakAbsOf taps (pushesOf taps (now (store .entry)) (take at (now (samples .entry))) .store) (getD (now (samples .entry)) at nan) .peak ⌝ }
+    ensures { λ r. ⌜ r .phase
+        ≡ peakAbsOf taps (pushesOf taps (now (store .entry)) (take at (now (samples .entry))) .store) (getD (now (samples .entry)) at nan) .phase ⌝ }
+{
+    let n = samples.len();
+    let mut line = [0.0; 32];
+    answer_on(store, samples, &mut line[0..n], at)
+}
+
+// Push a run of up to 32 samples of a channel: `answers` gets the peaks that `peak_abs` would answer, and the
+// store is left as the single pushes would leave it, in less time. Where the run is longer, the store is not twelve samples long or the answers are not as many as the samples, both are left alone.
 pub fn peaks_abs(store: &mut [f64], samples: &[f64], answers: &mut [f64])
     ensures { λ _. ⌜ pushesAt (now (answers .exit)) (now (store .exit))
         ≡ peaksAbsOf taps (now (store .entry)) (now (samples .entry)) (now (answers .entry)) ⌝ }
@@ -132,15 +153,8 @@ pub fn peaks_abs(store: &mut [f64], samples: &[f64], answers: &mut [f64])
     if answers.len() != n {
         return;
     }
-    // Fewer than four need no line.
-    if n < 4 {
-        push_from(store, samples, answers, 0);
-        return;
-    }
-    let m = n / 4 * 4;
-    let mut line = [0.0; 32];
-    push_fours(store, &samples[0..m], answers, &mut line[0..m]);
-    push_from(store, samples, answers, m);
+    answers_abs(store, samples, answers);
+    remember(store, samples);
 }
 
 // The store as the pushes of a run would leave it: of twelve samples or more, the newest twelve.

@@ -8,8 +8,12 @@ ghost use Prim.Native.Nat.{_+_, _-_, _*_, _%_, _≤_, _<_};
 ghost use lib.ListN.{length, take, drop, replicate};
 ghost use lib.Ieee.{Float, eq, lt};
 ghost use Rattle.arithmetic.specs.Number.{zero, absOf};
-ghost use Rattle.detector.specs.Oversample.{remembered, larger, largestOf};
+ghost use Rattle.detector.specs.Oversample.{remembered, larger, largestOf, firstAt, phaseOf};
+ghost use Rattle.detector.specs.declared.answer.Phase.the-variants.{Nowhere};
 ghost use Rattle.detector.specs.Sums.{factor, tapCount, added, sumsOn, sumsBy, upTo, samplesAt, newerOf, foursOf, answersOf};
+use crate::answer::Peak;
+use crate::answer::Phase;
+use arithmetic::number::abs;
 
 // A sample times its taps, added to the sums that these belong to: each product is rounded before it is added.
 fn add_products(sums: &mut [f64], taps: &[f64], d: f64)
@@ -85,16 +89,62 @@ fn largest_of(sums: &[f64]) -> f64
     larger_of(peak, sums[3])
 }
 
+// The first of the interpolated outputs whose magnitude is the peak.
+fn phase_of(sums: &[f64], peak: f64) -> Phase
+    ensures { λ r. ⌜ r ≡ cond (eq peak zero) Nowhere (firstAt peak 0 (now (sums .entry))) ⌝ }
+{
+    if peak == 0.0 {
+        return Phase::Nowhere;
+    }
+    let n = sums.len();
+    for p in 0..n {
+        if abs(sums[p]) == peak {
+            return Phase::At(p);
+        }
+    }
+    Phase::Nowhere
+}
+
+// What the sums of an answer tell.
+fn answer_of(sums: &[f64]) -> Peak
+    requires { ⌜ length (now sums) ≡ factor ⌝ }
+    ensures { λ r. ⌜ r .peak ≡ largestOf (now (sums .entry)) ⌝ }
+    ensures { λ r. ⌜ r .phase ≡ phaseOf (now (sums .entry)) ⌝ }
+{
+    let peak = largest_of(sums);
+    let phase = phase_of(sums, peak);
+    Peak { peak, phase }
+}
+
 // The answer for a sample and what a store remembers behind it.
-pub fn peak_of_push(table: &[f64], newest: f64, store: &[f64]) -> f64
+pub fn peak_of_push(table: &[f64], newest: f64, store: &[f64]) -> Peak
     requires { ⌜ length (now table) ≡ tapCount ⌝ }
     requires { ⌜ length (now store) ≡ remembered ⌝ }
-    ensures { λ r. ⌜ r ≡ largestOf (sumsBy (now (table .entry)) (take remembered (newest ∷ now (store .entry)))) ⌝ }
+    ensures { λ r. ⌜ r .peak ≡ largestOf (sumsBy (now (table .entry)) (take remembered (newest ∷ now (store .entry)))) ⌝ }
+    ensures { λ r. ⌜ r .phase ≡ phaseOf (sumsBy (now (table .entry)) (take remembered (newest ∷ now (store .entry)))) ⌝ }
 {
     let mut sums = [0.0; 4];
     add_products(&mut sums, &table[0..4], newest);
     add_store(&mut sums, table, store, 1, 12);
-    largest_of(&sums)
+    answer_of(&sums)
+}
+
+// The answer at place i of a run that follows what a store remembers.
+pub fn answer_one(table: &[f64], store: &[f64], run: &[f64], i: usize) -> Peak
+    requires { ⌜ length (now table) ≡ tapCount ⌝ }
+    requires { ⌜ length (now store) ≡ remembered ⌝ }
+    requires { ⌜ i < length (now run) ⌝ }
+    ensures { λ r. ⌜ r .peak ≡ largestOf (sumsBy (now (table .entry)) (samplesAt (now (store .entry)) (now (run .entry)) i)) ⌝ }
+    ensures { λ r. ⌜ r .phase ≡ phaseOf (sumsBy (now (table .entry)) (samplesAt (now (store .entry)) (now (run .entry)) i)) ⌝ }
+{
+    let mut sums = [0.0; 4];
+    if i < 12 {
+        add_run(&mut sums, table, run, i, i + 1);
+        add_store(&mut sums, table, store, i + 1, 12);
+        return answer_of(&sums);
+    }
+    add_run(&mut sums, table, run, i, 12);
+    answer_of(&sums)
 }
 
 // ---- Four answers side by side, that at `at` first: sixteen sums, those of an answer a tap ahead of the one
@@ -188,7 +238,7 @@ fn answer_four(table: &[f64], store: &[f64], run: &[f64], answers: &mut [f64], a
 }
 
 // The answers of a run of a multiple of four samples, into the first places.
-pub fn answer_fours(table: &[f64], store: &[f64], run: &[f64], answers: &mut [f64])
+fn answer_fours(table: &[f64], store: &[f64], run: &[f64], answers: &mut [f64])
     requires { ⌜ length (now table) ≡ tapCount ⌝ }
     requires { ⌜ length (now store) ≡ remembered ⌝ }
     requires { ⌜ length (now run) % 4 ≡ 0 ⌝ }
@@ -199,5 +249,21 @@ pub fn answer_fours(table: &[f64], store: &[f64], run: &[f64], answers: &mut [f6
     let n = run.len() / 4;
     for g in 0..n {
         answer_four(table, store, run, answers, 4 * g);
+    }
+}
+
+// The answers of a run: by fours, and the up to three left over one by one.
+pub fn answer_all(table: &[f64], store: &[f64], run: &[f64], answers: &mut [f64])
+    requires { ⌜ length (now table) ≡ tapCount ⌝ }
+    requires { ⌜ length (now store) ≡ remembered ⌝ }
+    requires { ⌜ length (now answers) ≡ length (now run) ⌝ }
+    ensures { λ _. ⌜ now (answers .exit) ≡ answersOf (sumsBy (now (table .entry))) (now (store .entry)) (now (run .entry)) ⌝ }
+{
+    let n = run.len();
+    let m = n / 4 * 4;
+    answer_fours(table, store, &run[0..m], answers);
+    for i in m..n {
+        let answer = answer_one(table, store, run, i);
+        answers[i] = answer.peak;
     }
 }

@@ -13,7 +13,7 @@ const SHARE: f64 = 0.55;
 const LEAST_CEILING: f64 = 0.0001220703125;
 
 // The level for a ceiling: where samples lie within it, neither they nor the detector's answers for them
-// are above the ceiling. 0.0 where the ceiling has none.
+// are above the ceiling. 0.0 where the ceiling has none: only silence lies within it.
 pub fn level_below(ceiling: f64) -> f64
     ensures { λ r. ⌜ r ≡ levelOf ceiling ⌝ }
 {
@@ -52,5 +52,5 @@ pub fn lies_within(store: &[f64], samples: &[f64], level: f64) -> bool
     if store.len() != 12 {
         return false;
     }
-    (0.0 < level) & all_within(level, store) & all_within(level, samples)
+    all_within(level, store) & all_within(level, samples)
 }

@@ -134,10 +134,10 @@ module _ (format : Format) (m : Machine) (position frames : ℕ) (events : List 
         far = leb-true (position + frames) farthest (o .0);
       }
 
-  pub block-finished : (m' : Machine) (bytes' : List ℕ) → not b ≡ false → (let o = blockDone (renderedIn format m) format m position frames events bytes in m' ≡ o .machine → bytes' ≡ o .bytes
-      → record { reply = finished []; machine = m'; bytes = bytes' } ≡ seen (blockOf format m position frames events bytes))
+  pub block-finished : (told : Reply) (m' : Machine) (bytes' : List ℕ) → not b ≡ false → (let o = blockDone (renderedIn format m) format m position frames events bytes in told ≡ o .reply → m' ≡ o .machine → bytes' ≡ o .bytes
+      → record { reply = told; machine = m'; bytes = bytes' } ≡ seen (blockOf format m position frames events bytes))
   unfolding blockBy
-  block-finished m' bytes' f M A = rw (reply-is, passed f, M, A) refl
+  block-finished told m' bytes' f T M A = rw (reply-is, passed f, T, M, A) refl
 
 -- ---- 20 and 22 of a drain
 module _ (m : Machine) (frames size : ℕ) where

@@ -7,11 +7,12 @@ use Rattle.limiter.specs.Prepare.{prepareReply}
 use Rattle.limiter.specs.Stores.{Stores}
 use Rattle.bank.specs.Answers.{refusalReply, paramSetReply}
 use Rattle.turns.specs.Machine.{Machine, machineOf}
-use Rattle.turns.specs.Block.{Outcome}
+use Rattle.turns.specs.Block.{Outcome, placed}
 use Rattle.driver.specs.Calls.{Left, left}
 use Rattle.driver.specs.declared.state.KernelProcessor.{KernelProcessor}
 use Rattle.driver.specs.declared.answers.SetUp.{SetUp}
 use Rattle.driver.specs.declared.answers.Called.{Called}
+use Rattle.driver.specs.declared.answers.Processed.{Processed}
 use Rattle.driver.specs.declared.answers.Flushed.{Flushed}
 use Rattle.driver.specs.declared.answers.ParamCalled.{ParamCalled}
 use Rattle.driver.specs.declared.answers.GainStepped.{GainStepped}
@@ -19,6 +20,7 @@ use Rattle.driver.specs.declared.answers.SetupAnswer.{SetupAnswer}
 use Rattle.driver.specs.declared.answers.Refusal.{Refusal}
 use Rattle.driver.specs.declared.answers.Refusal.the-variants.{NotSetUp, StoreLength, OutOfOrder, Geometry, Event, TooFar}
 use Rattle.driver.specs.declared.answers.Answer.{Answer}
+use Rattle.driver.specs.declared.answers.BlockAnswer.{BlockAnswer}
 use Rattle.driver.specs.declared.answers.FlushAnswer.{FlushAnswer}
 use Rattle.driver.specs.declared.answers.GainAnswer.{GainAnswer}
 
@@ -39,6 +41,11 @@ refusedBy TooFar = numbered 22
 abbrev pub answerReply : Answer → Reply
 answerReply Answer.Finished = finished []
 answerReply (Answer.Refused why) = refusedBy why
+
+-- a block's, Change 5's place with it
+abbrev pub blockAnswerReply : BlockAnswer → Reply
+blockAnswerReply (BlockAnswer.Finished i seat) = placed i seat
+blockAnswerReply (BlockAnswer.Refused why) = refusedBy why
 
 abbrev pub flushReply : FlushAnswer → Reply
 flushReply (FlushAnswer.Finished n done) = finished (count n ∷ count (cond done 1 0) ∷ [])
@@ -76,8 +83,8 @@ pub record Seen : Type 0 where
 abbrev pub seen : Outcome → Seen
 seen o = record { reply = o .reply; machine = o .machine; bytes = o .bytes }
 
-abbrev pub processedAt : Called → Stores → List ℕ → Seen
-processedAt r stores bytes = record { reply = answerReply (r .answer); machine = machineAt (r .processor) stores; bytes = bytes }
+abbrev pub processedAt : Processed → Stores → List ℕ → Seen
+processedAt r stores bytes = record { reply = blockAnswerReply (r .answer); machine = machineAt (r .processor) stores; bytes = bytes }
 
 abbrev pub flushedAt : Flushed → Stores → List ℕ → Seen
 flushedAt r stores bytes = record { reply = flushReply (r .answer); machine = machineAt (r .processor) stores; bytes = bytes }

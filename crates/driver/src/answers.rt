@@ -5,6 +5,7 @@ ghost use Rattle.driver.specs.Answers.{answerReply};
 use crate::state::KernelProcessor;
 use bank::param::BankRefusal;
 use bank::smoother_bank::ParamSet;
+use frame::highest::Seat;
 use limiter::prepare::PrepareAnswer;
 
 // Setup: the bank's refusal (1 to 6), the bank over the cap (7), or what the limiter answers (0, 8 to 17).
@@ -29,7 +30,7 @@ pub enum Refusal {
     TooFar,
 }
 
-// A block, a reset, and what judges a call: nothing is refused, or the first refusal that arises.
+// A reset, and what judges a call: nothing is refused, or the first refusal that arises.
 pub enum Answer {
     Finished,
     Refused(Refusal),
@@ -48,6 +49,17 @@ impl Answer {
 
 pub struct Called {
     pub answer: Answer,
+    pub processor: KernelProcessor,
+}
+
+// A block: finished work tells the first frame with the highest linked peak, and where that sat.
+pub enum BlockAnswer {
+    Finished { frame: usize, seat: Seat },
+    Refused(Refusal),
+}
+
+pub struct Processed {
+    pub answer: BlockAnswer,
     pub processor: KernelProcessor,
 }
 

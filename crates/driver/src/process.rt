@@ -7,10 +7,11 @@ ghost use Rattle.bank.specs.declared.smoother_bank.SmootherBank.{SmootherBank};
 ghost use Rattle.turns.specs.Machine.{machineOf};
 ghost use Rattle.turns.specs.Events.{eventsOf};
 ghost use Rattle.turns.specs.Block.{callReply, blockReply, blockOf};
-ghost use Rattle.driver.specs.Answers.{machineAt, answerReply, processedAt, seen};
+ghost use Rattle.driver.specs.Answers.{machineAt, answerReply, blockAnswerReply, processedAt, seen};
 ghost use Rattle.driver.specs.Parts.{shownOf};
 use crate::answers::Answer;
-use crate::answers::Called;
+use crate::answers::BlockAnswer;
+use crate::answers::Processed;
 use crate::answers::Refusal;
 use crate::events::check_events;
 use crate::ready::judge;
@@ -19,6 +20,7 @@ use crate::state::KernelProcessor;
 use crate::state::Threshold;
 use audio::format::Format;
 use audio::format::size_of;
+use frame::highest::Seat;
 use limiter::state::Limiter;
 use turns::drive::drive;
 
@@ -71,6 +73,19 @@ pub fn judge_block(
     judge_call(l, position, frames, events, size)
 }
 
+// What a refused block answers.
+fn refused(answer: Answer) -> BlockAnswer
+    ensures { λ r. ⌜ blockAnswerReply r ≡ answerReply answer ⌝ }
+{
+    match answer {
+        Answer::Finished => BlockAnswer::Finished {
+            frame: 0,
+            seat: Seat::Nowhere,
+        },
+        Answer::Refused(why) => BlockAnswer::Refused(why),
+    }
+}
+
 impl KernelProcessor {
     // A block of so many frames a channel, planar, that starts at an absolute position. A refused one
     // changes nothing.
@@ -87,7 +102,7 @@ impl KernelProcessor {
         weights: &[f64],
         row: &mut [f64],
         detector: &mut [f64],
-    ) -> Called
+    ) -> Processed
         ensures { λ r. ⌜ processedAt r (atExit delay marks minima weights row detector) (now (audio .exit))
             ≡ seen (blockOf format (machineAt self (atEntry delay marks minima weights row detector)) position frames
             (eventsOf (now (events .entry))) (now (audio .entry))) ⌝ }
@@ -110,8 +125,8 @@ impl KernelProcessor {
             detector,
         );
         if !answer.is_finished() {
-            return Called {
-                answer,
+            return Processed {
+                answer: refused(answer),
                 processor: self,
             };
         }
@@ -132,8 +147,13 @@ impl KernelProcessor {
         );
         let limiter = left.limiter;
         let bank = left.bank;
-        Called {
-            answer: Answer::Finished,
+        let highest = left.highest;
+        let seat = highest.seat;
+        Processed {
+            answer: BlockAnswer::Finished {
+                frame: highest.frame,
+                seat,
+            },
             processor: KernelProcessor { limiter, bank },
         }
     }

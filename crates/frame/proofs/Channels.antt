@@ -10,9 +10,8 @@ use lib.ListN.{length, take, drop, length-append, length-drop, take-append-drop,
 use lib.Seq.{length-take-le, drop-append-le, drop-drop, take-at, drop-at}
 use lib.Ieee.{Float}
 use Rattle.detector.specs.Oversample.{remembered}
-use Rattle.detector.specs.Run.{runLength, Pushes, pushesAt, pushesOf, peaksAbsOf}
+use Rattle.detector.specs.Run.{runLength, pushesOf}
 use Rattle.detector.specs.Taps.{taps}
-use Rattle.detector.proofs.Store.{run-pushes}
 use Rattle.settings.specs.declared.LimiterSettings.{LimiterSettings}
 use Rattle.frame.specs.Rules.{Linking, tapsOf, countsIn, linkingOf}
 use Rattle.envelope.specs.Row.{posAfter}
@@ -117,6 +116,49 @@ peaks-more linking channels n c k1 k2 peaks l audio peaks' ys h f e1 e2 m o =
     let s : drop ((c + 1) * runLength) audio ≡ drop runLength (drop (c * runLength) audio) = rw (one-more c runLength) (sym (drop-drop runLength (c * runLength) audio)) in
     peaks-next linking channels n c peaks l audio (peaksAt peaks' ys) l' h (rw (e1, e2) at o) t d s
 
+-- what the detector remembers, from peaks of which nothing is asked
+pub record Storing (linking : Linking) (channels n c : ℕ) (detector audio : List Float) (total : Peaks) : Type 0 where
+  pub whole : List Float
+  pub since : peaksSince linking channels n c whole detector audio ≡ total
+
+module _ (settings : LimiterSettings) (channels n : ℕ) where
+  pub storing-start : (peaks detector audio : List Float) → Storing (linkingOf settings) channels n 0 detector audio (peaksPass (linkingOf settings) 0 channels n peaks detector audio)
+  storing-start peaks detector audio = record { whole = peaks; since = peaks-start (linkingOf settings) channels n peaks detector audio }
+
+  pub storing-done : (c : ℕ) (detector audio : List Float) (total : Peaks) → channels ≤ c → Storing (linkingOf settings) channels n c detector audio total → detector ≡ total .detector
+  storing-done c detector audio total h s = ap (λ (o : Peaks). o .detector) (peaks-done (linkingOf settings) channels n c (s .whole) detector audio h ∙ s .since)
+
+  pub storing-more : (c k1 k2 : ℕ) (l audio ys : List Float) (total : Peaks) → Storing (linkingOf settings) channels n c l audio total → c < channels → length l ≡ channels * remembered → k1 ≡ remembered → k2 ≡ n
+      → length ys ≡ length (take k1 (drop (c * remembered) l)) → ys ≡ pushesOf taps (take k1 (drop (c * remembered) l)) (take k2 (drop (c * runLength) audio)) .store
+      → Storing (linkingOf settings) channels n (c + 1) (take (c * remembered) l ++ (ys ++ drop k1 (drop (c * remembered) l))) audio total
+  unfolding channelPeaks tapsOf
+  storing-more c k1 k2 l audio ys total s h f e1 e2 m o =
+      let next = channelPeaks (linkingOf settings) c (s .whole) (take k1 (drop (c * remembered) l)) (take k2 (drop (c * runLength) audio)) in
+      record { whole = next .peaks; since = peaks-more (linkingOf settings) channels n c k1 k2 (s .whole) l audio (next .peaks) ys h f e1 e2 m (ap (peaksAt (next .peaks)) o) ∙ s .since }
+
+-- ---- the peaks alone, where the stores stay as they are: what the channels from c on make of them
+abbrev pub sharesSince : Linking → ℕ → ℕ → ℕ → List Float → List Float → List Float → List Float
+sharesSince linking channels n c peaks detector audio = peaksPass linking c (channels - c) n peaks (drop (c * remembered) detector) (drop (c * runLength) audio) .peaks
+
+module _ (linking : Linking) (channels n c : ℕ) (peaks detector audio : List Float) where
+  pub shares-done : channels ≤ c → sharesSince linking channels n c peaks detector audio ≡ peaks
+  shares-done h = ap (λ (o : Peaks). o .peaks) (sym (peaks-done linking channels n c peaks detector audio h))
+
+  pub shares-more : (k1 k2 : ℕ) → c < channels → k1 ≡ remembered → k2 ≡ n
+      → sharesSince linking channels n (c + 1) (channelPeaks linking c peaks (take k1 (drop (c * remembered) detector)) (take k2 (drop (c * runLength) audio)) .peaks) detector audio ≡ sharesSince linking channels n c peaks detector audio
+  unfolding peaksPass
+  shares-more k1 k2 h e1 e2 =
+      let b : channels - c ≡ suc (channels - (c + 1)) = omega arith in
+      let d : drop ((c + 1) * remembered) detector ≡ drop remembered (drop (c * remembered) detector) = rw (one-more c remembered) (sym (drop-drop remembered (c * remembered) detector)) in
+      let s : drop ((c + 1) * runLength) audio ≡ drop runLength (drop (c * runLength) audio) = rw (one-more c runLength) (sym (drop-drop runLength (c * runLength) audio)) in
+      let heardHere : ℕ → ℕ → List Float = λ (j k : ℕ). channelPeaks linking c peaks (take j (drop (c * remembered) detector)) (take k (drop (c * runLength) audio)) .peaks in
+      let rest : List Float → List Float → List Float → List Float = λ (ps l a : List Float). peaksPass linking (c + 1) (channels - (c + 1)) n ps l a .peaks in
+      ap (λ (j : ℕ). rest (heardHere j k2) (drop ((c + 1) * remembered) detector) (drop ((c + 1) * runLength) audio)) e1
+      ∙ ap (λ (k : ℕ). rest (heardHere remembered k) (drop ((c + 1) * remembered) detector) (drop ((c + 1) * runLength) audio)) e2
+      ∙ ap (λ (l : List Float). rest (heardHere remembered n) l (drop ((c + 1) * runLength) audio)) d
+      ∙ ap (λ (a : List Float). rest (heardHere remembered n) (drop remembered (drop (c * remembered) detector)) a) s
+      ∙ sym (ap (λ (k : ℕ). peaksPass linking c k n peaks (drop (c * remembered) detector) (drop (c * runLength) audio) .peaks) b)
+
 -- ---- outputs
 abbrev pub outputsSince : (Float → Float) → ℕ → ℕ → List Float → ℕ → ℕ → ℕ → List Float → List Float → Written
 outputsSince leaves look pos gains channels n c delay audio =
@@ -192,12 +234,7 @@ pos-turn look pos channels n c k1 k2 delay audio next h f g e1 e2 o =
     rw (part-length delay (c * look) look k1 (rw f (places-end c channels look h)) e1, part-length audio (c * runLength) n k2 g e2) at o
 
 -- ---- one channel's peaks, from what the calls find: the table is `taps`, and every channel counts
-pub channel-heard : (settings : LimiterSettings) (c : ℕ) (store samples peaks old heardPeaks answers left : List Float) → length store ≡ remembered → length samples ≤ runLength → length old ≡ length samples
-    → pushesAt answers left ≡ peaksAbsOf taps store samples old → heardPeaks ≡ heardAll true peaks samples answers
-    → (peaksAt heardPeaks left ≡ channelPeaks (linkingOf settings) c peaks store samples) × (answers ≡ pushesOf (tapsOf settings) store samples .peaks)
+pub channel-heard : (settings : LimiterSettings) (c : ℕ) (store samples peaks heardPeaks answers : List Float) → answers ≡ pushesOf taps store samples .peaks → heardPeaks ≡ heardAll true peaks samples answers
+    → heardPeaks ≡ channelPeaks (linkingOf settings) c peaks store samples .peaks
 unfolding channelPeaks tapsOf countsIn
-channel-heard settings c store samples peaks old heardPeaks answers left n s m o h =
-    let p : pushesAt answers left ≡ pushesOf taps store samples = o ∙ run-pushes taps store samples old s n m in
-    let a : answers ≡ pushesOf taps store samples .peaks = ap (λ (r : Pushes). r .peaks) p in
-    let l : left ≡ pushesOf taps store samples .store = ap (λ (r : Pushes). r .store) p in
-    (rw (h, a, l) refl, a)
+channel-heard settings c store samples peaks heardPeaks answers a h = rw (h, a) refl

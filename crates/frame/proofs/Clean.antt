@@ -13,6 +13,7 @@ use Rattle.audio.proofs.Planes.{drop-map}
 use Rattle.detector.specs.Oversample.{shifted, peakAbsOf}
 use Rattle.detector.specs.Run.{runLength}
 use Rattle.frame.specs.Rules.{Linking, Rules}
+use Rattle.frame.specs.Seat.{voicesFrom}
 use Rattle.frame.specs.Frame.{linkedFrom, delayedFrom, Moving, frameOf}
 use Rattle.frame.specs.Run.{framesOf, Sanitized}
 
@@ -52,6 +53,11 @@ module _ (linking : Linking) where
   linked-clean [] c peak detector = refl
   linked-clean (x ∷ xs) c peak detector = rw (sanitized-again x, linked-clean xs) refl
 
+voices-clean : (linking : Linking) (xs : List Float) (c : ℕ) (detector : List Float) → voicesFrom linking c detector (map finiteOrZero xs) ≡ voicesFrom linking c detector xs
+unfolding voicesFrom peakAbsOf shifted
+voices-clean linking [] c detector = refl
+voices-clean linking (x ∷ xs) c detector = rw (sanitized-again x, voices-clean linking xs) refl
+
 delayed-clean : (leaves : Float → Float) (look pos : ℕ) (gain : Float) (xs delay : List Float) → delayedFrom leaves look pos gain delay (map finiteOrZero xs) ≡ delayedFrom leaves look pos gain delay xs
 unfolding delayedFrom
 delayed-clean leaves look pos gain [] delay = refl
@@ -61,7 +67,7 @@ delayed-clean leaves look pos gain (x ∷ xs) delay = rw (sanitized-again x, del
 module _ (rules : Rules) (weights : List Float) (coeff : Float) (look : ℕ) (target : Float) where
   frame-clean : (m : Moving) (xs : List Float) → frameOf rules weights coeff look target m (map finiteOrZero xs) ≡ frameOf rules weights coeff look target m xs
   unfolding frameOf
-  frame-clean m xs = rw (linked-clean (rules .linking) xs 0 Number.zero (m .detector), delayed-clean) refl
+  frame-clean m xs = rw (linked-clean (rules .linking) xs 0 Number.zero (m .detector), voices-clean (rules .linking) xs 0 (m .detector), delayed-clean) refl
 
   pub frames-clean : (fs : List (List Float)) (m : Moving) → framesOf rules weights coeff look target m (map (map finiteOrZero) fs) ≡ framesOf rules weights coeff look target m fs
   unfolding framesOf

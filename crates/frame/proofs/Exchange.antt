@@ -61,7 +61,7 @@ heard-length counts (p ∷ ps) (x ∷ xs) [] h k = absurd (omega arith)
 heard-length counts (p ∷ ps) (x ∷ xs) (a ∷ later) h k = ap suc (heard-length counts ps xs later (omega arith) (omega arith))
 
 -- ---- the peaks of a list of frames, frame by frame
-unfoldable linkedAll : Linking → ℕ → List Float → List Float → List (List Float) → Peaks
+unfoldable pub linkedAll : Linking → ℕ → List Float → List Float → List (List Float) → Peaks
 linkedAll linking c [] detector fs = peaksAt [] detector
 linkedAll linking c (p ∷ ps) detector [] = peaksAt [] detector
 linkedAll linking c (p ∷ ps) detector (f ∷ fs) =
@@ -107,7 +107,7 @@ module _ (linking : Linking) where
   heard-enough c ps s xs h = heard-length (linking .counts c) ps xs (pushesOf (linking .taps) s xs .peaks) h (pushes-length (linking .taps) s xs ∙ h)
 
   -- channel by channel
-  pass-linked : (k c n : ℕ) (ps detector audio : List Float) → n ≤ runLength → length ps ≡ n → length detector ≡ k * remembered → k * runLength ≤ length audio
+  pub pass-linked : (k c n : ℕ) (ps detector audio : List Float) → n ≤ runLength → length ps ≡ n → length detector ≡ k * remembered → k * runLength ≤ length audio
       → linkedAll linking c ps detector (framesIn k n audio) ≡ peaksPass linking c k n ps detector audio
   unfolding peaksPass
   pass-linked zero c n ps detector audio short m d a = rw (frames-none n 0 audio, ← m) (none-heard c ps detector)

@@ -59,6 +59,9 @@ module _ (p q : Float) (h : le Number.zero p ≡ true) where
       go true e = above p q h e
       go false e = h
 
+  pub max-from-zero : le Number.zero (maxOf p q) ≡ true
+  max-from-zero = rw max-is from-zero
+
 -- ---- three tests: what each leaves
 module _ (p x a : Float) (h : le Number.zero p ≡ true) (y t u r : Float) (Y : y ≡ finiteOrZero x) (T : t ≡ first p y) (U : u ≡ second t (neg y)) (R : r ≡ second u a) where
   two-tests : u ≡ second p (absOf y)

@@ -4,6 +4,10 @@ pub mod Turns
 pub mod Steps
 pub mod Channels
 pub mod Alike
+pub mod Risen
+pub mod Found
+pub mod Voices
+pub mod Seats
 pub mod Clean
 pub mod Stretch
 pub mod Exchange

@@ -17,6 +17,10 @@ use Rattle.envelope.specs.Mean.{meanOf}
 use Rattle.envelope.specs.Follow.{followed}
 use Rattle.envelope.specs.Step.{Enveloped, enveloped, gainStepOf}
 use Rattle.frame.specs.Rules.{Rules, leavesBy}
+use Rattle.detector.specs.declared.answer.Phase.{Phase}
+use Rattle.frame.specs.Seat.{Voice, betweenFrom, sampleFrom, seatOf, PeakAt}
+use Rattle.frame.specs.Place.{placeAt, noPlace, highestOf, firstWith, placeOf}
+use Rattle.frame.specs.declared.highest.Seat.{Seat}
 use Rattle.frame.specs.Frame.{requiredGain, linkedFrom, delayedFrom, Moving, Framed, frameOf}
 use Rattle.frame.specs.Passes.{gainsOf}
 
@@ -77,3 +81,32 @@ frame-of-two = (refl, refl)
 pub frame-stored : (framed .moving .pos ≡ 0) × (framed .moving .delay ≡ Number.zero ∷ two ∷ Number.zero ∷ one ∷ [])
 unfolding framed frameOf linkedFrom peakAbsOf detected shifted sumsOf largestFrom largestOf delayedFrom stepping div isNan
 frame-stored = (refl, refl)
+
+-- ---- where the peak sat
+-- a channel's voice: its sample, its detector's answer and that one's phase
+abbrev voice : Float → Float → ℕ → Voice
+voice sample answer p = record { counts = true; sample = sample; answer = answer; phase = Phase.At p }
+
+-- a detector named where a sample is as high, or the highest of equal channels
+pub sample-first : seatOf one (voice half one 2 ∷ voice one half 1 ∷ voice one one 0 ∷ []) ≡ Seat.OnSample 1
+unfolding seatOf sampleFrom betweenFrom eq ofBits
+sample-first = refl
+
+-- of equal detectors the one of the highest channel, or the phase of another
+pub lowest-detector : seatOf one (voice half half 3 ∷ voice half one 2 ∷ voice half one 1 ∷ []) ≡ Seat.Between 1 2
+unfolding seatOf sampleFrom betweenFrom eq ofBits
+lowest-detector = refl
+
+-- a place for a peak of 0.0
+pub silent-nowhere : seatOf Number.zero (voice Number.zero Number.zero 0 ∷ []) ≡ Seat.Nowhere
+unfolding seatOf eq
+silent-nowhere = refl
+
+-- a frame's peak, on the sample of channel 0
+abbrev peakOf : Float → PeakAt
+peakOf p = record { peak = p; seat = Seat.OnSample 0 }
+
+-- the last of equal frames, or frames counted from 1; a place where there is no frame, or only silence
+pub first-frame : (placeOf (peakOf half ∷ peakOf one ∷ peakOf one ∷ []) ≡ placeAt 1 (Seat.OnSample 0)) × (placeOf [] ≡ noPlace) × (placeOf (peakOf Number.zero ∷ []) ≡ noPlace)
+unfolding placeOf highestOf firstWith lt eq ofBits
+first-frame = (refl, refl, refl)

@@ -11,6 +11,7 @@ use Rattle.detector.specs.Oversample.{remembered, peakAbsOf}
 use Rattle.envelope.specs.Row.{nextPos}
 use Rattle.envelope.specs.Step.{Enveloped, gainStepOf}
 use Rattle.frame.specs.Rules.{Linking, Rules}
+use Rattle.frame.specs.Seat.{PeakAt, voicesFrom, peakAmong}
 
 -- ---- "A frame's peak is the largest sanitized magnitude or detector answer over the channels"
 -- one channel's share: the largest of the peak so far, the sanitized magnitude and the detector's answer
@@ -59,6 +60,8 @@ pub record Moving : Type 0 where
 
 -- what a frame tells and leaves; the tally is the row's, the entries kept are the keeper's
 pub record Framed : Type 0 where
+  -- its linked peak, and where that sat
+  pub at : PeakAt
   pub floor : Float
   pub dropped : ℕ
   pub mean : Float
@@ -73,6 +76,7 @@ frameOf rules weights coeff look target m xs =
     let g = gainStepOf weights coeff (m .env) (requiredGain target (l .peak)) in
     let d = delayedFrom (rules .leaves) look (m .pos) (g .env .gain) (m .delay) xs in
     record {
+      at = peakAmong (l .peak) (voicesFrom (rules .linking) 0 (m .detector) xs);
       floor = g .floor;
       dropped = g .dropped;
       mean = g .mean;

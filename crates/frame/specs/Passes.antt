@@ -1,17 +1,18 @@
 -- How the code goes about a run: in passes over all its frames, each channel by itself. That the passes add up to the frames in turn is proved in proofs/.
 use Prim.Native.Nat.{ℕ, zero, suc, _+_}
-use mathlib.Core.Bool.{Bool, true, _&&_}
+use mathlib.Core.Bool.{Bool, true, false, cond, _&&_, _||_}
 use mathlib.Core.List.{List, [], _∷_, _++_, map}
 use lib.ListN.{getD, set, take, drop}
-use lib.Ieee.{Float, nan, le}
+use lib.Ieee.{Float, nan, lt, le}
 use Rattle.arithmetic.specs.Number
 use Rattle.arithmetic.specs.Sanitize.{finiteOrZero}
-use Rattle.detector.specs.Oversample.{remembered}
+use Rattle.detector.specs.Oversample.{remembered, peakAbsOf}
 use Rattle.detector.specs.Run.{runLength, pushesOf}
 use Rattle.envelope.specs.Row.{nextPos}
 use Rattle.envelope.specs.Step.{Enveloped, gainStepOf, envelopedAt}
 use Rattle.envelope.specs.declared.env.Envelope.{Envelope}
 use Rattle.frame.specs.Rules.{Linking}
+use Rattle.frame.specs.Seat.{Voice, voiceOf, PeakAt, peakAmong}
 use Rattle.frame.specs.Frame.{heard, requiredGain, givenOut}
 
 -- ---- peaks
@@ -46,6 +47,37 @@ peaksPass linking c (suc k) n peaks detector audio =
     let o = channelPeaks linking c peaks (take remembered detector) (take n audio) in
     let later = peaksPass linking (c + 1) k n (o .peaks) (drop remembered detector) (drop runLength audio) in
     peaksAt (later .peaks) (o .detector ++ later .detector)
+
+-- ---- where the highest peak sat
+-- what the channels bring to frame i of a run, from channel c on
+unfoldable pub voicesPass : Linking → ℕ → ℕ → ℕ → List Float → List Float → List Voice
+voicesPass linking c zero i detector audio = []
+voicesPass linking c (suc k) i detector audio =
+    let x = getD audio i nan in
+    let o = peakAbsOf (linking .taps) (pushesOf (linking .taps) (take remembered detector) (take i audio) .store) x in
+    voiceOf (linking .counts c) x o ∷ voicesPass linking (c + 1) k i (drop remembered detector) (drop runLength audio)
+
+-- each frame's peak, and where it sat; the first of them is frame i of the run
+unfoldable pub placesFrom : Linking → ℕ → ℕ → List Float → List Float → List Float → List PeakAt
+placesFrom linking channels i [] detector audio = []
+placesFrom linking channels i (p ∷ ps) detector audio = peakAmong p (voicesPass linking 0 channels i detector audio) ∷ placesFrom linking channels (i + 1) ps detector audio
+
+-- whether a peak is above a height
+unfoldable pub anyAbove : Float → List Float → Bool
+anyAbove top [] = false
+anyAbove top (p ∷ ps) = lt top p || anyAbove top ps
+
+-- the highest peak so far, and its frame
+pub record Risen : Type 0 where
+  pub peak : Float
+  pub at : ℕ
+
+abbrev pub risenTo : Float → ℕ → Risen
+risenTo peak at = record { peak = peak; at = at }
+
+unfoldable pub risenFrom : ℕ → Risen → List Float → Risen
+risenFrom i r [] = r
+risenFrom i r (p ∷ ps) = risenFrom (i + 1) (cond (lt (r .peak) p) (risenTo p i) r) ps
 
 -- ---- gain steps
 -- the required gain of each frame

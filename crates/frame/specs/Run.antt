@@ -14,6 +14,7 @@ use Rattle.envelope.specs.Step.{EnvReady, envelopedAt}
 use Rattle.envelope.specs.declared.env.Envelope.{Envelope}
 use Rattle.frame.specs.Lent.{Lent}
 use Rattle.frame.specs.Rules.{Rules}
+use Rattle.frame.specs.Seat.{PeakAt}
 use Rattle.frame.specs.Frame.{Moving, Framed, frameOf}
 
 -- ---- the frames in turn
@@ -34,6 +35,10 @@ framesOf rules weights coeff look target m (xs ∷ later) =
 -- the gain applied in each frame
 abbrev pub gainsOfFrames : List Framed → List Float
 gainsOfFrames frames = map (λ (f : Framed). f .gain) frames
+
+-- the linked peak of each frame, and where it sat
+abbrev pub peaksOfFrames : List Framed → List PeakAt
+peaksOfFrames frames = map (λ (f : Framed). f .at) frames
 
 -- ---- a run's audio
 -- the first n frames of so many channels

@@ -3,6 +3,8 @@
 
 // The linked peak over the channels.
 mod peaks;
+// Where the highest of them sat.
+pub mod highest;
 // Required gains and gain steps.
 pub mod gains;
 // The delayed outputs.

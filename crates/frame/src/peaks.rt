@@ -1,5 +1,5 @@
 // The peak of each frame of a run: the largest sanitized magnitude or detector answer over the channels. A
-// channel too quiet to change a required gain is left out.
+// channel too quiet to be noticed is left out.
 ghost use mathlib.Core.Path.{_≡_};
 ghost use mathlib.Core.Bool.{true};
 ghost use mathlib.Core.List.{List};
@@ -8,14 +8,14 @@ ghost use lib.ListN.{length, replicate};
 ghost use lib.Ieee.{Float, le};
 ghost use Rattle.arithmetic.specs.Number.{zero};
 ghost use Rattle.detector.specs.Oversample.{remembered};
-ghost use Rattle.detector.specs.Run.{runLength, pushesOf};
+ghost use Rattle.detector.specs.Run.{runLength};
 ghost use Rattle.detector.specs.Level.{levelOf};
-ghost use Rattle.frame.specs.Rules.{tapsOf, linkingOf};
+ghost use Rattle.frame.specs.Rules.{linkingOf};
 ghost use Rattle.frame.specs.Frame.{heard};
-ghost use Rattle.frame.specs.Passes.{allFromZero, heardAll, peaksAt, channelPeaks, peaksPass, requiredAll};
+ghost use Rattle.frame.specs.Passes.{allFromZero, heardAll, channelPeaks, peaksPass};
 ghost use Rattle.frame.specs.Alike.{AllAlike};
 use arithmetic::sanitize::finite_or_zero;
-use detector::oversample::peaks_abs;
+use detector::oversample::answers_abs;
 use detector::oversample::remember;
 use detector::quiet::level_below;
 use detector::quiet::lies_within;
@@ -56,12 +56,12 @@ fn hear_run(peaks: &mut [f64], samples: &[f64], answers: &[f64])
     }
 }
 
-// Channel c over a run: its samples through the detector, whose answers are left in `answers`, and their
-// share in the peaks.
+// Channel c over a run: the detector's answers for its samples are left in `answers`, and their share goes into the
+// peaks. The store stays as it is until `remember_all`.
 fn hear_channel(
     settings: LimiterSettings,
     c: usize,
-    store: &mut [f64],
+    store: &[f64],
     samples: &[f64],
     peaks: &mut [f64],
     answers: &mut [f64],
@@ -71,12 +71,11 @@ fn hear_channel(
     requires { ⌜ length (now answers) ≡ length (now samples) ⌝ }
     requires { ⌜ length (now samples) ≤ runLength ⌝ }
     requires { ⌜ allFromZero (now peaks) ≡ true ⌝ }
-    ensures { λ _. ⌜ peaksAt (now (peaks .exit)) (now (store .exit))
-        ≡ channelPeaks (linkingOf settings) c (now (peaks .entry)) (now (store .entry)) (now (samples .entry)) ⌝ }
-    ensures { λ _. ⌜ now (answers .exit) ≡ pushesOf (tapsOf settings) (now (store .entry)) (now (samples .entry)) .peaks ⌝ }
+    ensures { λ _. ⌜ now (peaks .exit)
+        ≡ channelPeaks (linkingOf settings) c (now (peaks .entry)) (now (store .entry)) (now (samples .entry)) .peaks ⌝ }
     ensures { λ _. ⌜ allFromZero (now (peaks .exit)) ≡ true ⌝ }
 {
-    peaks_abs(store, samples, answers);
+    answers_abs(store, samples, answers);
     hear_run(peaks, samples, answers);
 }
 
@@ -84,7 +83,7 @@ fn hear_channel(
 fn channel_peaks(
     settings: LimiterSettings,
     c: usize,
-    store: &mut [f64],
+    store: &[f64],
     samples: &[f64],
     peaks: &mut [f64],
 )
@@ -92,8 +91,8 @@ fn channel_peaks(
     requires { ⌜ length (now samples) ≡ length (now peaks) ⌝ }
     requires { ⌜ length (now samples) ≤ runLength ⌝ }
     requires { ⌜ allFromZero (now peaks) ≡ true ⌝ }
-    ensures { λ _. ⌜ peaksAt (now (peaks .exit)) (now (store .exit))
-        ≡ channelPeaks (linkingOf settings) c (now (peaks .entry)) (now (store .entry)) (now (samples .entry)) ⌝ }
+    ensures { λ _. ⌜ now (peaks .exit)
+        ≡ channelPeaks (linkingOf settings) c (now (peaks .entry)) (now (store .entry)) (now (samples .entry)) .peaks ⌝ }
     ensures { λ _. ⌜ allFromZero (now (peaks .exit)) ≡ true ⌝ }
 {
     let n = samples.len();
@@ -101,13 +100,14 @@ fn channel_peaks(
     hear_channel(settings, c, store, samples, peaks, &mut answers[0..n]);
 }
 
-// Channel c over a run. Where its samples lie within the level for a target, they and the detector's
-// answers are at most the target: a share that no required gain notices, so that no sum is computed.
-fn hear_or_remember(
+// Channel c over a run. Where its samples lie within the level for a ceiling, they and the detector's
+// answers are at most the ceiling, or silent: a share that nobody notices who asks only for what is above it, so
+// that no sum is computed.
+fn hear_or_pass(
     settings: LimiterSettings,
     c: usize,
     level: f64,
-    store: &mut [f64],
+    store: &[f64],
     samples: &[f64],
     peaks: &mut [f64],
 )
@@ -115,25 +115,23 @@ fn hear_or_remember(
     requires { ⌜ length (now samples) ≡ length (now peaks) ⌝ }
     requires { ⌜ length (now samples) ≤ runLength ⌝ }
     requires { ⌜ allFromZero (now peaks) ≡ true ⌝ }
-    ensures { λ _. ⌜ now (store .exit) ≡ pushesOf (tapsOf settings) (now (store .entry)) (now (samples .entry)) .store ⌝ }
-    ensures { λ _. ⌜ ((target : Float) (whole : List Float) → level ≡ levelOf target → AllAlike target (now (peaks .entry)) whole
-        → AllAlike target (now (peaks .exit)) (channelPeaks (linkingOf settings) c whole (now (store .entry)) (now (samples .entry)) .peaks)) ⌝ }
+    ensures { λ _. ⌜ ((ceiling : Float) (whole : List Float) → level ≡ levelOf ceiling → AllAlike ceiling (now (peaks .entry)) whole
+        → AllAlike ceiling (now (peaks .exit)) (channelPeaks (linkingOf settings) c whole (now (store .entry)) (now (samples .entry)) .peaks)) ⌝ }
 {
     if lies_within(store, samples, level) {
-        remember(store, samples);
         return;
     }
     channel_peaks(settings, c, store, samples, peaks);
 }
 
-// All channels over a run of n frames. The peaks left need the gains that the definition's need.
+// All channels over a run of n frames. The peaks left are the definition's, or both are at most the ceiling.
 pub fn all_peaks(
     settings: LimiterSettings,
-    target: f64,
+    ceiling: f64,
     channels: usize,
     n: usize,
     audio: &[f64],
-    detector: &mut [f64],
+    detector: &[f64],
     peaks: &mut [f64],
 )
     requires { ⌜ channels ≤ 8 ⌝ }
@@ -141,22 +139,42 @@ pub fn all_peaks(
     requires { ⌜ length (now audio) ≡ 8 * runLength ⌝ }
     requires { ⌜ length (now detector) ≡ channels * remembered ⌝ }
     requires { ⌜ now peaks ≡ replicate n zero ⌝ }
-    ensures { λ _. ⌜ now (detector .exit)
-        ≡ peaksPass (linkingOf settings) 0 channels n (now (peaks .entry)) (now (detector .entry)) (now (audio .entry)) .detector ⌝ }
-    ensures { λ _. ⌜ requiredAll target (now (peaks .exit))
-        ≡ requiredAll target (peaksPass (linkingOf settings) 0 channels n (now (peaks .entry)) (now (detector .entry)) (now (audio .entry)) .peaks) ⌝ }
+    ensures { λ _. ⌜ AllAlike ceiling (now (peaks .exit))
+        (peaksPass (linkingOf settings) 0 channels n (now (peaks .entry)) (now (detector .entry)) (now (audio .entry)) .peaks) ⌝ }
 {
-    let level = level_below(target);
+    let level = level_below(ceiling);
     for c in 0..channels {
         let at = c * 12;
         let first = c * 32;
-        hear_or_remember(
+        hear_or_pass(
             settings,
             c,
             level,
-            &mut detector[at..at + 12],
+            &detector[at..at + 12],
             &audio[first..first + n],
             peaks,
         );
+    }
+}
+
+// What the detector remembers of a run of n frames.
+pub fn remember_all(
+    settings: LimiterSettings,
+    channels: usize,
+    n: usize,
+    audio: &[f64],
+    detector: &mut [f64],
+)
+    requires { ⌜ channels ≤ 8 ⌝ }
+    requires { ⌜ n ≤ runLength ⌝ }
+    requires { ⌜ length (now audio) ≡ 8 * runLength ⌝ }
+    requires { ⌜ length (now detector) ≡ channels * remembered ⌝ }
+    ensures { λ _. ⌜ ((peaks : List Float) → now (detector .exit)
+        ≡ peaksPass (linkingOf settings) 0 channels n peaks (now (detector .entry)) (now (audio .entry)) .detector) ⌝ }
+{
+    for c in 0..channels {
+        let at = c * 12;
+        let first = c * 32;
+        remember(&mut detector[at..at + 12], &audio[first..first + n]);
     }
 }

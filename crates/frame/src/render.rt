@@ -1,13 +1,19 @@
 // A run of up to 32 frames, in passes over all its frames (`render` of limiter.rs; a drain is a run of silence).
 ghost use mathlib.Core.Path.{_≡_};
+ghost use Prim.Native.Nat.{_≤_};
 ghost use lib.ListN.{replicate};
 ghost use Rattle.arithmetic.specs.Number.{zero};
 ghost use Rattle.frame.specs.Rules.{rulesOf};
-ghost use Rattle.frame.specs.Run.{framesOf, gainsOfFrames, framesIn, runOf, movingAtCall, movingAtEntry, movingAtExit, doneAt, RunReady};
+ghost use Rattle.frame.specs.Place.{highestFrom};
+ghost use Rattle.frame.specs.Run.{framesOf, gainsOfFrames, peaksOfFrames, framesIn, runOf, movingAtCall, movingAtEntry, movingAtExit, doneAt, RunReady};
 use crate::gains::gain_steps;
 use crate::gains::required_gains;
+use crate::highest::Highest;
+use crate::highest::ceiling_of;
+use crate::highest::highest_in;
 use crate::outputs::all_outputs;
 use crate::peaks::all_peaks;
+use crate::peaks::remember_all;
 use audio::format::Format;
 use envelope::env::Envelope;
 use settings::LimiterSettings;
@@ -17,6 +23,8 @@ pub struct Rendered {
     pub env: Envelope,
     // the delay position
     pub pos: usize,
+    // the highest linked peak so far
+    pub highest: Highest,
 }
 
 // The passes. `gains`, a place for each frame, starts at 0.0, where the linked peaks start, and holds the
@@ -30,6 +38,8 @@ fn render_in(
     channels: usize,
     look: usize,
     pos: usize,
+    first: usize,
+    best: Highest,
     n: usize,
     audio: &mut [f64],
     delay: &mut [f64],
@@ -41,15 +51,22 @@ fn render_in(
     gains: &mut [f64],
 ) -> Rendered
     requires { ⌜ RunReady (now weights) look channels n (movingAtCall env pos delay marks minima row detector) (now audio) ⌝ }
+    requires { ⌜ first ≤ 65536 ⌝ }
     requires { ⌜ now gains ≡ replicate n zero ⌝ }
     ensures { λ r. ⌜ doneAt (movingAtExit (r .env) (r .pos) delay marks minima row detector) (now (audio .exit))
         ≡ runOf (rulesOf settings format) (now (weights .entry)) coeff look target channels n
         (movingAtEntry env pos delay marks minima row detector) (now (audio .entry)) ⌝ }
+    ensures { λ r. ⌜ r .highest
+        ≡ highestFrom first best (peaksOfFrames (framesOf (rulesOf settings format) (now (weights .entry)) coeff look target
+        (movingAtEntry env pos delay marks minima row detector) (framesIn channels n (now (audio .entry))) .frames)) ⌝ }
     ensures { λ _. ⌜ now (gains .exit)
         ≡ gainsOfFrames (framesOf (rulesOf settings format) (now (weights .entry)) coeff look target
         (movingAtEntry env pos delay marks minima row detector) (framesIn channels n (now (audio .entry))) .frames) ⌝ }
 {
-    all_peaks(settings, target, channels, n, audio, detector, gains);
+    let ceiling = ceiling_of(target, best.peak);
+    all_peaks(settings, ceiling, channels, n, audio, detector, gains);
+    let highest = highest_in(settings, channels, n, first, best, gains, audio, detector);
+    remember_all(settings, channels, n, audio, detector);
     required_gains(target, gains);
     let last = gain_steps(env, marks, minima, weights, row, coeff, gains);
     let after = last.env;
@@ -57,10 +74,11 @@ fn render_in(
     Rendered {
         env: after,
         pos: next,
+        highest,
     }
 }
 
-// A run of n frames: each sample of `audio` gives way to its output.
+// A run of n frames, the first of which is frame `first` of its block: each sample of `audio` gives way to its output.
 pub fn render_run(
     settings: LimiterSettings,
     format: Format,
@@ -70,6 +88,8 @@ pub fn render_run(
     channels: usize,
     look: usize,
     pos: usize,
+    first: usize,
+    best: Highest,
     n: usize,
     audio: &mut [f64],
     delay: &mut [f64],
@@ -80,9 +100,13 @@ pub fn render_run(
     detector: &mut [f64],
 ) -> Rendered
     requires { ⌜ RunReady (now weights) look channels n (movingAtCall env pos delay marks minima row detector) (now audio) ⌝ }
+    requires { ⌜ first ≤ 65536 ⌝ }
     ensures { λ r. ⌜ doneAt (movingAtExit (r .env) (r .pos) delay marks minima row detector) (now (audio .exit))
         ≡ runOf (rulesOf settings format) (now (weights .entry)) coeff look target channels n
         (movingAtEntry env pos delay marks minima row detector) (now (audio .entry)) ⌝ }
+    ensures { λ r. ⌜ r .highest
+        ≡ highestFrom first best (peaksOfFrames (framesOf (rulesOf settings format) (now (weights .entry)) coeff look target
+        (movingAtEntry env pos delay marks minima row detector) (framesIn channels n (now (audio .entry))) .frames)) ⌝ }
 {
     let mut gains = [0.0; 32];
     render_in(
@@ -94,6 +118,8 @@ pub fn render_run(
         channels,
         look,
         pos,
+        first,
+        best,
         n,
         audio,
         delay,

@@ -5,10 +5,11 @@ use mathlib.Core.List.{List, []}
 use Prim.Native.Nat.{ℕ}
 use lib.Dec.{eqb}
 use borrow.Author.Tests.{not-true}
-use Rattle.arithmetic.specs.Reply.{Reply, finished, numbered}
+use Rattle.arithmetic.specs.Reply.{Reply, numbered}
 use Rattle.audio.specs.Format.{sizeOf}
 use Rattle.audio.specs.declared.format.Format.{Format}
 use Rattle.audio.specs.Bytes.{wordsIn}
+use Rattle.frame.specs.Place.{Place, placeIn}
 use Rattle.limiter.specs.State.{notSetUp}
 use Rattle.limiter.specs.Stores.{Stores}
 use Rattle.limiter.specs.declared.state.Limiter.{Limiter}
@@ -17,8 +18,9 @@ use Rattle.bank.specs.Bank.{unset}
 use Rattle.bank.specs.declared.smoother_bank.SmootherBank.{SmootherBank}
 use Rattle.turns.specs.Machine.{Machine, machineOf, prepared, readyRefusal}
 use Rattle.turns.specs.Events.{eventsOf}
-use Rattle.turns.specs.Block.{callReply, blockReply, Outcome, blockOf}
+use Rattle.turns.specs.Block.{callReply, blockReply, placeReply, Outcome, blockOf}
 use Rattle.turns.specs.Inner.{BlockAsked, driven}
+use Rattle.turns.proofs.Told.{place-finished}
 use Rattle.driver.specs.Answers.{machineAt, seen}
 use Rattle.driver.specs.Parts.{shownOf, bankWith}
 use Rattle.driver.specs.declared.state.KernelProcessor.{KernelProcessor}
@@ -48,9 +50,11 @@ module _ (format : Format) (answer state : List ℕ) (position frames : ℕ) (wo
         → after ≡ answeredBy answer reply → returnedWith (returnedAt r after state stores) bytes ≡ audioBy call answer state stores bytes
     told reply o z R A = rendered answer state q e reply q stores (replyWords reply) r after state refl R A (sym (rw z refl)) call stores bytes bytes o
 
-    kept : (m : Machine) (bytes' : List ℕ) → record { reply = finished []; machine = m; bytes = bytes' } ≡ seen (call (machineAt q stores) bytes) → r ≡ 0 → after ≡ answeredBy answer (finished [])
+    kept : (p : Place) (m : Machine) (bytes' : List ℕ) → record { reply = placeReply p; machine = m; bytes = bytes' } ≡ seen (call (machineAt q stores) bytes) → r ≡ 0 → after ≡ answeredBy answer (placeReply p)
         → (next : List ℕ) → next ≡ stateOut (processorOf m) → returnedWith (returnedAt r after next (m .stores)) bytes' ≡ audioBy call answer state stores bytes
-    kept m bytes' o R A next N = rendered answer state q e (finished []) (processorOf m) (m .stores) (replyWords (finished [])) r after next refl R A N call stores bytes bytes' o
+    kept p m bytes' o R A next N =
+        let z = place-finished p in
+        rendered answer state q e (placeReply p) (processorOf m) (m .stores) (replyWords (placeReply p)) r after next refl (R ∙ sym z) A (N ∙ sym (rw z refl)) call stores bytes bytes' o
 
   -- ---- a buffer that is no state
   never-told : (size : ℕ) → numbered 18 ≡ blockReply (machineAt never stores) position frames (eventsOf words) size
@@ -81,11 +85,11 @@ module _ (format : Format) (answer state : List ℕ) (position frames : ℕ) (wo
     block-may z = block-asks format (machineAt q stores) position frames (eventsOf words) bytes size S reply (J (bankWith t) refl) f F z
 
     pub rendered-block : not f ≡ false → (done : RenderedBlock) (later : Stores) (bytes' : List ℕ)
-        → (let o = driven format (machineOf l (bankWith t) stores) position frames words bytes in renderedAt done later ≡ showing (o .machine) → bytes' ≡ o .bytes
-        → (r : ℕ) → r ≡ 0 → (after : List ℕ) → after ≡ answeredBy answer (finished []) → (next : List ℕ) → ((b : SmootherBank) → shownOf b ≡ done .threshold → next ≡ stateOut (record { limiter = done .limiter; bank = b }))
+        → (let o = driven format (machineOf l (bankWith t) stores) position frames words bytes in renderedAt done later ≡ showing (o .machine) → bytes' ≡ o .bytes → placeReply (placeIn (done .highest)) ≡ o .reply
+        → (r : ℕ) → r ≡ 0 → (after : List ℕ) → after ≡ answeredBy answer (placeReply (placeIn (done .highest))) → (next : List ℕ) → ((b : SmootherBank) → shownOf b ≡ done .threshold → next ≡ stateOut (record { limiter = done .limiter; bank = b }))
         → returnedWith (returnedAt r after next later) bytes' ≡ audioBy call answer state stores bytes)
-    rendered-block z done later bytes' D B r R after A next N =
+    rendered-block z done later bytes' D B P r R after A next N =
         let m = driven format (machineOf l (bankWith t) stores) position frames words bytes .machine in
         ap (λ (s : Showing). returnedWith (returnedAt r after next (s .stores)) bytes') D
-        ∙ kept q held r after m bytes' (block-finished format (machineAt q stores) position frames (eventsOf words) bytes size S reply (J (bankWith t) refl) f F m bytes' z refl B) R A next
+        ∙ kept q held r after (placeIn (done .highest)) m bytes' (block-finished format (machineAt q stores) position frames (eventsOf words) bytes size S reply (J (bankWith t) refl) f F (placeReply (placeIn (done .highest))) m bytes' z P refl B) R A next
         (N (m .bank) (ap (λ (s : Showing). s .threshold) (sym D)) ∙ ap (λ (s : Showing). stateOut (record { limiter = s .limiter; bank = m .bank })) D)

@@ -1,5 +1,5 @@
 -- No reply of a call has more than six values, so that the answer's words tell all of them.
-use Prim.Native.Nat.{_≤_}
+use Prim.Native.Nat.{ℕ, _≤_}
 use native.Mathlib.Omega.{arith}
 use lib.ListN.{length}
 use Rattle.limiter.specs.Prepare.{prepareReply}
@@ -8,6 +8,8 @@ use Rattle.bank.specs.Answers.{refusalReply, paramSetReply, bankValueReply}
 use Rattle.bank.specs.declared.param.BankRefusal.{BankRefusal}
 use Rattle.bank.specs.declared.smoother_bank.ParamSet.{ParamSet}
 use Rattle.bank.specs.declared.smoother_bank.BankValue.{BankValue}
+use Rattle.frame.specs.declared.highest.Seat.{Seat}
+use Rattle.turns.specs.Block.{placed}
 use Rattle.driver.specs.Answers.{setupReply, refusedBy, answerReply, flushReply, gainReplyOf}
 use Rattle.driver.specs.declared.answers.SetupAnswer.{SetupAnswer}
 use Rattle.driver.specs.declared.answers.Refusal.{Refusal}
@@ -65,3 +67,8 @@ pub value-few : (a : BankValue) → length (bankValueReply a .values) ≤ 6
 value-few (BankValue.Value v) = omega arith
 value-few BankValue.NotSetUp = omega arith
 value-few BankValue.UnknownParam = omega arith
+
+pub placed-few : (i : ℕ) (seat : Seat) → length (placed i seat .values) ≤ 6
+placed-few i Seat.Nowhere = omega arith
+placed-few i (Seat.OnSample c) = omega arith
+placed-few i (Seat.Between c phase) = omega arith

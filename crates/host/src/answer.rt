@@ -1,9 +1,10 @@
 // A call's reply as its number and the words of its values (specs/Answer.antt).
 ghost use mathlib.Core.Path.{_≡_};
 ghost use mathlib.Core.List.{[], _∷_};
-ghost use Rattle.arithmetic.specs.Reply.{refused, numbered, count};
+ghost use Rattle.arithmetic.specs.Reply.{finished, refused, numbered, count};
 ghost use Rattle.limiter.specs.Prepare.{prepareReply};
 ghost use Rattle.bank.specs.Answers.{refusalReply, paramSetReply, bankValueReply};
+ghost use Rattle.turns.specs.Block.{placed};
 ghost use Rattle.driver.specs.Answers.{setupReply, refusedBy, answerReply, flushReply, gainReplyOf};
 ghost use Rattle.host.specs.Answer.{replyWords, wordsOf, answered};
 use arithmetic::pattern::to_bits;
@@ -16,6 +17,7 @@ use driver::answers::FlushAnswer;
 use driver::answers::GainAnswer;
 use driver::answers::Refusal;
 use driver::answers::SetupAnswer;
+use frame::highest::Seat;
 use limiter::prepare::PrepareAnswer;
 use settings::accepted::refusal_number;
 
@@ -46,6 +48,21 @@ pub fn pair(number: u32, w0: u64, w1: u64) -> ReplyWords
         w1,
         w2: 0,
         w3: 0,
+        w4: 0,
+        w5: 0,
+    }
+}
+
+// Finished work with four counts.
+fn four(w0: u64, w1: u64, w2: u64, w3: u64) -> ReplyWords
+    ensures { λ r. ⌜ r ≡ replyWords (finished (count w0 ∷ count w1 ∷ count w2 ∷ count w3 ∷ [])) ⌝ }
+{
+    ReplyWords {
+        number: 0,
+        w0,
+        w1,
+        w2,
+        w3,
         w4: 0,
         w5: 0,
     }
@@ -106,6 +123,17 @@ pub fn of_answer(answer: Answer) -> ReplyWords
     match answer {
         Answer::Finished => bare(0),
         Answer::Refused(why) => of_refusal(why),
+    }
+}
+
+// Where a block's highest linked peak sat: 1 on a sample, 2 between two of them; the frame, the channel, the phase.
+pub fn of_place(frame: usize, seat: Seat) -> ReplyWords
+    ensures { λ r. ⌜ r ≡ replyWords (placed frame seat) ⌝ }
+{
+    match seat {
+        Seat::Nowhere => bare(0),
+        Seat::OnSample(channel) => four(1, frame as u64, channel as u64, 0),
+        Seat::Between { channel, phase } => { four(2, frame as u64, channel as u64, phase as u64) }
     }
 }
 

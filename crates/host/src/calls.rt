@@ -7,11 +7,13 @@ ghost use lib.Dec.{eqb};
 ghost use lib.Ieee.{Float};
 ghost use lib.ListN.{length};
 ghost use Rattle.arithmetic.specs.Number.{bits};
-ghost use Rattle.arithmetic.specs.Reply.{finished, refused, count};
+ghost use Rattle.arithmetic.specs.Reply.{refused, count};
 ghost use Rattle.settings.specs.Settings.{settingsOf, processSpec};
 ghost use Rattle.settings.specs.Derived.{lookOf};
 ghost use Rattle.limiter.specs.Stores.{Stores, atEntry, atExit};
+ghost use Rattle.frame.specs.Place.{placeIn};
 ghost use Rattle.turns.specs.Machine.{Machine};
+ghost use Rattle.turns.specs.Block.{placeReply};
 ghost use Rattle.bank.specs.declared.smoother_bank.SmootherBank.{SmootherBank};
 ghost use Rattle.driver.specs.Answers.{answerReply};
 ghost use Rattle.driver.specs.Parts.{shownOf};
@@ -24,6 +26,7 @@ use crate::answer::of_answer;
 use crate::answer::of_flush;
 use crate::answer::of_gain;
 use crate::answer::of_param;
+use crate::answer::of_place;
 use crate::answer::of_setup;
 use crate::answer::of_value;
 use crate::answer::pair;
@@ -97,12 +100,14 @@ fn refuse(buffer: &mut [u64], told: Answer) -> u32
 fn finish(state: &mut [u8], buffer: &mut [u64], done: RenderedBlock) -> u32
     requires { ⌜ length (now state) ≡ stateBytes ⌝ }
     ensures { λ r. ⌜ r ≡ 0 ⌝ }
-    ensures { λ _. ⌜ now (buffer .exit) ≡ answeredBy (now (buffer .entry)) (finished []) ⌝ }
+    ensures { λ _. ⌜ now (buffer .exit) ≡ answeredBy (now (buffer .entry)) (placeReply (placeIn (done .highest))) ⌝ }
     ensures { λ _. ⌜ ((b : SmootherBank) → shownOf b ≡ done .threshold → now (state .exit) ≡ stateOut (record { limiter = done .limiter; bank = b })) ⌝ }
 {
     let limiter = done.limiter;
     let t = done.threshold;
-    write_answer(buffer, pair(0, 0, 0));
+    let highest = done.highest;
+    let seat = highest.seat;
+    write_answer(buffer, of_place(highest.frame, seat));
     write_parts(state, limiter, t);
     0
 }

@@ -10,6 +10,8 @@ use borrow.Author.Tests.{eqb-true, eqb-false, eq-eqb, ne-eqb}
 use Rattle.arithmetic.specs.Number.{bits}
 use Rattle.arithmetic.specs.Reply.{Reply, refused, numbered, count}
 use Rattle.audio.specs.Format.{sizeOf}
+use Rattle.frame.specs.Run.{peaksOfFrames}
+use Rattle.frame.specs.Place.{placeOf}
 use Rattle.limiter.specs.Stores.{Stores}
 use Rattle.turns.specs.Machine.{Machine}
 use Rattle.turns.specs.Events.{eventsOf}
@@ -26,6 +28,7 @@ use Rattle.state_bytes.proofs.Banks.{events-fit}
 use Rattle.state_bytes.proofs.Kept.{block-storable, drain-storable, parameter-storable, reset-storable, gain-storable}
 use Rattle.host.specs.Host.{ReturnedAudio, returned, returnedWith, machineIn, calledBy, audioBy}
 use Rattle.claims.specs.Session.{bytesIn, limiting, called}
+use Rattle.turns.proofs.Told.{place-finished}
 use Rattle.host_claims.specs.HostSession.{HostCall, process, flush, setParameter, reset, claimed, toldBy, hostCalled, hosting}
 use Rattle.host_claims.specs.HostClaim.{Returns, CallReturns, HandedOn}
 
@@ -64,7 +67,8 @@ unfolding blockBy drainBy parameterOf resetOf
 refused-kept m (process format position frames words bytes) some =
     let events = eventsOf words in
     let r = blockReply m position frames events (sizeOf format bytes) in
-    kept (eqb (r .number) 0) (blockDone (renderedIn format m) format m position frames events bytes) r m bytes refl some
+    let done = blockDone (renderedIn format m) format m position frames events bytes in
+    kept (eqb (r .number) 0) done r m bytes (place-finished (placeOf (peaksOfFrames (done .frames)))) some
 refused-kept m (flush format frames bytes) some =
     let r = drainReply m frames (sizeOf format bytes) in
     kept (eqb (r .number) 0) (drainDone (renderedIn format m) format m frames bytes) r m bytes refl some

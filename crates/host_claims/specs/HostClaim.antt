@@ -75,7 +75,7 @@ module _ (l : Limiting) (host : Hosting) where
       let c = claimed call in
       let o = called l (machineIn state stores) c in
       let r = host .calls call answer state stores in
-      -- every sentence of the claim: reply, each frame's floor, tally, drops, mean, gain and outputs, the audio given out, the values
+      -- every sentence of the claim: reply, each frame's peak and where it sat, floor, tally, drops, mean, gain and outputs, the audio given out, the values
       CallHolds drops b (machineIn state stores) c o (enter b c) × (CallReturns call answer state stores o r × (HandedOn call answer state stores
       × HostHolds (dropsAfter drops c o) (enter b c .book) (r .result .state) (r .result .stores) later))
   HostHolds drops b state stores (reads answer id ∷ later) =

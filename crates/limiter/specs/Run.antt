@@ -12,7 +12,8 @@ use Rattle.envelope.specs.Step.{Enveloped}
 use Rattle.envelope.specs.declared.env.Envelope.{Envelope}
 use Rattle.frame.specs.Rules.{Rules}
 use Rattle.frame.specs.Frame.{Moving}
-use Rattle.frame.specs.Run.{RunDone, runOf, movingAt}
+use Rattle.frame.specs.Seat.{PeakAt}
+use Rattle.frame.specs.Run.{RunDone, framesOf, framesIn, peaksOfFrames, runOf, movingAt}
 use Rattle.limiter.specs.Stores.{Stores, storesAt, lengthsOf, lengthsFit}
 use Rattle.limiter.specs.Order.{prepared, inOrder}
 use Rattle.limiter.specs.declared.state.Limiter.{Limiter}
@@ -56,6 +57,11 @@ ranBy l weights target drained r = ranAt (movedOn l (envelopeOf (r .moving .env)
 unfoldable pub renderOf : Rules → Limiter → Float → ℕ → Stores → List Float → Ran
 renderOf rules l target n s audio =
     ranBy l (s .weights) target 0 (runOf rules (s .weights) (l .«release_coeff») (l .env .keeper .look) target (l .channels) n (movingOf l s) audio)
+
+-- the linked peaks of the run's frames, and where they sat
+abbrev pub peaksIn : Rules → Limiter → Float → ℕ → Stores → List Float → List PeakAt
+peaksIn rules l target n s audio =
+    peaksOfFrames (framesOf rules (s .weights) (l .«release_coeff») (l .env .keeper .look) target (movingOf l s) (framesIn (l .channels) n audio) .frames)
 
 -- with another drained count
 abbrev pub drainedTo : Ran → ℕ → Ran

@@ -1,16 +1,25 @@
 // A run of up to 32 frames through the limiter (`render` and `flush` of limiter.rs). Its audio has 32
 // places a channel, and each sample gives way to its output.
 ghost use mathlib.Core.Path.{_≡_};
-ghost use Prim.Native.Nat.{_+_};
+ghost use Prim.Native.Nat.{_+_, _≤_};
 ghost use Rattle.frame.specs.Rules.{rulesOf};
 ghost use Rattle.frame.specs.Run.{Sanitized};
 ghost use Rattle.limiter.specs.Stores.{atEntry, atExit, atCall};
-ghost use Rattle.limiter.specs.Run.{movedOn, KernelReady, ranAt, renderOf, drainOf};
+ghost use Rattle.frame.specs.Place.{highestFrom};
+ghost use Rattle.limiter.specs.Run.{movedOn, KernelReady, ranAt, renderOf, drainOf, peaksIn};
 use crate::state::Limiter;
 use crate::stores::fill;
 use audio::format::Format;
+use frame::highest::Highest;
+use frame::highest::out_of_reach;
 use frame::render::Rendered;
 use frame::render::render_run;
+
+// What a run leaves beside audio and stores: the limiter, and the highest linked peak so far of its block.
+pub struct Moved {
+    pub limiter: Limiter,
+    pub highest: Highest,
+}
 
 impl Limiter {
     // The state after a run.
@@ -39,7 +48,8 @@ impl Limiter {
         self
     }
 
-    // Renders n frames of sanitized samples at a target, which the limiter keeps for drains.
+    // Renders n frames of sanitized samples at a target, which the limiter keeps for drains. The first of them is
+    // frame `first` of its block, whose highest linked peak so far is `best`.
     pub fn render(
         self,
         format: Format,
@@ -52,11 +62,16 @@ impl Limiter {
         weights: &[f64],
         row: &mut [f64],
         detector: &mut [f64],
-    ) -> Limiter
+        first: usize,
+        best: Highest,
+    ) -> Moved
         requires { ⌜ KernelReady self n (atCall delay marks minima weights row detector) (now audio) ⌝ }
         requires { ⌜ Sanitized (self .channels) n (now audio) ⌝ }
-        ensures { λ r. ⌜ ranAt r (atExit delay marks minima weights row detector) (now (audio .exit))
+        requires { ⌜ first ≤ 65536 ⌝ }
+        ensures { λ r. ⌜ ranAt (r .limiter) (atExit delay marks minima weights row detector) (now (audio .exit))
             ≡ renderOf (rulesOf (self .settings) format) self target n (atEntry delay marks minima weights row detector) (now (audio .entry)) ⌝ }
+        ensures { λ r. ⌜ r .highest
+            ≡ highestFrom first best (peaksIn (rulesOf (self .settings) format) self target n (atEntry delay marks minima weights row detector) (now (audio .entry))) ⌝ }
     {
         let settings = self.settings;
         let env = self.env;
@@ -69,6 +84,8 @@ impl Limiter {
             self.channels,
             env.keeper.look,
             self.delay_pos,
+            first,
+            best,
             n,
             audio,
             delay,
@@ -78,10 +95,12 @@ impl Limiter {
             row,
             detector,
         );
-        self.moved_on(run, target, 0)
+        let highest = run.highest;
+        let limiter = self.moved_on(run, target, 0);
+        Moved { limiter, highest }
     }
 
-    // Drains n frames of the tail: silence at the kept target.
+    // Drains n frames of the tail: silence at the kept target. Nobody asks where its peaks sat.
     pub fn drain(
         self,
         format: Format,
@@ -111,7 +130,10 @@ impl Limiter {
             weights,
             row,
             detector,
+            0,
+            out_of_reach(),
         );
-        after.drained_to(drained)
+        let limiter = after.limiter;
+        limiter.drained_to(drained)
     }
 }

@@ -2,15 +2,39 @@
 ghost use mathlib.Core.Path.{_≡_};
 ghost use lib.ListN.{length};
 ghost use Rattle.detector.specs.Taps.{taps};
-ghost use Rattle.detector.specs.Oversample.{pushedAt, peakAbsOf};
+ghost use Rattle.arithmetic.specs.Number.{bits};
+ghost use Rattle.detector.specs.Oversample.{peakAbsOf};
 ghost use Rattle.detector.specs.Run.{pushesAt, peaksAbsOf};
+ghost use Rattle.probe.specs.Out.{phaseWord};
+use detector::answer::Phase;
 
 // One push into a lent store of 12 samples.
 #[no_mangle]
 pub extern "C" fn probe_peak_abs(store: &mut [f64], x: f64) -> f64
-    ensures { λ r. ⌜ pushedAt r (now (store .exit)) ≡ peakAbsOf taps (now (store .entry)) x ⌝ }
+    ensures { λ r. ⌜ r ≡ peakAbsOf taps (now (store .entry)) x .peak ⌝ }
+    ensures { λ _. ⌜ now (store .exit) ≡ peakAbsOf taps (now (store .entry)) x .store ⌝ }
 {
     detector::oversample::peak_abs(store, x).peak
+}
+
+fn phase_word(phase: Phase) -> u64
+    ensures { λ r. ⌜ r ≡ phaseWord phase ⌝ }
+{
+    match phase {
+        Phase::Nowhere => 4,
+        Phase::At(p) => p as u64,
+    }
+}
+
+// The phase of one push of a sample, which comes as its bits: 4 where there is none.
+#[no_mangle]
+pub extern "C" fn probe_peak_phase(store: &mut [f64], x: u64) -> u64
+    ensures { λ r. ⌜ r ≡ phaseWord (peakAbsOf taps (now (store .entry)) (bits x) .phase) ⌝ }
+    ensures { λ _. ⌜ now (store .exit) ≡ peakAbsOf taps (now (store .entry)) (bits x) .store ⌝ }
+{
+    let answer = detector::oversample::peak_abs(store, arithmetic::pattern::from_bits(x));
+    let phase = answer.phase;
+    phase_word(phase)
 }
 
 fn copy_run(samples: &[f64], run: &mut [f64])

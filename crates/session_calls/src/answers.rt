@@ -2,9 +2,11 @@
 use arithmetic::pattern::to_bits;
 use bank::smoother_bank::BankValue;
 use bank::smoother_bank::ParamSet;
+use driver::answers::BlockAnswer;
 use driver::answers::FlushAnswer;
 use driver::answers::GainAnswer;
 use driver::answers::SetupAnswer;
+use frame::highest::Seat;
 use limiter::prepare::PrepareAnswer;
 use records::words::next;
 
@@ -19,6 +21,57 @@ pub fn is_set_up(answer: SetupAnswer) -> bool {
     match answer {
         SetupAnswer::Limiter(a) => is_prepared(a),
         _ => false,
+    }
+}
+
+// Where a block's highest linked peak sat, as the file has it: 0 nowhere, 1 on a sample, 2 between two; the frame, the
+// channel, the phase.
+struct Place {
+    kind: u64,
+    frame: u64,
+    channel: u64,
+    phase: u64,
+}
+
+fn recorded_place(fd: i32) -> Place {
+    let kind = next(fd).word;
+    let frame = next(fd).word;
+    let channel = next(fd).word;
+    let phase = next(fd).word;
+    Place {
+        kind,
+        frame,
+        channel,
+        phase,
+    }
+}
+
+fn seat_same(frame: usize, seat: Seat, due: Place) -> bool {
+    match seat {
+        Seat::Nowhere => due.kind == 0,
+        Seat::OnSample(channel) => {
+            (due.kind == 1) & (frame as u64 == due.frame) & (channel as u64 == due.channel)
+        }
+        Seat::Between { channel, phase } => {
+            (due.kind == 2)
+                & (frame as u64 == due.frame)
+                & (channel as u64 == due.channel)
+                & (phase as u64 == due.phase)
+        }
+    }
+}
+
+// A block is finished, its outputs have the recorded digest, and its highest peak sat where it was recorded.
+pub fn block_same(fd: i32, answer: BlockAnswer, digest: u64) -> bool {
+    let digested = digest == next(fd).word;
+    let due = recorded_place(fd);
+    digested & placed_same(answer, due)
+}
+
+fn placed_same(answer: BlockAnswer, due: Place) -> bool {
+    match answer {
+        BlockAnswer::Finished { frame, seat } => seat_same(frame, seat, due),
+        BlockAnswer::Refused(_) => false,
     }
 }
 

@@ -103,7 +103,7 @@ fn process(
     );
     let answer = done.answer;
     let digest = samples::digest(audio, format, frames, frames);
-    let same = answer.is_finished() & (digest == next(fd).word);
+    let same = answers::block_same(fd, answer, digest);
     let processor = done.processor;
     Played { processor, x, same }
 }

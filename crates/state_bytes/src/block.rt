@@ -3,6 +3,8 @@
 ghost use mathlib.Core.Path.{_≡_};
 ghost use Rattle.limiter.specs.Stores.{atEntry, atExit, atCall};
 ghost use Rattle.turns.specs.Machine.{machineOf};
+ghost use Rattle.frame.specs.Place.{placeIn};
+ghost use Rattle.turns.specs.Block.{placeReply};
 ghost use Rattle.turns.specs.Inner.{BlockAsked, driven};
 ghost use Rattle.driver.specs.Parts.{bankWith};
 ghost use Rattle.state_bytes.specs.Shown.{showing, renderedAt};
@@ -11,6 +13,7 @@ use bank::smoother::Smoother;
 use bank::smoother_bank::SmootherBank;
 use driver::ready::shown;
 use driver::state::Threshold;
+use frame::highest::Highest;
 use limiter::state::Limiter;
 use turns::drive::drive;
 
@@ -18,6 +21,8 @@ use turns::drive::drive;
 pub struct RenderedBlock {
     pub limiter: Limiter,
     pub threshold: Threshold,
+    // its highest linked peak
+    pub highest: Highest,
 }
 
 // The bank that shows this and holds no other parameter.
@@ -57,6 +62,9 @@ pub fn render_block(
     ensures { λ _. ⌜ now (audio .exit)
         ≡ driven format (machineOf l (bankWith t) (atEntry delay marks minima weights row detector)) position frames
         (now (events .entry)) (now (audio .entry)) .bytes ⌝ }
+    ensures { λ r. ⌜ placeReply (placeIn (r .highest))
+        ≡ driven format (machineOf l (bankWith t) (atEntry delay marks minima weights row detector)) position frames
+        (now (events .entry)) (now (audio .entry)) .reply ⌝ }
 {
     let left = drive(
         l,
@@ -75,8 +83,10 @@ pub fn render_block(
     );
     let limiter = left.limiter;
     let bank = left.bank;
+    let highest = left.highest;
     RenderedBlock {
         limiter,
         threshold: shown(bank),
+        highest,
     }
 }

@@ -15,13 +15,16 @@ use Rattle.audio.proofs.Written.{written-bytes-none, written-bytes-size, sample
 use Rattle.detector.specs.Run.{runLength}
 use Rattle.frame.specs.Rules.{rulesOf}
 use Rattle.frame.specs.Frame.{Framed}
+use Rattle.frame.specs.Run.{peaksOfFrames}
+use Rattle.frame.specs.Place.{placeOf, noPeak, placeIn}
+use Rattle.frame.proofs.Found.{SoFar, so-far-start, so-far-more, so-far-done}
 use Rattle.bank.specs.declared.smoother_bank.SmootherBank.{SmootherBank}
 use Rattle.turns.specs.Machine.{Machine, machineOf}
 use Rattle.turns.specs.Events.{Event, eventsOf, latchedAll}
-use Rattle.turns.specs.Block.{Renderer, rendered, renderedIn, runAt, runsFrom, runsOf, Turn, turnBy, RunsLeft, runsThrough, outputsOf}
+use Rattle.turns.specs.Block.{Renderer, rendered, renderedIn, runAt, runsFrom, runsOf, Turn, turnBy, RunsLeft, runsThrough, outputsOf, placeReply}
 use Rattle.turns.specs.Inner.{waitingAt, RunsReady, framesLeft, standsAt, turnAt, TurnAsked, TurnGiven, BlockAsked, driven}
 use Rattle.turns.specs.declared.turn.Unfinished.{Unfinished}
-use Rattle.turns.proofs.Rendering.{shown-many, channels-kept, settings-kept, audio-small}
+use Rattle.turns.proofs.Rendering.{shown-many, shown-from-zero, channels-kept, settings-kept, audio-small}
 
 -- frames shown before what later runs leave
 abbrev pub joined : List Framed → RunsLeft → RunsLeft
@@ -74,6 +77,7 @@ module _ (format : Format) (position frames : ℕ) (words bytes₀ : List ℕ) (
     -- what the frames so far showed
     pub shown : List Framed
     pub many : length shown ≡ block .rendered
+    pub so-far : SoFar (block .highest) shown
     pub most : ℕ
     pub enough : frames - block .rendered ≤ most
     pub inside : block .rendered ≤ frames
@@ -86,10 +90,10 @@ module _ (format : Format) (position frames : ℕ) (words bytes₀ : List ℕ) (
     pub run-fit : length run ≡ 8 * runLength
 
   -- ---- from the start
-  pub driving-start : (run : List Float) → length run ≡ 8 * runLength → BlockAsked m₀ format position frames bytes₀ → (block : Unfinished) → block ≡ record { position = position; frames = frames; rendered = 0; latched = 0 } → Driving block m₀ bytes₀ run
+  pub driving-start : (run : List Float) → length run ≡ 8 * runLength → BlockAsked m₀ format position frames bytes₀ → (block : Unfinished) → block ≡ record { position = position; frames = frames; rendered = 0; latched = 0; highest = noPeak } → Driving block m₀ bytes₀ run
   driving-start run fit a block E = subst (λ (b : Unfinished). Driving b m₀ bytes₀ run) (sym E) start
     where
-      start : Driving (record { position = position; frames = frames; rendered = 0; latched = 0 }) m₀ bytes₀ run
+      start : Driving (record { position = position; frames = frames; rendered = 0; latched = 0; highest = noPeak }) m₀ bytes₀ run
       start =
           let e : position + 0 ≡ position = omega arith in
           let f : frames - 0 ≡ frames = omega arith in
@@ -99,6 +103,7 @@ module _ (format : Format) (position frames : ℕ) (words bytes₀ : List ℕ) (
             frames-is = refl;
             shown = [];
             many = refl;
+            so-far = so-far-start;
             most = frames;
             enough = omega arith;
             inside = omega arith;
@@ -194,6 +199,7 @@ module _ (format : Format) (position frames : ℕ) (words bytes₀ : List ℕ) (
             frames-is = r .frames-is ∙ d .frames-is;
             shown = d .shown ++ turn .frames;
             many = length-append (d .shown) (turn .frames) ∙ rw (d .many, turn-many) (sym e);
+            so-far = so-far-more (block .highest) (next .highest) (d .shown) (turn .frames) first (d .so-far) (d .many) (r .highest-is) (shown-from-zero (rulesOf (m .limiter .settings) format) (m .limiter) _ (m .stores) gs);
             most = d .most - 1;
             enough = omega (arith, e, d .enough, run-inside .0);
             inside = omega (arith, e, run-inside .2);
@@ -233,6 +239,11 @@ module _ (format : Format) (position frames : ℕ) (words bytes₀ : List ℕ) (
 
     pub driven-machine : machineOf (m .limiter) bank (m .stores) ≡ driven format m₀ position frames words bytes₀ .machine
     driven-machine = ap (λ (r : RunsLeft). r .machine) last
+
+    pub driven-place : placeReply (placeIn (block .highest)) ≡ driven format m₀ position frames words bytes₀ .reply
+    driven-place =
+        ap placeReply (so-far-done (block .highest) (d .shown) (d .so-far))
+        ∙ ap (λ (l : List Framed). placeReply (placeOf (peaksOfFrames l))) (sym (append-nil (d .shown)) ∙ ap (λ (r : RunsLeft). r .frames) last)
 
     pub driven-audio : bytes ≡ driven format m₀ position frames words bytes₀ .bytes
     driven-audio =

@@ -5,5 +5,6 @@ pub mod Rendering
 pub mod Turning
 pub mod Driving
 pub mod Still
+pub mod Told
 pub mod Draining
 pub mod Wrong

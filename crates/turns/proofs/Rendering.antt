@@ -19,13 +19,16 @@ use Rattle.detector.specs.Run.{runLength}
 use Rattle.keeper.specs.InOrder.{mostFrames}
 use Rattle.frame.specs.Rules.{Rules, rulesOf}
 use Rattle.frame.specs.Frame.{Framed}
-use Rattle.frame.specs.Run.{framesIn, writtenIn, Sanitized, runOf}
+use Rattle.frame.specs.Run.{framesIn, peaksOfFrames, writtenIn, Sanitized, runOf}
+use Rattle.frame.specs.Place.{highestFrom}
+use Rattle.frame.specs.declared.highest.Highest.{Highest}
 use Rattle.frame.proofs.Clean.{frames-clean}
 use Rattle.frame.proofs.Keeps.{frames-kept, frames-many}
 use Rattle.frame.proofs.Held.{run-held}
+use Rattle.frame.proofs.Found.{peaksFromZero, frames-from-zero}
 use Rattle.limiter.specs.Stores.{Stores, lengthsOf, lengthsFit}
 use Rattle.limiter.specs.Order
-use Rattle.limiter.specs.Run.{movingOf, Ran, ranAt, renderOf, KernelReady}
+use Rattle.limiter.specs.Run.{movingOf, Ran, ranAt, renderOf, peaksIn, KernelReady}
 use Rattle.limiter.specs.declared.state.Limiter.{Limiter}
 use Rattle.limiter.proofs.Frames.{bounds-of}
 use Rattle.limiter.proofs.Keeping.{render-prepared, render-lengths, render-in-order}
@@ -38,6 +41,15 @@ pub ran-as : (rules : Rules) (l : Limiter) (target : Float) (n : ℕ) (s : Store
     → (let r = rendered rules l s target (framesIn (l .channels) n run) in renderOf rules l target n s run ≡ ranAt (r .limiter) (r .stores) (writtenIn (l .channels) n run (outputsOf (r .frames))))
 unfolding renderOf runOf rendered
 ran-as rules l target n s run = refl
+
+pub shows-peaks : (rules : Rules) (l : Limiter) (target : Float) (n : ℕ) (s : Stores) (run : List Float) → peaksIn rules l target n s run ≡ peaksOfFrames (rendered rules l s target (framesIn (l .channels) n run) .frames)
+unfolding rendered
+shows-peaks rules l target n s run = refl
+
+-- none of them is below 0
+pub shown-from-zero : (rules : Rules) (l : Limiter) (target : Float) (s : Stores) (fs : List (List Float)) → peaksFromZero (peaksOfFrames (rendered rules l s target fs .frames)) ≡ true
+unfolding rendered
+shown-from-zero rules l target s fs = frames-from-zero rules (s .weights) (l .«release_coeff») (l .env .keeper .look) target (movingOf l s) fs
 
 -- as many are shown as there are frames
 pub shown-many : (rules : Rules) (l : Limiter) (target : Float) (s : Stores) (fs : List (List Float)) → length (rendered rules l s target fs .frames) ≡ length fs
@@ -106,7 +118,7 @@ pub run-clean : (l : Limiter) (format : Format) (target : Float) (width first n 
 run-clean l format target width first n s bytes run₀ run a g =
     gathered-clean format (l .channels) n width first bytes run₀ run (a .lends .audio-fit) (audio-small l width (a .ready .set-up) (a .lends .short)) (a .inside) g
 
-module _ (l : Limiter) (format : Format) (target : Float) (width first n : ℕ) (s : Stores) (bytes : List ℕ) (run₀ run run' : List Float) (bytes' : List ℕ) (after : Limiter) (stores : Stores) where
+module _ (l : Limiter) (format : Format) (target : Float) (width first n : ℕ) (s : Stores) (bytes : List ℕ) (run₀ run run' : List Float) (bytes' : List ℕ) (after : Limiter) (stores : Stores) (best highest : Highest) where
   abbrev rules : Rules
   rules = rulesOf (l .settings) format
 
@@ -121,8 +133,9 @@ module _ (l : Limiter) (format : Format) (target : Float) (width first n : ℕ) 
       ∙ rendered-clean rules l target s frames
 
   pub run-given : RunAsked l format target width first n s bytes run₀ → length run ≡ length run₀ → PlacesCarried nan (l .channels) n width first (soundsOf format bytes) runLength 0 run₀ run
-      → ranAt after stores run' ≡ renderOf rules l target n s run → Placed format (l .channels) n width first (framesIn (l .channels) n run') bytes bytes' → RunGiven l format target width first n s bytes run₀ after stores bytes' run'
-  run-given a m g r c =
+      → ranAt after stores run' ≡ renderOf rules l target n s run → highest ≡ highestFrom first best (peaksIn rules l target n s run) → Placed format (l .channels) n width first (framesIn (l .channels) n run') bytes bytes'
+      → RunGiven l format target width first n s bytes run₀ after stores bytes' run' best highest
+  run-given a m g r h c =
       let same = alike g in
       let k = kernel-asks l n s run (a .ready) (a .some) (a .short) (m ∙ a .run-fit) in
       let e = r ∙ ran-as rules l target n s run in
@@ -139,5 +152,6 @@ module _ (l : Limiter) (format : Format) (target : Float) (width first n : ℕ) 
             ap (λ (z : Ran). z .audio) e
             ∙ ap (λ (z : Rendered). writtenIn (l .channels) n run (outputsOf (z .frames))) same
             ∙ written-elsewhere nan runLength (l .channels) n run run₀ (outputsOf (rendered rules l s target frames .frames)) (a .short) m (λ p h. g .elsewhere p (λ c q t. omega (arith, h c q (omega (arith, t)))));
+        highest-is = h ∙ ap (highestFrom first best) (shows-peaks rules l target n s run) ∙ ap (λ (z : Rendered). highestFrom first best (peaksOfFrames (z .frames))) same;
         still = λ left room. subst (λ (z : Ran). RunsReady (z .limiter) left (z .stores)) (sym e) (still-ready rules l target n s run k (a .unit) left room);
       }

@@ -8,9 +8,12 @@ use lib.Dec.{eqb, ltb}
 use lib.ListN.{length}
 use lib.Ieee.{Float}
 use borrow.Author.Tests.{ltb-true}
+use Rattle.arithmetic.specs.Reply.{Reply}
 use Rattle.arithmetic.proofs.Order.{and-true}
 use Rattle.audio.specs.declared.format.Format.{Format}
 use Rattle.detector.specs.Run.{runLength}
+use Rattle.frame.specs.Place.{noPeak, placeIn}
+use Rattle.frame.specs.declared.highest.Highest.{Highest}
 use Rattle.limiter.specs.Stores.{Stores}
 use Rattle.limiter.specs.declared.state.Limiter.{Limiter}
 use Rattle.settings.specs.Target.{targetOf}
@@ -20,11 +23,11 @@ use Rattle.bank.specs.Bank.{allChanged}
 use Rattle.bank.specs.declared.smoother_bank.SmootherBank.{SmootherBank}
 use Rattle.turns.specs.Machine.{Machine, machineOf, thresholdOf}
 use Rattle.turns.specs.Events.{Event, eventsFrom, eventsOf, latched, latchedAll}
-use Rattle.turns.specs.Block.{renderedIn, period, runAt, blockDone, Outcome}
+use Rattle.turns.specs.Block.{renderedIn, period, runAt, blockDone, Outcome, placeReply}
 use Rattle.turns.specs.Inner.{waitingAt, beforeRun, RunAsked, RunGiven, TurnAsked, TurnGiven, BlockAsked, driven}
 use Rattle.turns.specs.declared.turn.Unfinished.{Unfinished}
 use Rattle.turns.proofs.Turning.{turn-inside, turn-asks, turn-given}
-use Rattle.turns.proofs.Driving.{Driving, driving-start, driving-asks, driving-more, driven-machine, driven-audio}
+use Rattle.turns.proofs.Driving.{Driving, driving-start, driving-asks, driving-more, driven-machine, driven-place, driven-audio}
 
 -- ---- words too few for an event
 none-in : (words : List ℕ) → length words < 3 → eventsOf [] ≡ eventsOf words
@@ -46,6 +49,9 @@ module _ (format : Format) (m : Machine) (position frames : ℕ) (words bytes : 
   pub same-bytes : (bytes' : List ℕ) → bytes' ≡ driven format m position frames [] bytes .bytes → bytes' ≡ driven format m position frames words bytes .bytes
   same-bytes bytes' e = e ∙ ap (λ (o : Outcome). o .bytes) no-events
 
+  pub same-reply : (reply : Reply) → reply ≡ driven format m position frames [] bytes .reply → reply ≡ driven format m position frames words bytes .reply
+  same-reply reply e = e ∙ ap (λ (o : Outcome). o .reply) no-events
+
 -- ---- a bank that a step leaves alone
 module _ (b : SmootherBank) (still : allChanged stepped b ≡ b) where
   same-bank : (t : Bool) → b ≡ cond t (allChanged stepped b) b
@@ -60,50 +66,53 @@ module _ (b : SmootherBank) (still : allChanged stepped b ≡ b) where
 -- ---- the turns
 module _ (format : Format) (position frames : ℕ) (bytes₀ : List ℕ) (m₀ : Machine) where
   -- so many of its frames are rendered
-  abbrev pub block : ℕ → Unfinished
-  block first = record { position = position; frames = frames; rendered = first; latched = 0 }
+  abbrev pub block : ℕ → Highest → Unfinished
+  block first highest = record { position = position; frames = frames; rendered = first; latched = 0; highest = highest }
 
   -- the frames shown so far and what the rest of the runs makes of limiter and stores now are the whole, beside the bank as it was
-  abbrev pub Going : ℕ → Limiter → Stores → List ℕ → List Float → Type 0
-  Going first l s bytes run = Driving format position frames [] bytes₀ m₀ (block first) (machineOf l (m₀ .bank) s) bytes run
+  abbrev pub Going : ℕ → Highest → Limiter → Stores → List ℕ → List Float → Type 0
+  Going first h l s bytes run = Driving format position frames [] bytes₀ m₀ (block first h) (machineOf l (m₀ .bank) s) bytes run
 
-  pub going-start : (run : List Float) → length run ≡ 8 * runLength → BlockAsked m₀ format position frames bytes₀ → Going 0 (m₀ .limiter) (m₀ .stores) bytes₀ run
-  going-start run fit a = driving-start format position frames [] bytes₀ m₀ run fit a (block 0) refl
+  pub going-start : (run : List Float) → length run ≡ 8 * runLength → BlockAsked m₀ format position frames bytes₀ → (h : Highest) → h ≡ noPeak → Going 0 h (m₀ .limiter) (m₀ .stores) bytes₀ run
+  going-start run fit a h e = driving-start format position frames [] bytes₀ m₀ run fit a (block 0 h) (ap (block 0) e)
 
   module _ (asked : BlockAsked m₀ format position frames bytes₀) (target : Float) (T : target ≡ targetOf (thresholdOf (m₀ .bank) .cur) (m₀ .limiter .settings .«true_peak_margin_db»))
-      (first : ℕ) (l : Limiter) (s : Stores) (bytes : List ℕ) (run : List Float) (d : Going first l s bytes run) (more : first < frames) (n : ℕ) (N : n ≡ runAt (position + first) (frames - first)) where
+      (first : ℕ) (h : Highest) (l : Limiter) (s : Stores) (bytes : List ℕ) (run : List Float) (d : Going first h l s bytes run) (more : first < frames) (n : ℕ) (N : n ≡ runAt (position + first) (frames - first)) where
     abbrev m : Machine
     m = machineOf l (m₀ .bank) s
 
-    asks : TurnAsked m (block first) format [] bytes run
-    asks = driving-asks format position frames [] bytes₀ m₀ asked (block first) m bytes run d more
+    asks : TurnAsked m (block first h) format [] bytes run
+    asks = driving-asks format position frames [] bytes₀ m₀ asked (block first h) m bytes run d more
 
     target-is : target ≡ targetOf (thresholdOf (m₀ .bank) .cur) (l .settings .«true_peak_margin_db»)
     target-is = T ∙ ap (λ (z : LimiterSettings). targetOf (thresholdOf (m₀ .bank) .cur) (z .«true_peak_margin_db»)) (sym (d .settings-are))
 
     pub going-inside : (1 ≤ n) × (n ≤ runLength) × (first + n ≤ frames)
-    going-inside = turn-inside m (block first) format [] bytes run asks n N
+    going-inside = turn-inside m (block first h) format [] bytes run asks n N
 
     pub going-asks : RunAsked l format target frames first n s bytes run
-    going-asks = turn-asks m (block first) format [] bytes run asks n N target (thresholdOf (m₀ .bank) .cur) (l .settings .«true_peak_margin_db») target-is
+    going-asks = turn-asks m (block first h) format [] bytes run asks n N target (thresholdOf (m₀ .bank) .cur) (l .settings .«true_peak_margin_db») target-is
 
-    module _ (still : allChanged stepped (m₀ .bank) ≡ m₀ .bank) (after : Limiter) (stores : Stores) (bytes' : List ℕ) (run' : List Float) (r : RunGiven l format target frames first n s bytes run after stores bytes' run') (R : length run' ≡ length run) where
+    module _ (still : allChanged stepped (m₀ .bank) ≡ m₀ .bank) (after : Limiter) (stores : Stores) (bytes' : List ℕ) (run' : List Float) (g : Highest) (r : RunGiven l format target frames first n s bytes run after stores bytes' run' h g) (R : length run' ≡ length run) where
       -- a run of frames at this target is a turn
-      given : TurnGiven m (block first) format [] bytes run (machineOf after (m₀ .bank) stores) (block (first + n)) bytes' run'
+      given : TurnGiven m (block first h) format [] bytes run (machineOf after (m₀ .bank) stores) (block (first + n) g) bytes' run'
       given =
-          turn-given m (block first) format [] bytes run asks n N (record { bank = m₀ .bank; cursor = 0 }) (still-before (m₀ .bank) still (position + first) first) (omega arith) target target-is after stores bytes' run' r
+          turn-given m (block first h) format [] bytes run asks n N (record { bank = m₀ .bank; cursor = 0 }) (still-before (m₀ .bank) still (position + first) first) (omega arith) target target-is after stores bytes' run' g r
 
-      pub going-more : Going (first + n) after stores bytes' run'
-      going-more = driving-more format position frames [] bytes₀ m₀ asked (block first) m bytes run d more (machineOf after (m₀ .bank) stores) (block (first + n)) bytes' run' given R
+      pub going-more : Going (first + n) g after stores bytes' run'
+      going-more = driving-more format position frames [] bytes₀ m₀ asked (block first h) m bytes run d more (machineOf after (m₀ .bank) stores) (block (first + n) g) bytes' run' given R
 
   -- ---- to the end
-  module _ (first : ℕ) (l : Limiter) (s : Stores) (bytes : List ℕ) (run : List Float) (d : Going first l s bytes run) (done : frames ≤ first) where
+  module _ (first : ℕ) (h : Highest) (l : Limiter) (s : Stores) (bytes : List ℕ) (run : List Float) (d : Going first h l s bytes run) (done : frames ≤ first) where
     none-left : m₀ .bank ≡ latchedAll (waitingAt [] 0) (m₀ .bank)
     unfolding latchedAll eventsFrom
     none-left = refl
 
     pub gone-machine : machineOf l (m₀ .bank) s ≡ driven format m₀ position frames [] bytes₀ .machine
-    gone-machine = driven-machine format position frames [] bytes₀ m₀ (block first) (machineOf l (m₀ .bank) s) bytes run d done (m₀ .bank) none-left
+    gone-machine = driven-machine format position frames [] bytes₀ m₀ (block first h) (machineOf l (m₀ .bank) s) bytes run d done (m₀ .bank) none-left
+
+    pub gone-place : placeReply (placeIn h) ≡ driven format m₀ position frames [] bytes₀ .reply
+    gone-place = driven-place format position frames [] bytes₀ m₀ (block first h) (machineOf l (m₀ .bank) s) bytes run d done (m₀ .bank) none-left
 
     pub gone-audio : bytes ≡ driven format m₀ position frames [] bytes₀ .bytes
-    gone-audio = driven-audio format position frames [] bytes₀ m₀ (block first) (machineOf l (m₀ .bank) s) bytes run d done (m₀ .bank) none-left
+    gone-audio = driven-audio format position frames [] bytes₀ m₀ (block first h) (machineOf l (m₀ .bank) s) bytes run d done (m₀ .bank) none-left

@@ -15,7 +15,9 @@ use Rattle.limiter.specs.declared.state.Limiter.{Limiter}
 use Rattle.settings.specs.Target.{targetOf}
 use Rattle.settings.proofs.Unit.{target-unit}
 use Rattle.bank.specs.declared.smoother_bank.SmootherBank.{SmootherBank}
-use Rattle.frame.specs.Run.{writtenIn}
+use Rattle.frame.specs.Run.{peaksOfFrames, writtenIn}
+use Rattle.frame.specs.Place.{highestFrom}
+use Rattle.frame.specs.declared.highest.Highest.{Highest}
 use Rattle.turns.specs.Machine.{Machine, machineOf, thresholdOf}
 use Rattle.turns.specs.Events.{Latched}
 use Rattle.turns.specs.Block.{renderedIn, runAt, outputsOf}
@@ -40,8 +42,8 @@ module _ (m : Machine) (block : Unfinished) (format : Format) (words bytes : Lis
   }
 
   module _ (l : LatchedTo) (B : latchedAt l words ≡ beforeRun (standsAt block) (block .rendered) (waitingAt words (block .latched)) (m .bank)) (few : l .cursor ≤ length words / 3)
-      (target : Float) (T : target ≡ targetOf (thresholdOf (l .bank) .cur) (m .limiter .settings .«true_peak_margin_db»)) (after : Limiter) (stores : Stores) (bytes' : List ℕ) (run' : List Float)
-      (r : RunGiven (m .limiter) format target (block .frames) (block .rendered) n (m .stores) bytes run after stores bytes' run') where
+      (target : Float) (T : target ≡ targetOf (thresholdOf (l .bank) .cur) (m .limiter .settings .«true_peak_margin_db»)) (after : Limiter) (stores : Stores) (bytes' : List ℕ) (run' : List Float) (highest : Highest)
+      (r : RunGiven (m .limiter) format target (block .frames) (block .rendered) n (m .stores) bytes run after stores bytes' run' (block .highest) highest) where
     abbrev now : SmootherBank
     now = beforeRun (standsAt block) (block .rendered) (waitingAt words (block .latched)) (m .bank) .bank
 
@@ -63,7 +65,10 @@ module _ (m : Machine) (block : Unfinished) (format : Format) (words bytes : Lis
     abbrev RunOut : ℕ → Float → Type 0
     RunOut i x = run' ≡ writtenIn (m .limiter .channels) i run (outputsOf (renderedIn format m (m .limiter) (m .stores) x (frames i) .frames))
 
-    pub turn-given : TurnGiven m block format words bytes run (machineOf after (l .bank) stores) (record { position = block .position; frames = block .frames; rendered = block .rendered + n; latched = l .cursor }) bytes' run'
+    abbrev High : ℕ → Float → Type 0
+    High i x = highest ≡ highestFrom (block .rendered) (block .highest) (peaksOfFrames (renderedIn format m (m .limiter) (m .stores) x (frames i) .frames))
+
+    pub turn-given : TurnGiven m block format words bytes run (machineOf after (l .bank) stores) (record { position = block .position; frames = block .frames; rendered = block .rendered + n; latched = l .cursor; highest = highest }) bytes' run'
     turn-given = record {
       machine-is = rw (r .limiter-is, r .stores-are, target-is, bank-is, N) refl;
       waiting-is = ap (λ (x : Latched). x .waiting) B;
@@ -71,6 +76,7 @@ module _ (m : Machine) (block : Unfinished) (format : Format) (words bytes : Lis
       position-is = refl;
       frames-is = refl;
       rendered-is = ap (λ (i : ℕ). block .rendered + i) N;
+      highest-is = subst (λ (i : ℕ). High i due) N (subst (λ (x : Float). High n x) target-is (r .highest-is));
       audio-is = subst (λ (i : ℕ). Out i due) N (subst (λ (x : Float). Out n x) target-is (r .audio-is));
       run-is = subst (λ (i : ℕ). RunOut i due) N (subst (λ (x : Float). RunOut n x) target-is (r .run-is));
       ready = r .still (block .frames - (block .rendered + n)) (omega (arith, a .ready .room, turn-inside .2));

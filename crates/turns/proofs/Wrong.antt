@@ -21,6 +21,7 @@ use Rattle.bank.specs.Smoother.{stepped}
 use Rattle.bank.specs.Bank.{unset, firstMapped, allChanged}
 use Rattle.bank.specs.declared.smoother.Smoother.{Smoother}
 use Rattle.bank.specs.declared.smoother_bank.SmootherBank.{SmootherBank}
+use Rattle.frame.specs.declared.highest.Seat.{Seat}
 use Rattle.turns.specs.Machine.{Machine, machineOf}
 use Rattle.turns.specs.Events.{Event, latchedOne, latched, latchedAll, eventsReply}
 use Rattle.turns.specs.Block.{Renderer, bankAt, runsFrom, runsThrough, blockDone}
@@ -28,7 +29,7 @@ use Rattle.turns.specs.Drain.{drainDone}
 
 -- ---- a renderer that gives out 1.0 in each frame of its one channel, and moves nothing: what a call writes is seen by it alone
 abbrev loudFrame : Limiter → Stores → List Float → Framed
-loudFrame l s xs = record { floor = one; dropped = 0; mean = one; gain = one; outputs = one ∷ []; moving = movingOf l s }
+loudFrame l s xs = record { at = record { peak = one; seat = Seat.OnSample 0 }; floor = one; dropped = 0; mean = one; gain = one; outputs = one ∷ []; moving = movingOf l s }
 
 abbrev loud : Renderer
 loud l s target fs = record { limiter = l; stores = s; frames = map (λ (xs : List Float). loudFrame l s xs) fs }

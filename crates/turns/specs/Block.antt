@@ -5,14 +5,16 @@ use mathlib.Core.List.{List, [], _∷_, _++_, map}
 use lib.Dec.{eqb, leb}
 use lib.ListN.{take, drop}
 use lib.Ieee.{Float, nan}
-use Rattle.arithmetic.specs.Reply.{Reply, finished, numbered, andThen, must}
+use Rattle.arithmetic.specs.Reply.{Reply, finished, numbered, count, andThen, must}
 use Rattle.audio.specs.Planar.{framesAt}
 use Rattle.audio.specs.Format.{sizeOf, samplesOf, writtenBytes}
 use Rattle.audio.specs.declared.format.Format.{Format}
 use Rattle.keeper.specs.InOrder.{mostFrames}
 use Rattle.frame.specs.Rules.{Rules, rulesOf}
 use Rattle.frame.specs.Frame.{Framed}
-use Rattle.frame.specs.Run.{framesOf}
+use Rattle.frame.specs.Run.{framesOf, peaksOfFrames}
+use Rattle.frame.specs.Place.{Place, placeOf}
+use Rattle.frame.specs.declared.highest.Seat.{Seat}
 use Rattle.limiter.specs.Stores.{Stores}
 use Rattle.limiter.specs.Run.{movingOf, envelopeOf, movedOn, storesOf}
 use Rattle.limiter.specs.declared.state.Limiter.{Limiter}
@@ -117,6 +119,15 @@ callReply m position frames events size =
 unfoldable pub blockReply : Machine → ℕ → ℕ → List Event → ℕ → Reply
 blockReply m position frames events size = andThen (numbered (readyRefusal m)) (callReply m position frames events size)
 
+-- ---- Change 5: what a finished block tells. On a sample: 1, the frame, the channel; between two samples: 2, the frame, the channel, the phase; where there is no place, nothing
+abbrev pub placed : ℕ → Seat → Reply
+placed i Seat.Nowhere = finished []
+placed i (Seat.OnSample c) = finished (count 1 ∷ count i ∷ count c ∷ [])
+placed i (Seat.Between c phase) = finished (count 2 ∷ count i ∷ count c ∷ count phase ∷ [])
+
+abbrev pub placeReply : Place → Reply
+placeReply p = placed (p .frame) (p .seat)
+
 -- ---- what a call leaves
 pub record Outcome : Type 0 where
   pub reply : Reply
@@ -138,7 +149,7 @@ abbrev pub blockDone : Renderer → Format → Machine → ℕ → ℕ → List 
 blockDone render format m position frames events bytes =
     let k = m .limiter .channels in
     let r = runsThrough render position 0 (runsOf position frames) events (framesAt nan frames k 0 frames (samplesOf format bytes)) m in
-    record { reply = finished []; machine = r .machine; bytes = writtenBytes format frames k frames bytes (outputsOf (r .frames)); frames = r .frames }
+    record { reply = placeReply (placeOf (peaksOfFrames (r .frames))); machine = r .machine; bytes = writtenBytes format frames k frames bytes (outputsOf (r .frames)); frames = r .frames }
 
 -- a block, with any renderer
 unfoldable pub blockBy : Renderer → Format → Machine → ℕ → ℕ → List Event → List ℕ → Outcome

@@ -14,7 +14,9 @@ use Rattle.audio.specs.declared.format.Format.{Format}
 use Rattle.detector.specs.Run.{runLength}
 use Rattle.keeper.specs.InOrder.{mostFrames}
 use Rattle.frame.specs.Rules.{rulesOf}
-use Rattle.frame.specs.Run.{writtenIn}
+use Rattle.frame.specs.Run.{peaksOfFrames, writtenIn}
+use Rattle.frame.specs.Place.{highestFrom}
+use Rattle.frame.specs.declared.highest.Highest.{Highest}
 use Rattle.limiter.specs.Stores.{Stores, lengthsOf, lengthsFit}
 use Rattle.limiter.specs.Order
 use Rattle.limiter.specs.declared.state.Limiter.{Limiter}
@@ -64,12 +66,13 @@ pub record RunAsked (l : Limiter) (format : Format) (target : Float) (width firs
   pub short : n ≤ runLength
   pub inside : first + n ≤ width
 
--- those frames are rendered, their outputs are placed in the call's audio and in the run's, where everything else is as it was, and limiter and stores are as ready as they were
-pub record RunGiven (l : Limiter) (format : Format) (target : Float) (width first n : ℕ) (s : Stores) (bytes : List ℕ) (run : List Float) (after : Limiter) (stores : Stores) (bytes' : List ℕ) (run' : List Float) : Type 0 where
+-- those frames are rendered, the highest linked peak of the block goes on from `best`, their outputs are placed in the call's audio and in the run's, where everything else is as it was, and limiter and stores are as ready as they were
+pub record RunGiven (l : Limiter) (format : Format) (target : Float) (width first n : ℕ) (s : Stores) (bytes : List ℕ) (run : List Float) (after : Limiter) (stores : Stores) (bytes' : List ℕ) (run' : List Float) (best highest : Highest) : Type 0 where
   pub limiter-is : after ≡ rendered (rulesOf (l .settings) format) l s target (framesAt nan width (l .channels) first n (samplesOf format bytes)) .limiter
   pub stores-are : stores ≡ rendered (rulesOf (l .settings) format) l s target (framesAt nan width (l .channels) first n (samplesOf format bytes)) .stores
   pub audio-is : Placed format (l .channels) n width first (outputsOf (rendered (rulesOf (l .settings) format) l s target (framesAt nan width (l .channels) first n (samplesOf format bytes)) .frames)) bytes bytes'
   pub run-is : run' ≡ writtenIn (l .channels) n run (outputsOf (rendered (rulesOf (l .settings) format) l s target (framesAt nan width (l .channels) first n (samplesOf format bytes)) .frames))
+  pub highest-is : highest ≡ highestFrom first best (peaksOfFrames (rendered (rulesOf (l .settings) format) l s target (framesAt nan width (l .channels) first n (samplesOf format bytes)) .frames))
   pub still : (left : ℕ) → l .env .keeper .frame + (n + left) ≤ mostFrames → RunsReady after left stores
 
 -- ---- a turn of a block
@@ -102,6 +105,7 @@ pub record TurnGiven (m : Machine) (block : Unfinished) (format : Format) (words
   pub position-is : next .position ≡ block .position
   pub frames-is : next .frames ≡ block .frames
   pub rendered-is : next .rendered ≡ block .rendered + runAt (standsAt block) (framesLeft block)
+  pub highest-is : next .highest ≡ highestFrom (block .rendered) (block .highest) (peaksOfFrames (turnAt format m block words bytes .frames))
   pub audio-is : Placed format (m .limiter .channels) (runAt (standsAt block) (framesLeft block)) (block .frames) (block .rendered) (outputsOf (turnAt format m block words bytes .frames)) bytes bytes'
   pub run-is : run' ≡ writtenIn (m .limiter .channels) (runAt (standsAt block) (framesLeft block)) run (outputsOf (turnAt format m block words bytes .frames))
   pub ready : RunsReady (after .limiter) (framesLeft next) (after .stores)

@@ -5,6 +5,8 @@ ghost use Rattle.bank.specs.Smoother.{stepped};
 ghost use Rattle.bank.specs.Bank.{allChanged};
 ghost use Rattle.limiter.specs.Stores.{atEntry, atExit, atCall};
 ghost use Rattle.turns.specs.Machine.{machineOf};
+ghost use Rattle.frame.specs.Place.{placeIn};
+ghost use Rattle.turns.specs.Block.{placeReply};
 ghost use Rattle.turns.specs.Inner.{BlockAsked, driven};
 use crate::events::latch_rest;
 use crate::turn::Unfinished;
@@ -15,12 +17,16 @@ use crate::turn::target_now;
 use crate::turn::turn;
 use audio::format::Format;
 use bank::smoother_bank::SmootherBank;
+use frame::highest::Highest;
+use frame::highest::no_peak;
 use limiter::state::Limiter;
 
 // What a block leaves beside audio and stores.
 pub struct Driven {
     pub limiter: Limiter,
     pub bank: SmootherBank,
+    // its highest linked peak
+    pub highest: Highest,
 }
 
 // A block with no event and a bank that a step leaves alone: every run has the same target, found
@@ -47,14 +53,18 @@ fn drive_still(
     ensures { λ _. ⌜ now (audio .exit)
         ≡ driven format (machineOf limiter bank (atEntry delay marks minima weights row detector)) position frames
         [] (now (audio .entry)) .bytes ⌝ }
+    ensures { λ r. ⌜ placeReply (placeIn (r .highest))
+        ≡ driven format (machineOf limiter bank (atEntry delay marks minima weights row detector)) position frames
+        [] (now (audio .entry)) .reply ⌝ }
 {
     let target = target_now(limiter, bank);
     let mut run = run_room();
     let mut l = limiter;
+    let mut highest = no_peak();
     let mut first: usize = 0;
     while first < frames {
         let n = run_length(position + first as u64, frames - first);
-        l = render_frames(
+        let moved = render_frames(
             l,
             format,
             target,
@@ -69,10 +79,17 @@ fn drive_still(
             weights,
             row,
             detector,
+            highest,
         );
+        l = moved.limiter;
+        highest = moved.highest;
         first += n;
     }
-    Driven { limiter: l, bank }
+    Driven {
+        limiter: l,
+        bank,
+        highest,
+    }
 }
 
 // A block, turn by turn.
@@ -98,15 +115,20 @@ fn drive_turns(
     ensures { λ _. ⌜ now (audio .exit)
         ≡ driven format (machineOf limiter bank (atEntry delay marks minima weights row detector)) position frames
         (now (events .entry)) (now (audio .entry)) .bytes ⌝ }
+    ensures { λ r. ⌜ placeReply (placeIn (r .highest))
+        ≡ driven format (machineOf limiter bank (atEntry delay marks minima weights row detector)) position frames
+        (now (events .entry)) (now (audio .entry)) .reply ⌝ }
 {
     let mut run = run_room();
     let mut l = limiter;
     let mut b = bank;
+    let highest = no_peak();
     let mut block = Unfinished {
         position,
         frames,
         rendered: 0,
         latched: 0,
+        highest,
     };
     while block.rendered < frames {
         let t = turn(
@@ -128,16 +150,19 @@ fn drive_turns(
         b = t.bank;
         block = t.block;
     }
+    let highest = block.highest;
     // mostly nothing is left to latch: a bank is large, and is handed on as it came
     if events.len() / 3 <= block.latched {
         return Driven {
             limiter: l,
             bank: b,
+            highest,
         };
     }
     Driven {
         limiter: l,
         bank: latch_rest(b, events, block.latched),
+        highest,
     }
 }
 
@@ -164,6 +189,9 @@ pub fn drive(
     ensures { λ _. ⌜ now (audio .exit)
         ≡ driven format (machineOf limiter bank (atEntry delay marks minima weights row detector)) position frames
         (now (events .entry)) (now (audio .entry)) .bytes ⌝ }
+    ensures { λ r. ⌜ placeReply (placeIn (r .highest))
+        ≡ driven format (machineOf limiter bank (atEntry delay marks minima weights row detector)) position frames
+        (now (events .entry)) (now (audio .entry)) .reply ⌝ }
 {
     // most blocks: no whole event, and a bank at rest
     if (events.len() < 3) & bank.is_still() {

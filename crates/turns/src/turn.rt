@@ -11,16 +11,19 @@ use audio::format::Format;
 use audio::planar::gather;
 use audio::planar::scatter;
 use bank::smoother_bank::SmootherBank;
+use frame::highest::Highest;
+use limiter::run::Moved;
 use limiter::state::Limiter;
 use settings::target::target;
 
-// A block that is not finished: where it starts, how long it is, the frames rendered and the events
-// latched so far.
+// A block that is not finished: where it starts, how long it is, the frames rendered, the events latched and
+// the highest linked peak so far.
 pub struct Unfinished {
     pub position: u64,
     pub frames: usize,
     pub rendered: usize,
     pub latched: usize,
+    pub highest: Highest,
 }
 
 // What a turn leaves beside audio and stores.
@@ -54,7 +57,7 @@ pub fn target_now(limiter: Limiter, bank: SmootherBank) -> f64
 }
 
 // Renders n frames of a call's audio, from a frame on. `run` is where they are rendered, and holds
-// their outputs afterwards.
+// their outputs afterwards; `best` is the highest linked peak before them.
 pub fn render_frames(
     limiter: Limiter,
     format: Format,
@@ -70,10 +73,11 @@ pub fn render_frames(
     weights: &[f64],
     row: &mut [f64],
     detector: &mut [f64],
-) -> Limiter
+    best: Highest,
+) -> Moved
     requires { ⌜ RunAsked limiter format target width first n (atCall delay marks minima weights row detector) (now audio) (now run) ⌝ }
     ensures { λ r. ⌜ RunGiven limiter format target width first n (atEntry delay marks minima weights row detector) (now (audio .entry))
-        (now (run .entry)) r (atExit delay marks minima weights row detector) (now (audio .exit)) (now (run .exit)) ⌝ }
+        (now (run .entry)) (r .limiter) (atExit delay marks minima weights row detector) (now (audio .exit)) (now (run .exit)) best (r .highest) ⌝ }
 {
     let channels = limiter.channels;
     gather(format, channels, n, width, first, audio, run);
@@ -88,6 +92,8 @@ pub fn render_frames(
         weights,
         row,
         detector,
+        first,
+        best,
     );
     scatter(format, channels, n, run, width, first, audio);
     after
@@ -120,6 +126,7 @@ pub fn turn(
     let n = run_length(at, block.frames - first);
     let before = before_run(bank, events, block.latched, at, first as u64);
     let stepped = before.bank;
+    let best = block.highest;
     let after = render_frames(
         limiter,
         format,
@@ -135,15 +142,19 @@ pub fn turn(
         weights,
         row,
         detector,
+        best,
     );
+    let moved = after.limiter;
+    let highest = after.highest;
     Turned {
-        limiter: after,
+        limiter: moved,
         bank: stepped,
         block: Unfinished {
             position: block.position,
             frames: block.frames,
             rendered: first + n,
             latched: before.cursor,
+            highest,
         },
     }
 }

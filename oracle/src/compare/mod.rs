@@ -5,6 +5,7 @@ mod floors;
 mod leaves;
 mod narrow;
 mod peak;
+mod phase;
 mod runs;
 mod setup;
 mod weights;
@@ -27,12 +28,13 @@ pub struct Difference {
 type Layer = fn(&Settings) -> Result<u64, Difference>;
 
 /// Every layer, leaves first.
-const LAYERS: [(&str, Layer); 10] = [
+const LAYERS: [(&str, Layer); 11] = [
     ("exp", leaves::exp),
     ("leaves", leaves::others),
     ("narrow", narrow::narrow),
     ("widen", narrow::widen),
     ("peak_abs", peak::run),
+    ("peak_phase", phase::run),
     ("peaks_abs", runs::run),
     ("weights", weights::run),
     ("settings", setup::run),

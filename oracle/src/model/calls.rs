@@ -3,10 +3,11 @@
 
 use super::frames::Machine;
 use super::judge::{self, Told};
+use super::place::place;
 use super::setup::{look, Setup};
 use super::state::State;
 use crate::audio::Audio;
-use crate::calls::{Call, Lent, ROW, STATE};
+use crate::calls::{Call, Lent, DETECTOR, ROW, STATE};
 
 pub use super::judge::{needed, BANK_BYTES};
 
@@ -77,7 +78,7 @@ fn played(lent: &mut Lent, call: &mut Call) -> Told {
 
 fn set_up(lent: &mut Lent, setup: &Setup) -> Told {
     leave_state(lent, &State::started(setup));
-    fill(lent, &[0, 1, 2, 5]);
+    fill(lent, &[0, 1, 2, DETECTOR]);
     Told::number(0)
 }
 
@@ -116,7 +117,7 @@ fn work(state: &State, lent: &mut Lent, call: &mut Call) -> Told {
     }
 }
 
-/// A block, frame by frame.
+/// A block, frame by frame; it tells where its peak sat.
 fn process(
     state: &State,
     lent: &mut Lent,
@@ -127,6 +128,7 @@ fn process(
 ) -> Told {
     let mut machine = Machine::new(state, &lent.stores);
     let mut waiting: Vec<&[u64]> = events.chunks_exact(3).rev().collect();
+    let mut all = Vec::new();
     for i in 0..frames {
         let grid = (position + i).is_multiple_of(CELL);
         if grid || i == 0 {
@@ -136,11 +138,13 @@ fn process(
         let target = machine.state.target;
         let places = places(state.setup.channels, frames, i);
         let samples: Vec<f64> = places.iter().map(|&at| audio.sample(at)).collect();
-        put(audio, &places, &machine.frame(&samples, target));
+        let heard = machine.hear(&samples);
+        put(audio, &places, &machine.frame(&heard, target));
+        all.push(heard);
     }
     latch(&mut machine.state, &mut waiting, u64::MAX);
     leave(machine, lent);
-    Told::number(0)
+    Told::with(0, &place(&all).words())
 }
 
 /// What happens at a run's first frame, behind the latch.
@@ -186,7 +190,8 @@ fn flush(state: &State, lent: &mut Lent, frames: u64, audio: &mut Audio) -> Told
     let silence = vec![0.0; state.setup.channels];
     for i in 0..written {
         let places = places(state.setup.channels, frames, i);
-        put(audio, &places, &machine.frame(&silence, state.target));
+        let heard = machine.hear(&silence);
+        put(audio, &places, &machine.frame(&heard, state.target));
     }
     machine.state.drained += written;
     let done = machine.state.drained >= state.look;
@@ -211,7 +216,7 @@ fn reset(state: &State, lent: &mut Lent) -> Told {
     let mut state = *state;
     state.reset();
     lent.state = state.bytes();
-    fill(lent, &[0, 5]);
+    fill(lent, &[0, DETECTOR]);
     Told::number(0)
 }
 
@@ -236,7 +241,6 @@ fn gain_step(state: &State, lent: &mut Lent, gain: f64) -> Told {
 mod tests {
     use super::*;
     use crate::audio::{Crossing as _, Format};
-    use crate::calls::ANSWER;
     use crate::layout::{smoother, state as at};
     use crate::whole::Rust;
 
@@ -352,7 +356,25 @@ mod tests {
         asked = block(1 << 62, 500, &[2, 0, 0, 3, 0, 0, 9]);
         assert_eq!(judged(&mut lent, &asked).0, 22);
         asked = block((1 << 62) - 500, 500, &[]);
-        assert_eq!(judged(&mut lent, &asked), (0, vec![0; ANSWER]));
+        assert_eq!(judged(&mut lent, &asked).0, 0);
+    }
+
+    /// Samples that are all alike overshoot where they begin, between the first
+    /// ones, which the detector hears six frames later.
+    #[test]
+    fn a_block_tells_where_its_peak_sat() {
+        let mut lent = fresh();
+        for (frames, place) in [(0, [0; 4]), (6, [1, 0, 0, 0]), (500, [2, 0, 0, 1])] {
+            let (number, answer) = told(&mut lent, block(0, frames, &[]));
+            assert_eq!(
+                (number, &answer[..4], &answer[4..]),
+                (0, &place[..], &[0; 4][..])
+            );
+        }
+        // A drain tells none.
+        let (frames, audio) = (50, Audio::of(&[7.0; 100]));
+        let (_, answer) = told(&mut lent, Call::Flush { frames, audio });
+        assert_eq!(answer, [50, 0, 0, 0, 0, 0, 0, 0]);
     }
 
     #[test]

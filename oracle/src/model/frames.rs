@@ -1,17 +1,12 @@
 //! One gain step and one frame, as document 01 tells them, on the stores as
 //! they are lent.
 
-use std::sync::OnceLock;
-
 use super::judge::keeping;
 use super::keeper::Keeping;
+use super::place::{hear, linked, Frame};
 use super::state::State;
-use crate::calls::{floats, Stores, ROW};
-use crate::dsp::oversample::{inside, PolyphaseUpsampler};
+use crate::calls::{floats, Stores, DETECTOR, ROW};
 use crate::dsp::sanitize::finite_or_zero;
-
-/// Samples that the detector remembers.
-const TAPS: usize = 12;
 
 /// A limiter that takes frames: its state and what its stores hold.
 pub struct Machine {
@@ -50,7 +45,7 @@ impl Machine {
         stores.0[0] = bits(&self.delay);
         stores.0[2] = bits(&self.keeping.minima);
         stores.0[ROW] = bits(&self.row);
-        stores.0[5] = bits(&self.detector);
+        stores.0[DETECTOR] = bits(&self.detector);
         stores.0[1] = self.keeping.marks;
         let [_, head, len, frame] = self.keeping.state;
         self.state.head = head;
@@ -101,46 +96,28 @@ impl Machine {
         self.state.gain = unit(next);
     }
 
-    /// One frame at a target: a sample of each channel for one that leaves.
-    pub fn frame(&mut self, samples: &[f64], target: f64) -> Vec<f64> {
-        let clean: Vec<f64> = samples.iter().map(|&x| finite_or_zero(x)).collect();
-        let mut peak = 0.0;
-        for (channel, &x) in clean.iter().enumerate() {
-            for magnitude in [x.abs(), self.detected(channel, x)] {
-                if magnitude > peak {
-                    peak = magnitude;
-                }
-            }
-        }
-        let required = target / peak;
-        let above = required.is_nan() || required > 1.0;
-        self.gain_step(if above { 1.0 } else { required });
-        self.delayed(&clean)
+    /// A frame's samples, heard by the detectors.
+    pub fn hear(&mut self, samples: &[f64]) -> Frame {
+        hear(samples, &mut self.detector)
     }
 
-    /// The largest magnitude of the four sums over the twelve latest samples of
-    /// a channel; a NaN never wins.
-    fn detected(&mut self, channel: usize, x: f64) -> f64 {
-        let store = &mut self.detector[TAPS * channel..TAPS * (channel + 1)];
-        store.rotate_right(1);
-        store[0] = x;
-        let sum = |taps: &[f64; TAPS]| {
-            let products = taps.iter().zip(&*store).map(|(tap, x)| tap * x);
-            products.fold(0.0, |acc: f64, product| acc + product).abs()
-        };
-        let larger = |peak: f64, sum: f64| if sum > peak { sum } else { peak };
-        taps().iter().map(sum).fold(0.0, larger)
+    /// One frame at a target: a sample of each channel for one that leaves.
+    pub fn frame(&mut self, heard: &Frame, target: f64) -> Vec<f64> {
+        let required = target / linked(heard);
+        let above = required.is_nan() || required > 1.0;
+        self.gain_step(if above { 1.0 } else { required });
+        self.delayed(heard)
     }
 
     /// What leaves each channel's line, times the gain; the samples take its
     /// place.
-    fn delayed(&mut self, clean: &[f64]) -> Vec<f64> {
+    fn delayed(&mut self, heard: &Frame) -> Vec<f64> {
         let (look, at) = (self.state.look as usize, self.state.delay_pos as usize);
-        let mut outputs = Vec::with_capacity(clean.len());
-        for (channel, &x) in clean.iter().enumerate() {
+        let mut outputs = Vec::with_capacity(heard.len());
+        for (channel, heard) in heard.iter().enumerate() {
             let place = &mut self.delay[channel * look + at];
             outputs.push(given_out(finite_or_zero(*place) * self.state.gain));
-            *place = x;
+            *place = heard.sample;
         }
         self.state.delay_pos = ((at + 1) % look) as u64;
         outputs
@@ -154,14 +131,4 @@ fn given_out(x: f64) -> f64 {
     } else {
         finite_or_zero(x)
     }
-}
-
-/// The taps of the running Rust, phase by phase.
-fn taps() -> &'static [[f64; TAPS]; 4] {
-    static TABLE: OnceLock<[[f64; TAPS]; 4]> = OnceLock::new();
-    TABLE.get_or_init(|| {
-        let detector = PolyphaseUpsampler::new(4, TAPS);
-        let phases = inside::phases(&detector);
-        [0, 1, 2, 3].map(|phase: usize| phases[phase].as_slice().try_into().expect("12 taps"))
-    })
 }

@@ -2,9 +2,11 @@
 //! have, and the limiter whole.
 
 pub mod calls;
+pub mod detector;
 mod frames;
 pub mod judge;
 pub mod keeper;
+pub mod place;
 pub mod setup;
 pub mod state;
 pub mod threshold;

@@ -7,7 +7,7 @@ mod leaves;
 mod setup;
 
 pub use bank::Bank;
-pub use detector::{peak_abs, peaks_abs};
+pub use detector::{peak_abs, peak_phase, peaks_abs};
 pub use keeper::{floors_setup, floors_step};
 pub use leaves::leaf;
 pub use setup::{coeff, look, refusal, target, weights};

@@ -1,5 +1,6 @@
 //! Draws sessions at random.
 
+mod bends;
 mod events;
 mod settings;
 
@@ -13,6 +14,7 @@ use crate::numbers::{any, not_finite};
 use crate::rng::Rng;
 use crate::setups;
 use crate::signals::{Signal, SIGNALS};
+use bends::{bend, remembered};
 use events::{events, gain, short_gain, spoil, value};
 use settings::{accepted, threshold};
 
@@ -55,8 +57,15 @@ pub const RECORDED: u64 = 512;
 /// The most frames in long sessions of a block or a drain that is slow to play.
 const SLOW: u64 = 512;
 
-/// A random session. `formats` decides what its sample types have a say in.
-pub fn session(mode: Mode, types: Types, rng: &mut Rng, mut formats: Rng) -> Session {
+/// A random session. `formats` decides what its sample types have a say in, `aims`
+/// what its blocks are bent to.
+pub fn session(
+    mode: Mode,
+    types: Types,
+    rng: &mut Rng,
+    mut formats: Rng,
+    mut aims: Rng,
+) -> Session {
     let setup = accepted(mode, rng);
     let look = look(setup.lookahead, setup.rate);
     let bytes = BANK_BYTES + needed(setup.channels as u64, look);
@@ -69,6 +78,9 @@ pub fn session(mode: Mode, types: Types, rng: &mut Rng, mut formats: Rng) -> Ses
         mode,
         types,
         formats,
+        // What is recorded stays as it is drawn, and so do some of the others.
+        bends: mode != Mode::Recorded && aims.below(4) > 0,
+        aims,
         setup,
         position: start(rng),
         palette: [0; 3].map(|_| rng.pick(kinds)),
@@ -156,6 +168,9 @@ struct Planner {
     mode: Mode,
     types: Types,
     formats: Rng,
+    aims: Rng,
+    /// Whether blocks are bent.
+    bends: bool,
     setup: Setup,
     /// Where the next block starts if it is in sequence.
     position: u64,
@@ -221,13 +236,16 @@ impl Planner {
                     answer: answer(rng),
                 });
             }
-            let part = self.aimed(rng);
+            let mut part = self.aimed(rng);
             let mut faults = vec![match part {
                 Part::Setup { .. } => weights(rng),
                 _ => damage(rng),
             }];
             if rng.below(4) == 0 {
                 faults.push(damage(rng));
+            }
+            if let Part::Block(block) = &mut part {
+                faults.extend(remembered(block, &mut self.aims));
             }
             turns.push(Turn {
                 part,
@@ -366,7 +384,7 @@ impl Planner {
             self.position = FARTHEST - frames;
         }
         let format = self.types.of_call(&mut self.formats);
-        let block = Block {
+        let mut block = Block {
             format,
             position: self.position,
             frames,
@@ -374,8 +392,12 @@ impl Planner {
             kinds: self.kinds(rng),
             level: rng.pick(&LEVELS),
             ties: format == Format::F64 && self.typed(),
+            aims: Vec::new(),
             seed: rng.word(),
         };
+        if self.bends {
+            bend(&mut block, &mut self.aims);
+        }
         let block = self.cheaper(block);
         self.position = (self.position + block.frames) % FARTHEST;
         block
@@ -385,7 +407,8 @@ impl Planner {
     /// that long sessions have fewer of them. Those of f32 are none once widened.
     fn cheaper(&self, block: Block) -> Block {
         let wide = block.format == Format::F64;
-        let costs = wide && self.mode == Mode::Direct && block.kinds.contains(&Signal::Subnormal);
+        let subnormal = |kind: &Signal| matches!(kind, Signal::Subnormal | Signal::Smallest);
+        let costs = wide && self.mode == Mode::Direct && block.kinds.iter().any(subnormal);
         if costs && block.frames > SLOW {
             block.cut(SLOW)
         } else {
@@ -434,6 +457,7 @@ impl Planner {
                     let more = self.setup.block as u64 + 1;
                     block.frames = rng.pick(&[more, LARGEST + 1, 1 << 61, 1 << 63, u64::MAX]);
                     block.kinds.fill(Signal::Silence);
+                    block.aims.clear();
                 }
                 1 => {
                     let end = FARTHEST - block.frames.min(FARTHEST);

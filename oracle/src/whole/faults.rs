@@ -1,13 +1,14 @@
 //! What is done to a call before it is played: lengths that are wrong, bytes
 //! that are no state, and states and stores that were changed from outside.
 
-use crate::calls::{floats, words, Call, Lent, MARKS, ROW, STATE, STORES, WEIGHTS};
+use crate::calls::{floats, words, Call, Lent, DETECTOR, MARKS, ROW, STATE, STORES, WEIGHTS};
 use crate::layout::{smoother, state};
+use crate::model::detector::TAPS;
 use crate::model::keeper::MOST_FRAMES;
 use crate::model::state::State;
 use crate::numbers::{any, near, not_finite};
 use crate::rng::Rng;
-use crate::{rings, tables};
+use crate::{rings, tables, twelves};
 
 /// One change. Places are taken round at the length of what they are in, so
 /// that a fault means something on every limiter.
@@ -77,6 +78,10 @@ pub enum Fault {
         at: usize,
         floor: f64,
     },
+    /// Other samples that the detector remembers.
+    Twelves {
+        seed: u64,
+    },
 }
 
 /// Words of the state that something judges or uses.
@@ -118,6 +123,7 @@ impl Fault {
             }
             Self::Late { .. } | Self::Ring { .. } | Self::Floor { .. } => self.forge(lent),
             Self::Weights { seed } => aim(&mut lent.stores.0[WEIGHTS], seed),
+            Self::Twelves { seed } => remember(&mut lent.stores.0[DETECTOR], seed),
             Self::StoreWord { which, .. }
             | Self::StoreAdd { which, .. }
             | Self::StoreBit { which, .. }
@@ -196,6 +202,19 @@ fn aim(store: &mut [u64], seed: u64) {
     tables::aim(&mut table, &mut Rng::new(seed));
     let aimed = store.iter_mut().zip(table);
     aimed.for_each(|(word, weight)| *word = weight.to_bits());
+}
+
+/// Other samples for each channel's detector, in half of the cases the same.
+fn remember(store: &mut [u64], seed: u64) {
+    let mut rng = Rng::new(seed);
+    let first = twelves::twelve(&mut rng);
+    let alike = rng.below(2) == 0;
+    for channel in store.chunks_mut(TAPS) {
+        let drawn = twelves::twelve(&mut rng);
+        let samples = if alike { first } else { drawn };
+        let places = channel.iter_mut().zip(samples);
+        places.for_each(|(word, sample)| *word = sample.to_bits());
+    }
 }
 
 /// So many places more or fewer; a list is never shorter than empty.

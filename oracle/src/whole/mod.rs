@@ -1,8 +1,10 @@
 //! The limiter whole: sessions of the Rust, the plain model of document 01 and,
 //! where it is linked, the proved code behind its C functions.
 
+mod aims;
 mod draw;
 mod faults;
+mod places;
 mod plan;
 mod play;
 mod record;
@@ -59,12 +61,12 @@ pub fn run(settings: &Settings, proved: Option<Side>) -> (bool, String) {
 }
 
 /// Session `number` of a run, whatever was played before it. Its sample types
-/// are drawn apart, so that those of f64 alone are what they were without types.
+/// are drawn apart, so that those of f64 alone are what they were without types;
+/// so is what blocks are bent to.
 fn drawn(settings: &Settings, number: u64) -> Session {
     let mut start = Rng::new(settings.seed ^ number.rotate_left(32));
-    let mut calls = Rng::new(start.word());
-    let formats = Rng::new(start.word());
-    draw::session(settings.mode, settings.types, &mut calls, formats)
+    let [mut calls, formats, aims] = [(); 3].map(|()| Rng::new(start.word()));
+    draw::session(settings.mode, settings.types, &mut calls, formats, aims)
 }
 
 /// All sessions, in turns of the threads.

@@ -1,6 +1,7 @@
 //! A session of the whole limiter: a setup, and turns that each carry all that
 //! they need, so that any of them can be left out.
 
+use super::aims::Aim;
 use super::faults::Fault;
 use crate::audio::{Audio, Format, Types};
 use crate::calls::Call;
@@ -77,6 +78,8 @@ pub struct Block {
     pub level: f64,
     /// Whether f64 samples are moved to where two f32 are as near, or beside.
     pub ties: bool,
+    /// What is then done to the samples, one after the other.
+    pub aims: Vec<Aim>,
     pub seed: u64,
 }
 
@@ -159,6 +162,14 @@ impl Block {
     }
 
     fn audio(&self) -> Audio {
+        let mut audio = self.plain();
+        let aims = self.aims.iter();
+        aims.for_each(|aim| aim.bend(&mut audio, self.kinds.len()));
+        audio
+    }
+
+    /// The samples as they are drawn.
+    fn plain(&self) -> Audio {
         let level = self.level;
         match self.format {
             Format::F64 if self.ties => Audio::of(&self.samples(|_, x, rng| tied(x * level, rng))),

@@ -1,15 +1,19 @@
 //! Plays a session: the Rust, the plain model and the proved code side by side,
 //! compared after each call. In `Mode::Direct` the model, which is slow, only
-//! judges: what it accepts the Rust and the proved code play.
+//! judges and says where a block's peak sat: what it accepts the Rust and the
+//! proved code play.
 
 use super::draw::Mode;
+use super::places::{Found, Places};
 use super::plan::{Part, Session, Turn};
 use super::rust::Rust;
 use crate::audio::Format;
 use crate::calls::{
-    answers_differ, audio_differs, lent_differs, words, Call, Lent, Side, ANSWER, STATE, WEIGHTS,
+    answers_differ, audio_differs, floats, lent_differs, words, Call, Lent, Side, ANSWER, DETECTOR,
+    STATE, WEIGHTS,
 };
 use crate::model::calls as model;
+use crate::model::place;
 use crate::rng::rubbish;
 
 /// What was played.
@@ -21,6 +25,8 @@ pub struct Counts {
     pub frames: [u64; 2],
     /// Calls by their number; 0 is finished work.
     pub numbers: [u64; 25],
+    /// Blocks that told in full where their peak sat.
+    pub places: Places,
 }
 
 impl Counts {
@@ -33,6 +39,7 @@ impl Counts {
             .chain(numbers)
             .zip(theirs)
             .for_each(|(sum, n)| *sum += n);
+        self.places.add(&other.places);
     }
 
     /// So many frames more, where a call took any.
@@ -66,11 +73,13 @@ struct Proved {
     lent: Lent,
 }
 
-/// A call that was played: its number, and what it leaves.
+/// A call that was played: its number, and what it leaves. Of a finished block
+/// the plain model says beside it where the peak sat.
 struct Left {
     number: u32,
     lent: Lent,
     call: Call,
+    found: Option<Found>,
 }
 
 /// A call that was tried by the model and, where it is given, the proved code.
@@ -100,6 +109,9 @@ pub fn play(session: &Session, mode: Mode, proved: Option<Side>) -> Result<Count
         counts.calls += 1;
         counts.numbers[left.number as usize] += 1;
         counts.take(left.frames(), left.call.format());
+        if let Some(found) = left.told() {
+            counts.places.take(found, left.frames());
+        }
     }
     Ok(counts)
 }
@@ -158,8 +170,10 @@ impl Stage {
     /// model goes on from what it leaves.
     fn directly(&mut self, turn: &Turn, call: Call) -> Result<Left, String> {
         let proved = self.proved.as_mut().ok_or("no proved code to play")?;
-        let seen = Left::by(proved.side, prepared(&proved.lent, turn, &call));
-        if let Some(at) = self.rust.left(call, turn.answer).differs(&seen) {
+        let mut seen = Left::by(proved.side, prepared(&proved.lent, turn, &call));
+        seen.found = found(&self.model, &call);
+        let due = self.rust.left(call, turn.answer, seen.found.as_ref());
+        if let Some(at) = due.differs(&seen) {
             return Err(format!("the Rust and the proved code, {at}"));
         }
         proved.lent.clone_from(&seen.lent);
@@ -170,9 +184,12 @@ impl Stage {
     /// The model's call, and the proved code's beside it.
     fn tried(&self, turn: &Turn, call: &Call) -> Result<Tried, String> {
         let before = prepared(&self.model, turn, call);
-        let model = Left::by(model::call, before.clone());
+        let mut model = Left::by(model::call, before.clone());
         let changed = model.changed(&before);
         changed.map_or(Ok(()), |at| Err(format!("the model, {at}")))?;
+        if model.number == 0 {
+            model.found = found(&before.0, &before.1);
+        }
         let proved = self.proved.as_ref();
         let proved = proved.map(|p| beside_model(p, turn, call, &model));
         let proved = proved.transpose()?;
@@ -198,6 +215,15 @@ fn unwritten(length: usize) -> Vec<u64> {
     vec![u64::MAX; length]
 }
 
+/// What is found in a block that the table accepts, by what it is lent alone.
+fn found(lent: &Lent, call: &Call) -> Option<Found> {
+    let Call::Process { audio, .. } = call else {
+        return None;
+    };
+    let detector = floats(&lent.stores.0[DETECTOR]);
+    Some(Found::of(&place::block(audio, &detector)))
+}
+
 /// The proved code plays the call too.
 fn beside_model(proved: &Proved, turn: &Turn, call: &Call, model: &Left) -> Result<Left, String> {
     let before = prepared(&proved.lent, turn, call);
@@ -210,7 +236,8 @@ fn beside_model(proved: &Proved, turn: &Turn, call: &Call, model: &Left) -> Resu
 
 /// The Rust plays the call too.
 fn beside_rust(rust: &mut Rust, call: Call, model: &Left) -> Result<(), String> {
-    match model.differs(&rust.left(call, model.lent.answer.len())) {
+    let answer = model.lent.answer.len();
+    match model.differs(&rust.left(call, answer, model.found.as_ref())) {
         Some(at) => Err(format!("the model and the Rust, {at}")),
         None => Ok(()),
     }
@@ -230,20 +257,40 @@ fn beside_forged_rust((lent, call): (Lent, Call), model: &Left) -> Result<(), St
 }
 
 impl Rust {
-    /// What a call leaves that is lent an answer of a length.
-    fn left(&mut self, mut call: Call, answer: usize) -> Left {
+    /// What a call leaves that is lent an answer of a length. The Rust does not
+    /// say where a block's peak sat: that is told as it was found.
+    fn left(&mut self, mut call: Call, answer: usize, found: Option<&Found>) -> Left {
         let (number, told) = self.call(&mut call);
         let mut lent = self.lent();
         lent.answer = unwritten(answer);
-        lent.tell(&told);
-        Left { number, lent, call }
+        match found {
+            Some(found) => lent.tell(&found.place.words()),
+            None => lent.tell(&told),
+        }
+        Left {
+            number,
+            lent,
+            call,
+            found: found.copied(),
+        }
     }
 }
 
 impl Left {
     fn by(side: Side, (mut lent, mut call): (Lent, Call)) -> Self {
         let number = side(&mut lent, &mut call);
-        Self { number, lent, call }
+        Self {
+            number,
+            lent,
+            call,
+            found: None,
+        }
+    }
+
+    /// Where the peak sat, if the answer had room to say it.
+    fn told(&self) -> Option<&Found> {
+        let found = self.found.as_ref();
+        found.filter(|f| f.place.words().len() <= self.lent.answer.len())
     }
 
     /// The frames that the call took; those of a drain that told none are not

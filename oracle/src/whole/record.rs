@@ -1,7 +1,7 @@
 //! Writes recorded sessions of the whole limiter: the Rust's processor is set
 //! up, rendered, drained, set, read, stepped and reset. Inputs are not stored,
 //! since whoever replays a session draws them from its seed too; of a call's
-//! output, the digest is.
+//! output, the digest is, and of a block where its peak sat.
 
 use std::fs;
 use std::path::Path;
@@ -49,6 +49,9 @@ const GAIN_STEP: u64 = 7;
 const SETUP: u64 = 8;
 /// The last word of a session.
 const END: u64 = 0;
+
+/// Words of an answer that tell where a block's peak sat.
+const PLACE: usize = 4;
 
 /// The file's words so far, and what they hold.
 #[derive(Debug, Default, PartialEq)]
@@ -162,6 +165,11 @@ impl Recorder {
             return Ok(Vec::new());
         }
         let (told_number, told) = self.rust.call(&mut call);
+        // Where a block's peak sat the model says: the Rust does not.
+        let told = match call {
+            Call::Process { .. } => tried.0.answer[..PLACE].to_vec(),
+            _ => told,
+        };
         if number != told_number || tried.1.audio() != call.audio() {
             return Err(format!("the model and the Rust differ at {part:?}"));
         }
@@ -194,6 +202,7 @@ impl Recorder {
                 let mut words = vec![BLOCK, *position, *frames, whole.len() as u64 / 3];
                 words.extend(whole);
                 words.push(digest(audio, *frames as usize, *frames as usize));
+                words.extend(told);
                 words
             }
             Call::Flush { frames, audio } => {
@@ -311,6 +320,7 @@ mod tests {
             let call = self.told(call, &[0]);
             let given = call.audio().expect("a block's");
             assert_eq!(digest(given, frames as usize, frames as usize), file.next());
+            assert_eq!(self.lent.answer[..PLACE], file.some(PLACE as u64));
         }
 
         fn drain(&mut self, file: &mut Reader) {

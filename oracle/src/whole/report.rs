@@ -16,11 +16,12 @@ pub fn passed(counts: &Counts, seed: u64) -> String {
     let by_number: Vec<String> = by_number.map(|(k, n)| format!("{k}: {n}")).collect();
     let [wide, narrow] = counts.frames;
     format!(
-        "{} sessions, {} frames ({wide} f64, {narrow} f32), {} calls, {refused} of them refused ({}), 0 differences, seed {seed}\n",
+        "{} sessions, {} frames ({wide} f64, {narrow} f32), {} calls, {refused} of them refused ({}), 0 differences, seed {seed}\n{}",
         counts.sessions,
         wide + narrow,
         counts.calls,
-        by_number.join(", ")
+        by_number.join(", "),
+        counts.places.line()
     )
 }
 
@@ -58,7 +59,8 @@ fn plainer(session: &mut Session, at: usize, fails: &dyn Fn(&Session) -> bool) {
     }
 }
 
-/// A turn with something less: a fault, frames, events, another answer's length.
+/// A turn with something less: a fault, frames, events, an aim, another answer's
+/// length.
 fn tries(turn: &Turn) -> Vec<Turn> {
     let mut tries = Vec::new();
     if turn.answer != ANSWER {
@@ -81,7 +83,8 @@ fn tries(turn: &Turn) -> Vec<Turn> {
         let none = (block.frames == 1).then_some(1);
         let shorter = shorter.chain(none).map(|away| block.frames - away);
         let blocks = shorter.map(|frames| block.cut(frames));
-        tries.extend(blocks.chain(without_event(block)).map(|block| Turn {
+        let blocks = blocks.chain(without_event(block)).chain(without_aim(block));
+        tries.extend(blocks.map(|block| Turn {
             part: Part::Block(block),
             ..turn.clone()
         }));
@@ -97,6 +100,16 @@ fn without_event(block: &Block) -> Vec<Block> {
         fewer
     };
     (0..block.events.len() / 3).map(without).collect()
+}
+
+/// The block without one of its aims.
+fn without_aim(block: &Block) -> Vec<Block> {
+    let without = |at: usize| {
+        let mut fewer = block.clone();
+        fewer.aims.remove(at);
+        fewer
+    };
+    (0..block.aims.len()).map(without).collect()
 }
 
 /// The lines of a run with a difference.

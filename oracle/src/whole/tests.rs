@@ -1,6 +1,8 @@
 //! The comparison itself: its sessions are what they should be, the model agrees
 //! with the Rust, and a side that is wrong is found.
 
+mod places;
+
 use super::plan::Part;
 use super::*;
 use crate::audio::{Audio, Crossing as _, Format};
@@ -326,8 +328,8 @@ fn wrong_roundings_are_found() {
     let of = |mode, types| Settings {
         mode,
         types,
-        sessions: 300,
-        seed: 1,
+        sessions: 1_000,
+        seed: 3,
     };
     let (narrow, mixed) = (of(Mode::Direct, Types::F32), of(Mode::Direct, Types::Mixed));
     let damage = of(Mode::Damage, Types::F32);

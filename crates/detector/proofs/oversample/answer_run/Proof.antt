@@ -12,11 +12,11 @@ use Rattle.detector.proofs.Line.{answers-same}
 use Rattle.detector.proofs.oversample.answer_run.Statement.{statement}
 use Rattle.detector.proofs.oversample.answer_run.Tie as tie
 
-slice-aggregate-answer-fours : tie.Need-slice-aggregate-answer-fours
-slice-aggregate-answer-fours c = search needs
+slice-aggregate-answer-all : tie.Need-slice-aggregate-answer-all
+slice-aggregate-answer-all c = search needs
 
-answer-fours-requires : tie.Need-answer-fours-requires
-answer-fours-requires c κs = search needs
+answer-all-requires : tie.Need-answer-all-requires
+answer-all-requires c κs = search needs
 
 same-length : tie.Need-same-length
 same-length c = search needs
@@ -26,7 +26,7 @@ unfolding ofBits neg taps phase0 phase1 phase2 phase3
 returns c =
     let s = c .before .before .before .before .before .before .before .before in
     let a = s .args in
-    c .before .before .answer-fours .ensures ∙ answers-same (sumsBy (woven remembered taps)) (sumsOf taps) table-sums (now (a .store)) (now (a .run)) (omega (arith, s .pre .0))
+    c .before .before .answer-all .ensures ∙ answers-same (sumsBy (woven remembered taps)) (sumsOf taps) table-sums (now (a .store)) (now (a .run)) (omega (arith, s .pre .0))
 
 pub answer-run-spec : {M : Type 1} → statement M
-answer-run-spec = tie.close (tie.spec slice-aggregate-answer-fours answer-fours-requires same-length returns)
+answer-run-spec = tie.close (tie.spec slice-aggregate-answer-all answer-all-requires same-length returns)

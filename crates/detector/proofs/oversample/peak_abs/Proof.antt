@@ -4,7 +4,7 @@ use borrow.Author.Needs.{needs}
 use lib.Ieee.{ofBits, neg}
 use denote.Ref.{now}
 use Rattle.detector.specs.Taps.{phase0, phase1, phase2, phase3, taps}
-use Rattle.detector.specs.Oversample.{largestOf}
+use Rattle.detector.specs.Oversample.{largestOf, phaseOf}
 use Rattle.detector.proofs.Push.{by-table, pushed, untouched}
 use Rattle.detector.proofs.oversample.peak_abs.Statement.{statement}
 use Rattle.detector.proofs.oversample.peak_abs.Tie as tie
@@ -41,7 +41,8 @@ returns-2 c =
     let f = c .before .before .before .before .before .before .before .finite-or-zero in
     let n = c .before .before .before .before .before .before .before .before .if1 .left in
     let a = c .before .before .before .before .before .before .before .before .before .before .args in
-    pushed taps (now (a .store)) (a .x) (m .last .0) (f .result) (p .result) n (m .ensures) (f .ensures) (p .ensures ∙ ap largestOf (by-table _ (now (a .store)) (f .result) refl n))
+    let t = by-table _ (now (a .store)) (f .result) refl n in
+    pushed taps (now (a .store)) (a .x) (m .last .0) (f .result) (p .result .peak) (p .result .phase) n (m .ensures) (f .ensures) (p .ensures .0 ∙ ap largestOf t) (p .ensures .1 ∙ ap phaseOf t)
 
 pub peak-abs-spec : {M : Type 1} → statement M
 peak-abs-spec = tie.close (tie.spec returns finite-or-zero-requires slice-aggregate-peak-of-push peak-of-push-requires shift-by-requires slice-write-store same-length returns-2)

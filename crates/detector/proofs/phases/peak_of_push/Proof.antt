@@ -2,7 +2,7 @@
 use borrow.Author.Needs.{needs}
 use lib.Ieee.{ofBits}
 use denote.Ref.{now}
-use Rattle.detector.proofs.Push.{newest-and-store}
+use Rattle.detector.proofs.Push.{newest-and-store, tell-same}
 use Rattle.detector.proofs.phases.peak_of_push.Statement.{statement}
 use Rattle.detector.proofs.phases.peak_of_push.Tie as tie
 
@@ -27,20 +27,20 @@ slice-aggregate-add-store c = search needs
 add-store-requires : tie.Need-add-store-requires
 add-store-requires c κs = search needs
 
-slice-aggregate-largest-of : tie.Need-slice-aggregate-largest-of
-slice-aggregate-largest-of c = search needs
+slice-aggregate-answer-of : tie.Need-slice-aggregate-answer-of
+slice-aggregate-answer-of c = search needs
 
-largest-of-requires : tie.Need-largest-of-requires
-largest-of-requires c κs = search needs
+answer-of-requires : tie.Need-answer-of-requires
+answer-of-requires c κs = search needs
 
 returns : tie.Need-returns
 unfolding ofBits
 returns c =
     let b = c .before .before .before .add-store in
     let f = c .before .before .before .before .before .before .add-products in
-    let s = c .before .before .before .before .before .before .before .before .before .before .before in
-    let a = s .args in
-    newest-and-store (now (a .table)) (now (a .store)) (f .last .0) (b .last .0) (a .newest) (c .largest-of .result) (s .pre .1) (f .ensures) (b .ensures) (c .largest-of .ensures)
+    let a = c .before .before .before .before .before .before .before .before .before .before .before .args in
+    let t = c .answer-of in
+    tell-same (b .last .0) _ (t .result .peak) (t .result .phase) (newest-and-store (now (a .table)) (now (a .store)) (f .last .0) (b .last .0) (a .newest) (f .ensures) (b .ensures)) (t .ensures)
 
 pub peak-of-push-spec : {M : Type 1} → statement M
-peak-of-push-spec = tie.close (tie.spec slice-aggregate-add-products sub-add-products part-add-products-start part-add-products-end add-products-requires slice-aggregate-add-store add-store-requires slice-aggregate-largest-of largest-of-requires returns)
+peak-of-push-spec = tie.close (tie.spec slice-aggregate-add-products sub-add-products part-add-products-start part-add-products-end add-products-requires slice-aggregate-add-store add-store-requires slice-aggregate-answer-of answer-of-requires returns)

@@ -1,22 +1,25 @@
 -- `all_peaks`: the peaks stay alike to peaks from which the rest makes the whole.
-use mathlib.Core.Path.{_≡_, sym, _∙_}
-use Prim.Native.Nat.{_+_, _-_, _*_, _≤_}
-use native.Mathlib.Omega.{arith}
-use borrow.Author.Needs.{needs}
-use lib.ListN.{length}
-use denote.Ref.{now}
-use Rattle.frame.specs.Rules.{linkingOf}
-use Rattle.frame.specs.Passes.{peaksPass}
-use Rattle.frame.proofs.Heard.{zeros-length}
 use Rattle.frame.proofs.Alike.{Sharing, sharing-start, sharing-done, sharing-more, alike-from-zero}
+use Rattle.frame.proofs.Heard.{zeros-length}
+use Rattle.frame.specs.Passes.{peaksPass}
+use Rattle.frame.specs.Rules.{linkingOf}
+use denote.Ref.{now}
+use lib.ListN.{length}
+use native.Mathlib.Omega.{arith}
+use Prim.Native.Nat.{_+_, _-_, _*_, _≤_}
+use mathlib.Core.Path.{_≡_, sym, _∙_}
+use borrow.Author.Needs.{needs}
 use Rattle.frame.proofs.peaks.all_peaks.Statement.{statement}
 use Rattle.frame.proofs.peaks.all_peaks.Tie as tie
+use Rattle.detector.proofs.quiet.level_below.Reads as level-below-reads
+use Rattle.frame.proofs.peaks.hear_or_pass.Reads as hear-or-pass-reads
 
 abbrev Inv-loop : tie.InvT-loop
-Inv-loop settings target channels n audio detector₀ peaks₀ level c₀ detector peaks c = (c ≤ channels) × (length peaks ≡ n) × (length detector ≡ channels * 12) × (Sharing (linkingOf settings) target channels n c peaks detector audio (peaksPass (linkingOf settings) 0 channels n peaks₀ detector₀ audio))
+Inv-loop settings ceiling channels n audio detector peaks₀ level c₀ peaks c =
+    (c ≤ channels) × (length peaks ≡ n) × (Sharing (linkingOf settings) ceiling channels n c peaks detector audio (peaksPass (linkingOf settings) 0 channels n peaks₀ detector audio .peaks))
 
 abbrev μ-loop : tie.MeasureT-loop
-μ-loop settings target channels n audio detector₀ peaks₀ level c₀ detector peaks c = channels - c
+μ-loop settings ceiling channels n audio detector peaks₀ level c₀ peaks c = channels - c
 
 level-below-requires : tie.Need-level-below-requires Inv-loop μ-loop
 level-below-requires c κs = search needs
@@ -26,7 +29,7 @@ loop-holds c =
     let s = c .before .before .before .before in
     let a = s .args in
     let z = s .pre .1 .1 .1 .1 in
-    (search needs, zeros-length (a .n) (now (a .peaks)) z, search needs, sharing-start (linkingOf (a .settings)) (a .target) (a .channels) (a .n) (now (a .peaks)) (now (a .detector)) (now (a .audio)) z)
+    (search needs, zeros-length (a .n) (now (a .peaks)) z, sharing-start (a .settings) (a .ceiling) (a .channels) (a .n) (now (a .detector)) (now (a .audio)) (now (a .peaks)) z)
 
 mul-at : tie.Need-mul-at Inv-loop μ-loop
 mul-at c = search needs
@@ -34,41 +37,41 @@ mul-at c = search needs
 mul-first : tie.Need-mul-first Inv-loop μ-loop
 mul-first c = search needs
 
-add-hear-or-remember : tie.Need-add-hear-or-remember Inv-loop μ-loop
-add-hear-or-remember c = search needs
+add-hear-or-pass : tie.Need-add-hear-or-pass Inv-loop μ-loop
+add-hear-or-pass c = search needs
 
-mul-hear-or-remember : tie.Need-mul-hear-or-remember Inv-loop μ-loop
-mul-hear-or-remember c = search needs
+mul-hear-or-pass : tie.Need-mul-hear-or-pass Inv-loop μ-loop
+mul-hear-or-pass c = search needs
 
-sub-hear-or-remember : tie.Need-sub-hear-or-remember Inv-loop μ-loop
-sub-hear-or-remember c = search needs
+sub-hear-or-pass : tie.Need-sub-hear-or-pass Inv-loop μ-loop
+sub-hear-or-pass c = search needs
 
-part-hear-or-remember-start : tie.Need-part-hear-or-remember-start Inv-loop μ-loop
-part-hear-or-remember-start c = search needs
+part-hear-or-pass-start : tie.Need-part-hear-or-pass-start Inv-loop μ-loop
+part-hear-or-pass-start c = search needs
 
-part-hear-or-remember-end : tie.Need-part-hear-or-remember-end Inv-loop μ-loop
-part-hear-or-remember-end c = search needs
+part-hear-or-pass-end : tie.Need-part-hear-or-pass-end Inv-loop μ-loop
+part-hear-or-pass-end c = search needs
 
-add-hear-or-remember-2 : tie.Need-add-hear-or-remember-2 Inv-loop μ-loop
-add-hear-or-remember-2 c = search needs
+add-hear-or-pass-2 : tie.Need-add-hear-or-pass-2 Inv-loop μ-loop
+add-hear-or-pass-2 c = search needs
 
-mul-hear-or-remember-2 : tie.Need-mul-hear-or-remember-2 Inv-loop μ-loop
-mul-hear-or-remember-2 c = search needs
+mul-hear-or-pass-2 : tie.Need-mul-hear-or-pass-2 Inv-loop μ-loop
+mul-hear-or-pass-2 c = search needs
 
-sub-hear-or-remember-2 : tie.Need-sub-hear-or-remember-2 Inv-loop μ-loop
-sub-hear-or-remember-2 c = search needs
+sub-hear-or-pass-2 : tie.Need-sub-hear-or-pass-2 Inv-loop μ-loop
+sub-hear-or-pass-2 c = search needs
 
-part-hear-or-remember-start-2 : tie.Need-part-hear-or-remember-start-2 Inv-loop μ-loop
-part-hear-or-remember-start-2 c = search needs
+part-hear-or-pass-start-2 : tie.Need-part-hear-or-pass-start-2 Inv-loop μ-loop
+part-hear-or-pass-start-2 c = search needs
 
-part-hear-or-remember-end-2 : tie.Need-part-hear-or-remember-end-2 Inv-loop μ-loop
-part-hear-or-remember-end-2 c = search needs
+part-hear-or-pass-end-2 : tie.Need-part-hear-or-pass-end-2 Inv-loop μ-loop
+part-hear-or-pass-end-2 c = search needs
 
-hear-or-remember-requires : tie.Need-hear-or-remember-requires Inv-loop μ-loop
-hear-or-remember-requires c κs =
+hear-or-pass-requires : tie.Need-hear-or-pass-requires Inv-loop μ-loop
+hear-or-pass-requires c κs =
     let l = c .before .before .before .before in
-    let k = l .loop .inv .3 in
-    (search needs, (search needs, (search needs, alike-from-zero (l .before .before .before .before .before .args .target) (l .loop .peaks) (k .whole) (k .alike))))
+    let k = l .loop .inv .2 in
+    (search needs, (search needs, (search needs, alike-from-zero (l .before .before .before .before .before .args .ceiling) (l .loop .peaks) (k .whole) (k .alike))))
 
 add-c : tie.Need-add-c Inv-loop μ-loop
 add-c c = search needs
@@ -78,22 +81,18 @@ loop-less c = search needs
 
 loop-again : tie.Need-loop-again Inv-loop μ-loop
 loop-again c =
-    let o = c .before .before .before .before in
-    let l = o .before .before .before .before .before in
+    let o = c .before .before .hear-or-pass in
+    let l = c .before .before .before .before .before .before .before in
     let a = l .before .before .before .before .before .args in (
-      omega arith,
-      o .hear-or-remember .kept .1 .1 .1 .1 .1 .0 ∙ l .loop .inv .1,
       search needs,
-      sharing-more (a .settings) (a .target) (a .channels) (a .n) (l .loop .c) (l .loop .c * 12 + 12 - l .loop .c * 12) (l .loop .c * 32 + a .n - l .loop .c * 32) (l .before .level-below .result) (l .loop .peaks) (l .loop .detector) (now (a .audio))
-          (o .hear-or-remember .last .1 .1 .1 .1 .1 .0) (o .hear-or-remember .last .1 .1 .1 .0) (peaksPass (linkingOf (a .settings)) 0 (a .channels) (a .n) (now (a .peaks)) (now (a .detector)) (now (a .audio)))
-          (l .loop .inv .3) (omega arith) (l .loop .inv .2) (omega arith) (omega arith) (o .hear-or-remember .kept .1 .1 .1 .0) (l .before .level-below .ensures) (o .hear-or-remember .ensures),
+      o .kept .1 .1 .1 .1 .1 .0 ∙ l .loop .inv .1,
+      sharing-more (a .settings) (a .ceiling) (a .channels) (a .n) (now (a .detector)) (now (a .audio)) (l .loop .c) (l .loop .c * 12 + 12 - l .loop .c * 12) (l .loop .c * 32 + a .n - l .loop .c * 32) (l .before .level-below .result) (l .loop .peaks)
+          (o .last .1 .1 .1 .1 .1 .0) (peaksPass (linkingOf (a .settings)) 0 (a .channels) (a .n) (now (a .peaks)) (now (a .detector)) (now (a .audio)) .peaks)
+          (l .loop .inv .2) (search needs) (omega arith) (omega arith) (l .before .level-below .ensures) (o .ensures),
     )
 
 same-length : tie.Need-same-length Inv-loop μ-loop
-same-length c = search needs
-
-same-length-2 : tie.Need-same-length-2 Inv-loop μ-loop
-same-length-2 c =
+same-length c =
     let l = c .before in
     let s = l .before .before .before .before .before in
     l .loop .inv .1 ∙ sym (zeros-length (s .args .n) (now (s .args .peaks)) (s .pre .1 .1 .1 .1))
@@ -102,8 +101,8 @@ returns : tie.Need-returns Inv-loop μ-loop
 returns c =
     let l = c .before in
     let a = l .before .before .before .before .before .args in
-    sharing-done (linkingOf (a .settings)) (a .target) (a .channels) (a .n) (l .loop .c) (l .loop .peaks) (l .loop .detector) (now (a .audio)) (peaksPass (linkingOf (a .settings)) 0 (a .channels) (a .n) (now (a .peaks)) (now (a .detector)) (now (a .audio)))
-    (omega arith) (l .loop .inv .3)
+    sharing-done (a .settings) (a .ceiling) (a .channels) (a .n) (now (a .detector)) (now (a .audio)) (l .loop .c) (l .loop .peaks) (peaksPass (linkingOf (a .settings)) 0 (a .channels) (a .n) (now (a .peaks)) (now (a .detector)) (now (a .audio)) .peaks)
+    (search needs) (l .loop .inv .2)
 
 pub all-peaks-spec : {M : Type 1} → statement M
 all-peaks-spec =
@@ -115,20 +114,19 @@ all-peaks-spec =
     loop-holds
     mul-at
     mul-first
-    add-hear-or-remember
-    mul-hear-or-remember
-    sub-hear-or-remember
-    part-hear-or-remember-start
-    part-hear-or-remember-end
-    add-hear-or-remember-2
-    mul-hear-or-remember-2
-    sub-hear-or-remember-2
-    part-hear-or-remember-start-2
-    part-hear-or-remember-end-2
-    hear-or-remember-requires
+    add-hear-or-pass
+    mul-hear-or-pass
+    sub-hear-or-pass
+    part-hear-or-pass-start
+    part-hear-or-pass-end
+    add-hear-or-pass-2
+    mul-hear-or-pass-2
+    sub-hear-or-pass-2
+    part-hear-or-pass-start-2
+    part-hear-or-pass-end-2
+    hear-or-pass-requires
     add-c
     loop-less
     loop-again
     same-length
-    same-length-2
     returns)

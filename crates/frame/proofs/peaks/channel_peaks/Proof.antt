@@ -1,7 +1,9 @@
 -- `channel_peaks`: the answers are a local array's first n.
 use borrow.Author.Needs.{needs}
+use borrow.Author.Needs.{needs}
 use Rattle.frame.proofs.peaks.channel_peaks.Statement.{statement}
 use Rattle.frame.proofs.peaks.channel_peaks.Tie as tie
+use Rattle.frame.proofs.peaks.hear_channel.Reads as hear-channel-reads
 
 sub-hear-channel : tie.Need-sub-hear-channel
 sub-hear-channel c = search needs
@@ -14,14 +16,11 @@ part-answers-end c = search needs
 
 hear-channel-requires : tie.Need-hear-channel-requires
 hear-channel-requires c κs =
-    let s = c .before .before .before .before .before .before in
+    let s = c .before .before .before .before .before in
     (s .pre .0, (s .pre .1 .0, (search needs, (s .pre .1 .1 .0, s .pre .1 .1 .1))))
 
 same-length : tie.Need-same-length
 same-length c = search needs
-
-same-length-2 : tie.Need-same-length-2
-same-length-2 c = search needs
 
 returns : tie.Need-returns
 returns c = search needs
@@ -35,5 +34,4 @@ channel-peaks-spec =
     part-answers-end
     hear-channel-requires
     same-length
-    same-length-2
     returns)

@@ -23,7 +23,7 @@ unfolding ofBits
 render-in-requires c κs =
     let s = c .before .before .before .before .before .before .before .before .before .before .before .before .before .before in
     let e : s .args .n - 0 ≡ s .args .n = omega arith in
-    (s .pre, rw e (first-of (s .args .n) 32 zero (s .pre .short)))
+    (s .pre .0, (s .pre .1, rw e (first-of (s .args .n) 32 zero (s .pre .0 .short))))
 
 same-length : tie.Need-same-length
 same-length c = search needs

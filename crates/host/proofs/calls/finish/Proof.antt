@@ -1,4 +1,4 @@
--- `finish`: no word, and the parts.
+-- `finish`: the place, and the parts.
 use mathlib.Core.Path.{refl, ap, _∙_}
 use denote.Ref.{now}
 use Rattle.host.specs.Answer.{wordsOf, answered}
@@ -7,8 +7,8 @@ use borrow.Author.Needs.{needs}
 use Rattle.host.proofs.calls.finish.Statement.{statement}
 use Rattle.host.proofs.calls.finish.Tie as tie
 
-pair-requires : tie.Need-pair-requires
-pair-requires c κs = search needs
+of-place-requires : tie.Need-of-place-requires
+of-place-requires c κs = search needs
 
 write-answer-requires : tie.Need-write-answer-requires
 write-answer-requires c κs = search needs
@@ -23,13 +23,13 @@ same-length-2 : tie.Need-same-length-2
 same-length-2 c = search needs
 
 returns : tie.Need-returns
-returns c = (refl, (c .before .before .before .before .before .before .write-answer .ensures ∙ ap (λ (t : ReplyWords). answered (now (c .before .before .before .before .before .before .before .before .before .before .before .before .before .args .buffer)) (wordsOf t)) (c .before .before .before .before .before .before .before .pair .ensures), c .before .before .write-parts .ensures))
+returns c = (refl, (c .before .before .before .before .before .before .write-answer .ensures ∙ ap (λ (t : ReplyWords). answered (now (c .before .before .before .before .before .before .before .before .before .before .before .before .before .before .args .buffer)) (wordsOf t)) (c .before .before .before .before .before .before .before .of-place .ensures), c .before .before .write-parts .ensures))
 
 pub finish-spec : {M : Type 1} → statement M
 finish-spec =
     tie.close
     (tie.spec
-    pair-requires
+    of-place-requires
     write-answer-requires
     write-parts-requires
     same-length

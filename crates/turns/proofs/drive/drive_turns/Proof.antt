@@ -1,5 +1,6 @@
 -- `drive_turns`: each turn of the loop is a turn of the block.
-use mathlib.Core.Path.{_≡_, refl, _∙_}
+use Rattle.frame.specs.declared.highest.Highest.{Highest}
+use mathlib.Core.Path.{_≡_, refl, ap, _∙_}
 use Prim.Native.Nat.{_-_, _/_}
 use native.Mathlib.Omega.{arith}
 use lib.ListN.{length}
@@ -7,7 +8,7 @@ use denote.Ref.{now}
 use Rattle.limiter.specs.Stores.{storesAt}
 use Rattle.turns.specs.Machine.{Machine, machineOf}
 use Rattle.turns.proofs.Latching.{rest-end}
-use Rattle.turns.proofs.Driving.{Driving, driving-start, driving-asks, driving-more, driving-less, driven-machine, driven-audio}
+use Rattle.turns.proofs.Driving.{Driving, driving-start, driving-asks, driving-more, driving-less, driven-machine, driven-place, driven-audio}
 use Rattle.turns.proofs.drive.drive_turns.Statement.{statement}
 use Rattle.turns.proofs.drive.drive_turns.Tie as tie
 
@@ -29,25 +30,28 @@ machine s =
 run-room-requires : tie.Need-run-room-requires Inv-loop μ-loop
 run-room-requires c κs = tt
 
+no-peak-requires : tie.Need-no-peak-requires Inv-loop μ-loop
+no-peak-requires c κs = tt
+
 loop-holds : tie.Need-loop-holds Inv-loop μ-loop
 loop-holds c =
-    let s = c .before .before .before .before .before .before .before .before .before in
+    let s = c .before .before .before .before .before .before .before .before .before .before in
     let a = s .args in
-    (driving-start (a .format) (a .position) (a .frames) (now (a .events)) (now (a .audio)) (machine s) (c .run-room .result) (c .run-room .ensures) (s .pre) _ refl, refl, refl, refl, refl, refl, refl)
+    (driving-start (a .format) (a .position) (a .frames) (now (a .events)) (now (a .audio)) (machine s) (c .before .run-room .result) (c .before .run-room .ensures) (s .pre) _ (ap (λ (h : Highest). record { position = a .position; frames = a .frames; rendered = 0; latched = 0; highest = h }) (c .no-peak .ensures)), refl, refl, refl, refl, refl, refl)
 
 slice-aggregate-turn : tie.Need-slice-aggregate-turn Inv-loop μ-loop
 slice-aggregate-turn c = omega arith
 
 turn-requires : tie.Need-turn-requires Inv-loop μ-loop
 turn-requires c κs =
-    let s = c .before .before .before .before .before .before .before .before .before .before .before .before .before .before .before .before .before .before .before in
+    let s = c .before .before .before .before .before .before .before .before .before .before .before .before .before .before .before .before .before .before .before .before in
     let a = s .args in
     let l = c .before .before .before .before .before .before .before .before .before .loop in
     driving-asks (a .format) (a .position) (a .frames) (now (a .events)) (now (a .audio)) (machine s) (s .pre) (l .block) (machineOf (l .l) (l .b) (storesAt (l .delay) (l .marks) (l .minima) (now (a .weights)) (l .row) (l .detector))) (l .audio) (l .run) (l .inv .0) (c .before .before .before .before .before .before .before .if1 .taken)
 
 loop-less : tie.Need-loop-less Inv-loop μ-loop
 loop-less c =
-    let s = c .before .before .before .before .before .before .before .before .before .before .before .before .before .before .before .before .before .before .before .before .before .before .before .before .before .before .before .before .before .before .before .before .before .before .before .before in
+    let s = c .before .before .before .before .before .before .before .before .before .before .before .before .before .before .before .before .before .before .before .before .before .before .before .before .before .before .before .before .before .before .before .before .before .before .before .before .before in
     let a = s .args in
     let l = c .before .before .before .before .before .before .before .before .before .before .before .before .before .before .before .before .before .before .before .before .before .before .before .before .before .before .loop in
     let t = c .before .before .before .before .before .before .before .before .before .before .before .before .before .before .before .before .turn in
@@ -57,7 +61,7 @@ loop-less c =
 
 loop-again : tie.Need-loop-again Inv-loop μ-loop
 loop-again c =
-    let s = c .before .before .before .before .before .before .before .before .before .before .before .before .before .before .before .before .before .before .before .before .before .before .before .before .before .before .before .before .before .before .before .before .before .before .before .before in
+    let s = c .before .before .before .before .before .before .before .before .before .before .before .before .before .before .before .before .before .before .before .before .before .before .before .before .before .before .before .before .before .before .before .before .before .before .before .before .before in
     let a = s .args in
     let l = c .before .before .before .before .before .before .before .before .before .before .before .before .before .before .before .before .before .before .before .before .before .before .before .before .before .before .loop in
     let t = c .before .before .before .before .before .before .before .before .before .before .before .before .before .before .before .before .turn in
@@ -74,65 +78,71 @@ loop-again c =
     )
 
 same-length : tie.Need-same-length Inv-loop μ-loop
-same-length c = c .before .before .before .before .loop .inv .1
+same-length c = c .before .before .before .before .before .loop .inv .1
 
 same-length-2 : tie.Need-same-length-2 Inv-loop μ-loop
-same-length-2 c = c .before .before .before .before .loop .inv .2
+same-length-2 c = c .before .before .before .before .before .loop .inv .2
 
 same-length-3 : tie.Need-same-length-3 Inv-loop μ-loop
-same-length-3 c = c .before .before .before .before .loop .inv .3
+same-length-3 c = c .before .before .before .before .before .loop .inv .3
 
 same-length-4 : tie.Need-same-length-4 Inv-loop μ-loop
-same-length-4 c = c .before .before .before .before .loop .inv .4
+same-length-4 c = c .before .before .before .before .before .loop .inv .4
 
 same-length-5 : tie.Need-same-length-5 Inv-loop μ-loop
-same-length-5 c = c .before .before .before .before .loop .inv .5
+same-length-5 c = c .before .before .before .before .before .loop .inv .5
 
 same-length-6 : tie.Need-same-length-6 Inv-loop μ-loop
-same-length-6 c = c .before .before .before .before .loop .inv .6
+same-length-6 c = c .before .before .before .before .before .loop .inv .6
 
 returns : tie.Need-returns Inv-loop μ-loop
 returns c =
-    let s = c .before .before .before .before .before .before .before .before .before .before .before .before .before .before in
-    let a = s .args in
-    let l = c .before .before .before .before .loop in
-    let m = (machineOf (l .l) (l .b) (storesAt (l .delay) (l .marks) (l .minima) (now (a .weights)) (l .row) (l .detector))) in (
-      driven-machine (a .format) (a .position) (a .frames) (now (a .events)) (now (a .audio)) (machine s) (l .block) m (l .audio) (l .run) (l .inv .0) (c .before .before .if1 .left) (l .b) (rest-end (now (a .events)) (length (now (a .events)) / 3) (l .block .latched) (l .b) (c .if2 .taken)),
-      driven-audio (a .format) (a .position) (a .frames) (now (a .events)) (now (a .audio)) (machine s) (l .block) m (l .audio) (l .run) (l .inv .0) (c .before .before .if1 .left) (l .b) (rest-end (now (a .events)) (length (now (a .events)) / 3) (l .block .latched) (l .b) (c .if2 .taken)),
-    )
-
-latch-rest-requires : tie.Need-latch-rest-requires Inv-loop μ-loop
-latch-rest-requires c κs = c .before .before .before .before .loop .inv .0 .events-left
-
-same-length-7 : tie.Need-same-length-7 Inv-loop μ-loop
-same-length-7 c = c .before .before .before .before .before .loop .inv .1
-
-same-length-8 : tie.Need-same-length-8 Inv-loop μ-loop
-same-length-8 c = c .before .before .before .before .before .loop .inv .2
-
-same-length-9 : tie.Need-same-length-9 Inv-loop μ-loop
-same-length-9 c = c .before .before .before .before .before .loop .inv .3
-
-same-length-10 : tie.Need-same-length-10 Inv-loop μ-loop
-same-length-10 c = c .before .before .before .before .before .loop .inv .4
-
-same-length-11 : tie.Need-same-length-11 Inv-loop μ-loop
-same-length-11 c = c .before .before .before .before .before .loop .inv .5
-
-same-length-12 : tie.Need-same-length-12 Inv-loop μ-loop
-same-length-12 c = c .before .before .before .before .before .loop .inv .6
-
-returns-2 : tie.Need-returns-2 Inv-loop μ-loop
-returns-2 c =
-    let s = c .before .before .before .before .before .before .before .before .before .before .before .before .before .before .before in
+    let s = c .before .before .before .before .before .before .before .before .before .before .before .before .before .before .before .before in
     let a = s .args in
     let l = c .before .before .before .before .before .loop in
     let m = (machineOf (l .l) (l .b) (storesAt (l .delay) (l .marks) (l .minima) (now (a .weights)) (l .row) (l .detector))) in (
-      driven-machine (a .format) (a .position) (a .frames) (now (a .events)) (now (a .audio)) (machine s) (l .block) m (l .audio) (l .run) (l .inv .0) (c .before .before .before .if1 .left) (c .latch-rest .result) (c .latch-rest .ensures),
-      driven-audio (a .format) (a .position) (a .frames) (now (a .events)) (now (a .audio)) (machine s) (l .block) m (l .audio) (l .run) (l .inv .0) (c .before .before .before .if1 .left) (c .latch-rest .result) (c .latch-rest .ensures),
+      driven-machine (a .format) (a .position) (a .frames) (now (a .events)) (now (a .audio)) (machine s) (l .block) m (l .audio) (l .run) (l .inv .0) (c .before .before .before .if1 .left) (l .b) (rest-end (now (a .events)) (length (now (a .events)) / 3) (l .block .latched) (l .b) (c .if2 .taken)),
+      (
+        driven-audio (a .format) (a .position) (a .frames) (now (a .events)) (now (a .audio)) (machine s) (l .block) m (l .audio) (l .run) (l .inv .0) (c .before .before .before .if1 .left) (l .b) (rest-end (now (a .events)) (length (now (a .events)) / 3) (l .block .latched) (l .b) (c .if2 .taken)),
+        driven-place (a .format) (a .position) (a .frames) (now (a .events)) (now (a .audio)) (machine s) (l .block) m (l .audio) (l .run) (l .inv .0) (c .before .before .before .if1 .left) (l .b) (rest-end (now (a .events)) (length (now (a .events)) / 3) (l .block .latched) (l .b) (c .if2 .taken)),
+      ),
+    )
+
+latch-rest-requires : tie.Need-latch-rest-requires Inv-loop μ-loop
+latch-rest-requires c κs = c .before .before .before .before .before .loop .inv .0 .events-left
+
+same-length-7 : tie.Need-same-length-7 Inv-loop μ-loop
+same-length-7 c = c .before .before .before .before .before .before .loop .inv .1
+
+same-length-8 : tie.Need-same-length-8 Inv-loop μ-loop
+same-length-8 c = c .before .before .before .before .before .before .loop .inv .2
+
+same-length-9 : tie.Need-same-length-9 Inv-loop μ-loop
+same-length-9 c = c .before .before .before .before .before .before .loop .inv .3
+
+same-length-10 : tie.Need-same-length-10 Inv-loop μ-loop
+same-length-10 c = c .before .before .before .before .before .before .loop .inv .4
+
+same-length-11 : tie.Need-same-length-11 Inv-loop μ-loop
+same-length-11 c = c .before .before .before .before .before .before .loop .inv .5
+
+same-length-12 : tie.Need-same-length-12 Inv-loop μ-loop
+same-length-12 c = c .before .before .before .before .before .before .loop .inv .6
+
+returns-2 : tie.Need-returns-2 Inv-loop μ-loop
+returns-2 c =
+    let s = c .before .before .before .before .before .before .before .before .before .before .before .before .before .before .before .before .before in
+    let a = s .args in
+    let l = c .before .before .before .before .before .before .loop in
+    let m = (machineOf (l .l) (l .b) (storesAt (l .delay) (l .marks) (l .minima) (now (a .weights)) (l .row) (l .detector))) in (
+      driven-machine (a .format) (a .position) (a .frames) (now (a .events)) (now (a .audio)) (machine s) (l .block) m (l .audio) (l .run) (l .inv .0) (c .before .before .before .before .if1 .left) (c .latch-rest .result) (c .latch-rest .ensures),
+      (
+        driven-audio (a .format) (a .position) (a .frames) (now (a .events)) (now (a .audio)) (machine s) (l .block) m (l .audio) (l .run) (l .inv .0) (c .before .before .before .before .if1 .left) (c .latch-rest .result) (c .latch-rest .ensures),
+        driven-place (a .format) (a .position) (a .frames) (now (a .events)) (now (a .audio)) (machine s) (l .block) m (l .audio) (l .run) (l .inv .0) (c .before .before .before .before .if1 .left) (c .latch-rest .result) (c .latch-rest .ensures),
+      ),
     )
 
 pub drive-turns-spec : {M : Type 1} → statement M
 drive-turns-spec =
     tie.close
-    (tie.spec Inv-loop μ-loop run-room-requires loop-holds slice-aggregate-turn turn-requires loop-less loop-again same-length same-length-2 same-length-3 same-length-4 same-length-5 same-length-6 returns latch-rest-requires same-length-7 same-length-8 same-length-9 same-length-10 same-length-11 same-length-12 returns-2)
+    (tie.spec Inv-loop μ-loop run-room-requires no-peak-requires loop-holds slice-aggregate-turn turn-requires loop-less loop-again same-length same-length-2 same-length-3 same-length-4 same-length-5 same-length-6 returns latch-rest-requires same-length-7 same-length-8 same-length-9 same-length-10 same-length-11 same-length-12 returns-2)

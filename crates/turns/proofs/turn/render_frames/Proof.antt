@@ -21,7 +21,7 @@ render-requires c κs =
     let g = c .before .before .before .before .before .before .before .before .gather in
     let stores = storesAt (now (a .delay)) (now (a .marks)) (now (a .minima)) (now (a .weights)) (now (a .row)) (now (a .detector)) in (
       kernel-asks (a .limiter) (a .n) stores (g .last .1 .1 .1 .1 .1 .1 .0) (p .ready) (p .some) (p .short) (g .kept .1 .1 .1 .1 .1 .1 .0 ∙ p .run-fit),
-      run-clean (a .limiter) (a .format) (a .target) (a .width) (a .first) (a .n) stores (now (a .audio)) (now (a .run)) (g .last .1 .1 .1 .1 .1 .1 .0) p (g .ensures),
+      (run-clean (a .limiter) (a .format) (a .target) (a .width) (a .first) (a .n) stores (now (a .audio)) (now (a .run)) (g .last .1 .1 .1 .1 .1 .1 .0) p (g .ensures), omega (arith, p .inside, p .lends .short)),
     )
 
 scatter-requires : tie.Need-scatter-requires
@@ -33,7 +33,7 @@ scatter-requires c κs =
     let stores = storesAt (now (a .delay)) (now (a .marks)) (now (a .minima)) (now (a .weights)) (now (a .row)) (now (a .detector)) in
     let fit = g .kept .1 .1 .1 .1 .1 .1 .0 ∙ p .run-fit in
     let k = kernel-asks (a .limiter) (a .n) stores (g .last .1 .1 .1 .1 .1 .1 .0) (p .ready) (p .some) (p .short) fit in
-    let held = render-held (a .limiter) (a .format) (a .target) (a .n) stores (g .last .1 .1 .1 .1 .1 .1 .0) k (r .result) _ (r .last .1 .1 .1 .1 .0) (r .ensures) in
+    let held = render-held (a .limiter) (a .format) (a .target) (a .n) stores (g .last .1 .1 .1 .1 .1 .1 .0) k (r .result .limiter) _ (r .last .1 .1 .1 .1 .0) (r .ensures .0) in
     (bounds-of (a .limiter) (p .ready .set-up) .most, (p .lends .short, (sym (p .lends .audio-fit), (omega (arith, p .inside), (omega (arith, p .short), (r .kept .1 .1 .1 .1 .0 ∙ fit, held))))))
 
 same-length : tie.Need-same-length
@@ -63,8 +63,8 @@ returns c =
     let g = c .before .before .before .before .before .before .before .before .before .before .before .before .before .before .before .before .before .before .before .before .before .before .before .before .before .before .gather in
     let r = c .before .before .before .before .before .before .before .before .before .before .before .before .before .before .before .before .before .render in
     let s = c .before .before .scatter in
-    run-given (a .limiter) (a .format) (a .target) (a .width) (a .first) (a .n) (storesAt (now (a .delay)) (now (a .marks)) (now (a .minima)) (now (a .weights)) (now (a .row)) (now (a .detector))) (now (a .audio)) (now (a .run)) (g .last .1 .1 .1 .1 .1 .1 .0) (r .last .1 .1 .1 .1 .0) (s .last .1 .1 .1 .1 .1 .1 .0) (r .result)
-    (storesAt (r .last .1 .1 .1 .1 .1 .0) (r .last .1 .1 .1 .1 .1 .1 .0) (r .last .1 .1 .1 .1 .1 .1 .1 .0) (now (a .weights)) (r .last .1 .1 .1 .1 .1 .1 .1 .1 .1 .0) (r .last .1 .1 .1 .1 .1 .1 .1 .1 .1 .1 .0)) (c .before .before .before .before .before .before .before .before .before .before .before .before .before .before .before .before .before .before .before .before .before .before .before .before .before .before .before .before .before .before .before .before .before .before .before .before .before .pre) (g .kept .1 .1 .1 .1 .1 .1 .0) (g .ensures) (r .ensures) (s .ensures)
+    run-given (a .limiter) (a .format) (a .target) (a .width) (a .first) (a .n) (storesAt (now (a .delay)) (now (a .marks)) (now (a .minima)) (now (a .weights)) (now (a .row)) (now (a .detector))) (now (a .audio)) (now (a .run)) (g .last .1 .1 .1 .1 .1 .1 .0) (r .last .1 .1 .1 .1 .0) (s .last .1 .1 .1 .1 .1 .1 .0) (r .result .limiter)
+    (storesAt (r .last .1 .1 .1 .1 .1 .0) (r .last .1 .1 .1 .1 .1 .1 .0) (r .last .1 .1 .1 .1 .1 .1 .1 .0) (now (a .weights)) (r .last .1 .1 .1 .1 .1 .1 .1 .1 .1 .0) (r .last .1 .1 .1 .1 .1 .1 .1 .1 .1 .1 .0)) (a .best) (r .result .highest) (c .before .before .before .before .before .before .before .before .before .before .before .before .before .before .before .before .before .before .before .before .before .before .before .before .before .before .before .before .before .before .before .before .before .before .before .before .before .pre) (g .kept .1 .1 .1 .1 .1 .1 .0) (g .ensures) (r .ensures .0) (r .ensures .1) (s .ensures)
 
 pub render-frames-spec : {M : Type 1} → statement M
 render-frames-spec =

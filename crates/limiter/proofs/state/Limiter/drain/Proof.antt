@@ -29,15 +29,18 @@ add-drained c =
     let few = drained-few (s .args .self) (s .args .n) (lent s) (now (s .args .audio)) (s .pre) in
     omega arith
 
+out-of-reach-requires : tie.Need-out-of-reach-requires
+out-of-reach-requires c κs = search needs
+
 render-requires : tie.Need-render-requires
 unfolding ofBits
 render-requires c κs =
-    let f = c .before .before .before .before .before .before .before .before .before in
+    let f = c .before .before .before .before .before .before .before .before .before .before in
     let s = f .before .before .before .before .before .before .before .before .before in
     let a = s .args in
     let filled = sym (f .fill .ensures) in (
       subst (λ (l : List Float). KernelReady (a .self) (a .n) (lent s) l) filled (silent-ready (a .self) (a .n) (lent s) (now (a .audio)) (s .pre)),
-      subst (λ (l : List Float). Sanitized (a .self .channels) (a .n) l) filled (silent-clean (a .self) (a .n) (lent s) (now (a .audio)) (s .pre)),
+      (subst (λ (l : List Float). Sanitized (a .self .channels) (a .n) l) filled (silent-clean (a .self) (a .n) (lent s) (now (a .audio)) (s .pre)), omega arith),
     )
 
 drained-to-requires : tie.Need-drained-to-requires
@@ -45,8 +48,8 @@ drained-to-requires c κs = search needs
 
 same-length : tie.Need-same-length
 same-length c =
-    let r = c .before .before .before .before .before .before .before .before .before .before .before .before .before in
-    let f = r .before .before .before .before .before .before .before .before .before .before in
+    let r = c .before .before .before .before .before .before .before .before .before .before .before .before .before .before in
+    let f = r .before .before .before .before .before .before .before .before .before .before .before in
     r .render .kept .1 .1 .1 .1 .0 ∙ f .fill .kept .0
 
 same-length-2 : tie.Need-same-length-2
@@ -67,13 +70,13 @@ same-length-6 c = search needs
 returns : tie.Need-returns
 unfolding ofBits renderOf drainOf
 returns c =
-    let r = c .before .before .before .before .before .before .before .before .before .before .before .before .before in
-    let f = r .before .before .before .before .before .before .before .before .before .before in
+    let r = c .before .before .before .before .before .before .before .before .before .before .before .before .before .before in
+    let f = r .before .before .before .before .before .before .before .before .before .before .before in
     let s = f .before .before .before .before .before .before .before .before .before in
     let a = s .args in
     let count = a .self .drained + a .n in
     rw (c .drained-to .ensures)
-    (ap (λ (z : Ran). drainedTo z count) (r .render .ensures)
+    (ap (λ (z : Ran). drainedTo z count) (r .render .ensures .0)
     ∙ ap (λ (l : List Float). drainedTo (renderOf (rulesOf (a .self .settings) (a .format)) (a .self) (a .self .target) (a .n) (lent s) l) count) (f .fill .ensures))
 
 pub drain-spec : {M : Type 1} → statement M
@@ -82,6 +85,7 @@ drain-spec =
     (tie.spec
     fill-requires
     add-drained
+    out-of-reach-requires
     render-requires
     drained-to-requires
     same-length

@@ -13,7 +13,7 @@ render-run-requires : tie.Need-render-run-requires
 render-run-requires c κs =
     let s = c .before .before .before .before .before .before .before .before .before .before .before .before .before .before .before in
     let a = s .args in
-    run-asks (a .self) (a .n) (atCall (a .delay) (a .marks) (a .minima) (a .weights) (a .row) (a .detector)) (now (a .audio)) (s .pre .0) (s .pre .1)
+    (run-asks (a .self) (a .n) (atCall (a .delay) (a .marks) (a .minima) (a .weights) (a .row) (a .detector)) (now (a .audio)) (s .pre .0) (s .pre .1 .0), s .pre .1 .1)
 
 moved-on-requires : tie.Need-moved-on-requires
 moved-on-requires c κs = search needs
@@ -39,9 +39,9 @@ same-length-6 c = search needs
 returns : tie.Need-returns
 unfolding renderOf
 returns c =
-    let r = c .before .before .before .before .before .before .before .before .before .before .before .before .before in
+    let r = c .before .before .before .before .before .before .before .before .before .before .before .before .before .before in
     let a = r .before .before .before .before .before .before .before .before .before .before .before .before .before .before .before .before .args in
-    rw (c .moved-on .ensures) (ap (λ (d : RunDone). ranBy (a .self) (now (a .weights)) (a .target) 0 d) (r .render-run .ensures))
+    (rw (c .moved-on .ensures) (ap (λ (d : RunDone). ranBy (a .self) (now (a .weights)) (a .target) 0 d) (r .render-run .ensures .0)), r .render-run .ensures .1)
 
 pub render-spec : {M : Type 1} → statement M
 render-spec =
