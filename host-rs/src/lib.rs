@@ -94,8 +94,8 @@ impl Limiter {
     /// Events are sorted by their offsets. A block of one sample type may
     /// follow one of the other.
     ///
-    /// The answer says where the highest peak of what came in sat; none where the
-    /// block is empty or nothing in it is above 0.0.
+    /// The answer says where the highest linked peak sat; none where the block is
+    /// empty or has none above 0.0. The detector remembers eleven samples before it.
     ///
     /// # Errors
     /// 20, 21 or 22; 18, 16 and 19 never arise here, because nobody else

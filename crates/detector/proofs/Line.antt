@@ -6,7 +6,7 @@ use native.Mathlib.Nat.{sub-zero}
 use native.Mathlib.Numerals.{add-one}
 use native.Mathlib.Omega.{arith}
 use lib.ListN.{length, getD, take, drop, set, length-map, length-reverse, drop-of-length-le, List·getD-map}
-use lib.Seq.{take-suc, take-suc-set, take-all, take-append-le, take-append-add, drop-at, length-take-le, getD-take}
+use lib.Seq.{take-suc, take-all, take-append-le, take-append-add, drop-at, length-take-le, getD-take}
 use lib.Ieee.{Float, nan}
 use borrow.Author.Tests.{eq-eqb, ne-eqb, le-leb, lt-leb}
 use Rattle.arithmetic.specs.Sanitize.{finiteOrZero}

@@ -1,10 +1,10 @@
 // Polyphase FIR oversampling for inter-sample peak detection (oversample.rs), factor 4, 12 taps. What a channel
 // remembers is shifted and read where it lies, in its store.
 ghost use mathlib.Core.Path.{_≡_};
-ghost use mathlib.Core.List.{List, _++_, map, reverse};
+ghost use mathlib.Core.List.{_++_, map, reverse};
 ghost use Prim.Native.Nat.{_-_, _≤_, _<_};
 ghost use lib.ListN.{length, getD, take, drop};
-ghost use lib.Ieee.{Float, nan};
+ghost use lib.Ieee.{nan};
 ghost use Rattle.arithmetic.specs.Sanitize.{finiteOrZero};
 ghost use Rattle.detector.specs.Taps.{taps};
 ghost use Rattle.detector.specs.Oversample.{remembered, sumsOf, pushedAt, peakAbsOf};
@@ -138,7 +138,8 @@ pub fn answer_at(store: &[f64], samples: &[f64], at: usize) -> Peak
 }
 
 // Push a run of up to 32 samples of a channel: `answers` gets the peaks that `peak_abs` would answer, and the
-// store is left as the single pushes would leave it, in less time. Where the run is longer, the store is not twelve samples long or the answers are not as many as the samples, both are left alone.
+// store is left as the single pushes would leave it. Where the run is longer, the store is not twelve samples long
+// or the answers are not as many as the samples, both are left alone.
 pub fn peaks_abs(store: &mut [f64], samples: &[f64], answers: &mut [f64])
     ensures { λ _. ⌜ pushesAt (now (answers .exit)) (now (store .exit))
         ≡ peaksAbsOf taps (now (store .entry)) (now (samples .entry)) (now (answers .entry)) ⌝ }

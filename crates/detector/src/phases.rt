@@ -1,6 +1,6 @@
-// The sums of the four phases, a sample at a time, and the largest magnitude among them. The table is flat: four
-// taps in a row meet one sample. It is handed down: named where it is indexed, it would be laid on the stack
-// each time.
+// The sums of the four phases, a sample at a time, the largest magnitude among them, and the first that has it.
+// The table is flat: four taps in a row meet one sample. It is handed down: named where it is indexed, it would be
+// laid on the stack each time.
 ghost use mathlib.Core.Path.{_≡_};
 ghost use mathlib.Core.Bool.{false, cond};
 ghost use mathlib.Core.List.{List, [], _∷_};

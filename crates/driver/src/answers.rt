@@ -52,7 +52,8 @@ pub struct Called {
     pub processor: KernelProcessor,
 }
 
-// A block: finished work tells the first frame with the highest linked peak, and where that sat.
+// A block: finished work tells the first frame with the highest linked peak, and where that sat; of a frame
+// nothing is said where it sat nowhere.
 pub enum BlockAnswer {
     Finished { frame: usize, seat: Seat },
     Refused(Refusal),

@@ -147,11 +147,10 @@ impl KernelProcessor {
         );
         let limiter = left.limiter;
         let bank = left.bank;
-        let highest = left.highest;
-        let seat = highest.seat;
+        let seat = left.seat;
         Processed {
             answer: BlockAnswer::Finished {
-                frame: highest.frame,
+                frame: left.frame,
                 seat,
             },
             processor: KernelProcessor { limiter, bank },

@@ -235,6 +235,6 @@ pos-turn look pos channels n c k1 k2 delay audio next h f g e1 e2 o =
 
 -- ---- one channel's peaks, from what the calls find: the table is `taps`, and every channel counts
 pub channel-heard : (settings : LimiterSettings) (c : ℕ) (store samples peaks heardPeaks answers : List Float) → answers ≡ pushesOf taps store samples .peaks → heardPeaks ≡ heardAll true peaks samples answers
-    → heardPeaks ≡ channelPeaks (linkingOf settings) c peaks store samples .peaks
+    → (heardPeaks ≡ channelPeaks (linkingOf settings) c peaks store samples .peaks) × (answers ≡ pushesOf (tapsOf settings) store samples .peaks)
 unfolding channelPeaks tapsOf countsIn
-channel-heard settings c store samples peaks heardPeaks answers a h = rw (h, a) refl
+channel-heard settings c store samples peaks heardPeaks answers a h = (rw (h, a) refl, a)

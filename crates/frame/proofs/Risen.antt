@@ -1,5 +1,5 @@
 -- The highest so far after a run: peaks that are alike below it rise alike, and where they have risen the definition's frame takes its place.
-use mathlib.Core.Path.{_≡_, refl, sym, ap, _∙_, subst}
+use mathlib.Core.Path.{_≡_, refl, sym, ap, _∙_}
 use mathlib.Core.Logic.{⊎-elim}
 use mathlib.Core.Bool.{Bool, true, false, cond, _||_}
 use mathlib.Core.List.{List, [], _∷_}
@@ -13,7 +13,7 @@ use Rattle.arithmetic.proofs.Order.{clash, lt→le}
 use Rattle.arithmetic.proofs.Heights.{lt-below, le-not-lt}
 use Rattle.arithmetic.proofs.InTurn.{split, none-left}
 use Rattle.frame.specs.Rules.{Linking}
-use Rattle.frame.specs.Seat.{Voice, seatOf, PeakAt, peakAmong}
+use Rattle.frame.specs.Seat.{seatOf, PeakAt, peakAmong}
 use Rattle.frame.specs.Place.{higher, highestFrom}
 use Rattle.frame.specs.Passes.{voicesPass, placesFrom, anyAbove, Risen, risenTo, risenFrom}
 use Rattle.frame.specs.Alike.{ceilingOf, Alike, AllAlike, none, some}

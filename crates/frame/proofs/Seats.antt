@@ -3,7 +3,6 @@ use mathlib.Core.Path.{_≡_, refl, sym, ap, _∙_}
 use mathlib.Core.Bool.{Bool, true, false, cond}
 use mathlib.Core.List.{List, [], _∷_}
 use Prim.Native.Nat.{ℕ, suc, _+_, _-_, _*_, _≤_, _<_}
-use native.Mathlib.Nat.{zero-mul}
 use native.Mathlib.Omega.{arith}
 use lib.ListN.{getD, take, drop}
 use lib.Seq.{take-take, drop-drop, getD-take, getD-drop}
@@ -16,7 +15,7 @@ use Rattle.detector.specs.Oversample.{Pushed, remembered, peakAbsOf}
 use Rattle.detector.specs.Run.{runLength, pushesOf}
 use Rattle.detector.specs.declared.answer.Phase.{Phase}
 use Rattle.settings.specs.declared.LimiterSettings.{LimiterSettings}
-use Rattle.frame.specs.Rules.{Linking, tapsOf, countsIn, linkingOf}
+use Rattle.frame.specs.Rules.{tapsOf, countsIn, linkingOf}
 use Rattle.frame.specs.Seat.{Voice, voiceOf, heardBy, betweenFrom, sampleFrom, seatOf}
 use Rattle.frame.specs.Passes.{voicesPass}
 use Rattle.frame.specs.declared.highest.Seat.{Seat}

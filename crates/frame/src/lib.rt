@@ -3,8 +3,10 @@
 
 // The linked peak over the channels.
 mod peaks;
-// Where the highest of them sat.
+// The highest of them so far.
 pub mod highest;
+// Where it sat.
+mod peak_place;
 // Required gains and gain steps.
 pub mod gains;
 // The delayed outputs.

@@ -8,9 +8,9 @@ ghost use lib.ListN.{length, replicate};
 ghost use lib.Ieee.{Float, le};
 ghost use Rattle.arithmetic.specs.Number.{zero};
 ghost use Rattle.detector.specs.Oversample.{remembered};
-ghost use Rattle.detector.specs.Run.{runLength};
+ghost use Rattle.detector.specs.Run.{runLength, pushesOf};
 ghost use Rattle.detector.specs.Level.{levelOf};
-ghost use Rattle.frame.specs.Rules.{linkingOf};
+ghost use Rattle.frame.specs.Rules.{tapsOf, linkingOf};
 ghost use Rattle.frame.specs.Frame.{heard};
 ghost use Rattle.frame.specs.Passes.{allFromZero, heardAll, channelPeaks, peaksPass};
 ghost use Rattle.frame.specs.Alike.{AllAlike};
@@ -73,6 +73,7 @@ fn hear_channel(
     requires { ⌜ allFromZero (now peaks) ≡ true ⌝ }
     ensures { λ _. ⌜ now (peaks .exit)
         ≡ channelPeaks (linkingOf settings) c (now (peaks .entry)) (now (store .entry)) (now (samples .entry)) .peaks ⌝ }
+    ensures { λ _. ⌜ now (answers .exit) ≡ pushesOf (tapsOf settings) (now (store .entry)) (now (samples .entry)) .peaks ⌝ }
     ensures { λ _. ⌜ allFromZero (now (peaks .exit)) ≡ true ⌝ }
 {
     answers_abs(store, samples, answers);

@@ -9,9 +9,9 @@ ghost use Rattle.frame.specs.Run.{framesOf, gainsOfFrames, peaksOfFrames
 use crate::gains::gain_steps;
 use crate::gains::required_gains;
 use crate::highest::Highest;
-use crate::highest::ceiling_of;
-use crate::highest::highest_in;
 use crate::outputs::all_outputs;
+use crate::peak_place::ceiling_of;
+use crate::peak_place::highest_in;
 use crate::peaks::all_peaks;
 use crate::peaks::remember_all;
 use audio::format::Format;

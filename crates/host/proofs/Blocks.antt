@@ -1,7 +1,7 @@
 -- A block of what a state's bytes keep, step by step: no state, refused, or rendered.
 use mathlib.Core.Path.{_≡_, refl, sym, ap, _∙_}
 use mathlib.Core.Bool.{Bool, true, false, not}
-use mathlib.Core.List.{List, []}
+use mathlib.Core.List.{List}
 use Prim.Native.Nat.{ℕ}
 use lib.Dec.{eqb}
 use borrow.Author.Tests.{not-true}
@@ -9,7 +9,8 @@ use Rattle.arithmetic.specs.Reply.{Reply, numbered}
 use Rattle.audio.specs.Format.{sizeOf}
 use Rattle.audio.specs.declared.format.Format.{Format}
 use Rattle.audio.specs.Bytes.{wordsIn}
-use Rattle.frame.specs.Place.{Place, placeIn}
+use Rattle.frame.specs.Run.{peaksOfFrames}
+use Rattle.frame.specs.Place.{Place, placeAt, placeOf}
 use Rattle.limiter.specs.State.{notSetUp}
 use Rattle.limiter.specs.Stores.{Stores}
 use Rattle.limiter.specs.declared.state.Limiter.{Limiter}
@@ -18,7 +19,7 @@ use Rattle.bank.specs.Bank.{unset}
 use Rattle.bank.specs.declared.smoother_bank.SmootherBank.{SmootherBank}
 use Rattle.turns.specs.Machine.{Machine, machineOf, prepared, readyRefusal}
 use Rattle.turns.specs.Events.{eventsOf}
-use Rattle.turns.specs.Block.{callReply, blockReply, placeReply, Outcome, blockOf}
+use Rattle.turns.specs.Block.{callReply, blockReply, placed, placeReply, Outcome, blockOf}
 use Rattle.turns.specs.Inner.{BlockAsked, driven}
 use Rattle.turns.proofs.Told.{place-finished}
 use Rattle.driver.specs.Answers.{machineAt, seen}
@@ -85,11 +86,11 @@ module _ (format : Format) (answer state : List ℕ) (position frames : ℕ) (wo
     block-may z = block-asks format (machineAt q stores) position frames (eventsOf words) bytes size S reply (J (bankWith t) refl) f F z
 
     pub rendered-block : not f ≡ false → (done : RenderedBlock) (later : Stores) (bytes' : List ℕ)
-        → (let o = driven format (machineOf l (bankWith t) stores) position frames words bytes in renderedAt done later ≡ showing (o .machine) → bytes' ≡ o .bytes → placeReply (placeIn (done .highest)) ≡ o .reply
-        → (r : ℕ) → r ≡ 0 → (after : List ℕ) → after ≡ answeredBy answer (placeReply (placeIn (done .highest))) → (next : List ℕ) → ((b : SmootherBank) → shownOf b ≡ done .threshold → next ≡ stateOut (record { limiter = done .limiter; bank = b }))
+        → (let o = driven format (machineOf l (bankWith t) stores) position frames words bytes in renderedAt done later ≡ showing (o .machine) → bytes' ≡ o .bytes → placeAt (done .frame) (done .seat) ≡ placeOf (peaksOfFrames (o .frames))
+        → (r : ℕ) → r ≡ 0 → (after : List ℕ) → after ≡ answeredBy answer (placed (done .frame) (done .seat)) → (next : List ℕ) → ((b : SmootherBank) → shownOf b ≡ done .threshold → next ≡ stateOut (record { limiter = done .limiter; bank = b }))
         → returnedWith (returnedAt r after next later) bytes' ≡ audioBy call answer state stores bytes)
     rendered-block z done later bytes' D B P r R after A next N =
         let m = driven format (machineOf l (bankWith t) stores) position frames words bytes .machine in
         ap (λ (s : Showing). returnedWith (returnedAt r after next (s .stores)) bytes') D
-        ∙ kept q held r after (placeIn (done .highest)) m bytes' (block-finished format (machineAt q stores) position frames (eventsOf words) bytes size S reply (J (bankWith t) refl) f F (placeReply (placeIn (done .highest))) m bytes' z P refl B) R A next
+        ∙ kept q held r after (placeAt (done .frame) (done .seat)) m bytes' (block-finished format (machineAt q stores) position frames (eventsOf words) bytes size S reply (J (bankWith t) refl) f F (placed (done .frame) (done .seat)) m bytes' z (ap placeReply P) refl B) R A next
         (N (m .bank) (ap (λ (s : Showing). s .threshold) (sym D)) ∙ ap (λ (s : Showing). stateOut (record { limiter = s .limiter; bank = m .bank })) D)

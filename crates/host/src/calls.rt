@@ -11,9 +11,8 @@ ghost use Rattle.arithmetic.specs.Reply.{refused, count};
 ghost use Rattle.settings.specs.Settings.{settingsOf, processSpec};
 ghost use Rattle.settings.specs.Derived.{lookOf};
 ghost use Rattle.limiter.specs.Stores.{Stores, atEntry, atExit};
-ghost use Rattle.frame.specs.Place.{placeIn};
 ghost use Rattle.turns.specs.Machine.{Machine};
-ghost use Rattle.turns.specs.Block.{placeReply};
+ghost use Rattle.turns.specs.Block.{placed};
 ghost use Rattle.bank.specs.declared.smoother_bank.SmootherBank.{SmootherBank};
 ghost use Rattle.driver.specs.Answers.{answerReply};
 ghost use Rattle.driver.specs.Parts.{shownOf};
@@ -100,14 +99,13 @@ fn refuse(buffer: &mut [u64], told: Answer) -> u32
 fn finish(state: &mut [u8], buffer: &mut [u64], done: RenderedBlock) -> u32
     requires { ⌜ length (now state) ≡ stateBytes ⌝ }
     ensures { λ r. ⌜ r ≡ 0 ⌝ }
-    ensures { λ _. ⌜ now (buffer .exit) ≡ answeredBy (now (buffer .entry)) (placeReply (placeIn (done .highest))) ⌝ }
+    ensures { λ _. ⌜ now (buffer .exit) ≡ answeredBy (now (buffer .entry)) (placed (done .frame) (done .seat)) ⌝ }
     ensures { λ _. ⌜ ((b : SmootherBank) → shownOf b ≡ done .threshold → now (state .exit) ≡ stateOut (record { limiter = done .limiter; bank = b })) ⌝ }
 {
     let limiter = done.limiter;
     let t = done.threshold;
-    let highest = done.highest;
-    let seat = highest.seat;
-    write_answer(buffer, of_place(highest.frame, seat));
+    let seat = done.seat;
+    write_answer(buffer, of_place(done.frame, seat));
     write_parts(state, limiter, t);
     0
 }

@@ -3,8 +3,8 @@
 ghost use mathlib.Core.Path.{_≡_};
 ghost use Rattle.limiter.specs.Stores.{atEntry, atExit, atCall};
 ghost use Rattle.turns.specs.Machine.{machineOf};
-ghost use Rattle.frame.specs.Place.{placeIn};
-ghost use Rattle.turns.specs.Block.{placeReply};
+ghost use Rattle.frame.specs.Run.{peaksOfFrames};
+ghost use Rattle.frame.specs.Place.{placeAt, placeOf};
 ghost use Rattle.turns.specs.Inner.{BlockAsked, driven};
 ghost use Rattle.driver.specs.Parts.{bankWith};
 ghost use Rattle.state_bytes.specs.Shown.{showing, renderedAt};
@@ -13,7 +13,7 @@ use bank::smoother::Smoother;
 use bank::smoother_bank::SmootherBank;
 use driver::ready::shown;
 use driver::state::Threshold;
-use frame::highest::Highest;
+use frame::highest::Seat;
 use limiter::state::Limiter;
 use turns::drive::drive;
 
@@ -21,8 +21,9 @@ use turns::drive::drive;
 pub struct RenderedBlock {
     pub limiter: Limiter,
     pub threshold: Threshold,
-    // its highest linked peak
-    pub highest: Highest,
+    // the first frame with its highest linked peak, 0 where there is none, and where that sat
+    pub frame: usize,
+    pub seat: Seat,
 }
 
 // The bank that shows this and holds no other parameter.
@@ -62,9 +63,9 @@ pub fn render_block(
     ensures { λ _. ⌜ now (audio .exit)
         ≡ driven format (machineOf l (bankWith t) (atEntry delay marks minima weights row detector)) position frames
         (now (events .entry)) (now (audio .entry)) .bytes ⌝ }
-    ensures { λ r. ⌜ placeReply (placeIn (r .highest))
-        ≡ driven format (machineOf l (bankWith t) (atEntry delay marks minima weights row detector)) position frames
-        (now (events .entry)) (now (audio .entry)) .reply ⌝ }
+    ensures { λ r. ⌜ placeAt (r .frame) (r .seat)
+        ≡ placeOf (peaksOfFrames (driven format (machineOf l (bankWith t) (atEntry delay marks minima weights row detector)) position frames
+        (now (events .entry)) (now (audio .entry)) .frames)) ⌝ }
 {
     let left = drive(
         l,
@@ -83,10 +84,11 @@ pub fn render_block(
     );
     let limiter = left.limiter;
     let bank = left.bank;
-    let highest = left.highest;
+    let seat = left.seat;
     RenderedBlock {
         limiter,
         threshold: shown(bank),
-        highest,
+        frame: left.frame,
+        seat,
     }
 }

@@ -21,7 +21,7 @@ use Rattle.frame.proofs.Found.{SoFar, so-far-start, so-far-more, so-far-done}
 use Rattle.bank.specs.declared.smoother_bank.SmootherBank.{SmootherBank}
 use Rattle.turns.specs.Machine.{Machine, machineOf}
 use Rattle.turns.specs.Events.{Event, eventsOf, latchedAll}
-use Rattle.turns.specs.Block.{Renderer, rendered, renderedIn, runAt, runsFrom, runsOf, Turn, turnBy, RunsLeft, runsThrough, outputsOf, placeReply}
+use Rattle.turns.specs.Block.{Renderer, rendered, renderedIn, runAt, runsFrom, runsOf, Turn, turnBy, RunsLeft, runsThrough, outputsOf}
 use Rattle.turns.specs.Inner.{waitingAt, RunsReady, framesLeft, standsAt, turnAt, TurnAsked, TurnGiven, BlockAsked, driven}
 use Rattle.turns.specs.declared.turn.Unfinished.{Unfinished}
 use Rattle.turns.proofs.Rendering.{shown-many, shown-from-zero, channels-kept, settings-kept, audio-small}
@@ -240,10 +240,10 @@ module _ (format : Format) (position frames : ℕ) (words bytes₀ : List ℕ) (
     pub driven-machine : machineOf (m .limiter) bank (m .stores) ≡ driven format m₀ position frames words bytes₀ .machine
     driven-machine = ap (λ (r : RunsLeft). r .machine) last
 
-    pub driven-place : placeReply (placeIn (block .highest)) ≡ driven format m₀ position frames words bytes₀ .reply
+    pub driven-place : placeIn (block .highest) ≡ placeOf (peaksOfFrames (driven format m₀ position frames words bytes₀ .frames))
     driven-place =
-        ap placeReply (so-far-done (block .highest) (d .shown) (d .so-far))
-        ∙ ap (λ (l : List Framed). placeReply (placeOf (peaksOfFrames l))) (sym (append-nil (d .shown)) ∙ ap (λ (r : RunsLeft). r .frames) last)
+        so-far-done (block .highest) (d .shown) (d .so-far)
+        ∙ ap (λ (l : List Framed). placeOf (peaksOfFrames l)) (sym (append-nil (d .shown)) ∙ ap (λ (r : RunsLeft). r .frames) last)
 
     pub driven-audio : bytes ≡ driven format m₀ position frames words bytes₀ .bytes
     driven-audio =

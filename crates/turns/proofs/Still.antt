@@ -8,11 +8,11 @@ use lib.Dec.{eqb, ltb}
 use lib.ListN.{length}
 use lib.Ieee.{Float}
 use borrow.Author.Tests.{ltb-true}
-use Rattle.arithmetic.specs.Reply.{Reply}
 use Rattle.arithmetic.proofs.Order.{and-true}
 use Rattle.audio.specs.declared.format.Format.{Format}
 use Rattle.detector.specs.Run.{runLength}
-use Rattle.frame.specs.Place.{noPeak, placeIn}
+use Rattle.frame.specs.Run.{peaksOfFrames}
+use Rattle.frame.specs.Place.{Place, placeOf, noPeak, placeIn}
 use Rattle.frame.specs.declared.highest.Highest.{Highest}
 use Rattle.limiter.specs.Stores.{Stores}
 use Rattle.limiter.specs.declared.state.Limiter.{Limiter}
@@ -23,7 +23,7 @@ use Rattle.bank.specs.Bank.{allChanged}
 use Rattle.bank.specs.declared.smoother_bank.SmootherBank.{SmootherBank}
 use Rattle.turns.specs.Machine.{Machine, machineOf, thresholdOf}
 use Rattle.turns.specs.Events.{Event, eventsFrom, eventsOf, latched, latchedAll}
-use Rattle.turns.specs.Block.{renderedIn, period, runAt, blockDone, Outcome, placeReply}
+use Rattle.turns.specs.Block.{renderedIn, period, runAt, blockDone, Outcome}
 use Rattle.turns.specs.Inner.{waitingAt, beforeRun, RunAsked, RunGiven, TurnAsked, TurnGiven, BlockAsked, driven}
 use Rattle.turns.specs.declared.turn.Unfinished.{Unfinished}
 use Rattle.turns.proofs.Turning.{turn-inside, turn-asks, turn-given}
@@ -49,8 +49,8 @@ module _ (format : Format) (m : Machine) (position frames : ℕ) (words bytes : 
   pub same-bytes : (bytes' : List ℕ) → bytes' ≡ driven format m position frames [] bytes .bytes → bytes' ≡ driven format m position frames words bytes .bytes
   same-bytes bytes' e = e ∙ ap (λ (o : Outcome). o .bytes) no-events
 
-  pub same-reply : (reply : Reply) → reply ≡ driven format m position frames [] bytes .reply → reply ≡ driven format m position frames words bytes .reply
-  same-reply reply e = e ∙ ap (λ (o : Outcome). o .reply) no-events
+  pub same-place : (p : Place) → p ≡ placeOf (peaksOfFrames (driven format m position frames [] bytes .frames)) → p ≡ placeOf (peaksOfFrames (driven format m position frames words bytes .frames))
+  same-place p e = e ∙ ap (λ (o : Outcome). placeOf (peaksOfFrames (o .frames))) no-events
 
 -- ---- a bank that a step leaves alone
 module _ (b : SmootherBank) (still : allChanged stepped b ≡ b) where
@@ -111,7 +111,7 @@ module _ (format : Format) (position frames : ℕ) (bytes₀ : List ℕ) (m₀ :
     pub gone-machine : machineOf l (m₀ .bank) s ≡ driven format m₀ position frames [] bytes₀ .machine
     gone-machine = driven-machine format position frames [] bytes₀ m₀ (block first h) (machineOf l (m₀ .bank) s) bytes run d done (m₀ .bank) none-left
 
-    pub gone-place : placeReply (placeIn h) ≡ driven format m₀ position frames [] bytes₀ .reply
+    pub gone-place : placeIn h ≡ placeOf (peaksOfFrames (driven format m₀ position frames [] bytes₀ .frames))
     gone-place = driven-place format position frames [] bytes₀ m₀ (block first h) (machineOf l (m₀ .bank) s) bytes run d done (m₀ .bank) none-left
 
     pub gone-audio : bytes ≡ driven format m₀ position frames [] bytes₀ .bytes

@@ -3,8 +3,8 @@ use Prim.Native.Nat.{ℕ}
 use mathlib.Core.Path.{_≡_, refl}
 use mathlib.Core.Bool.{true}
 use mathlib.Core.List.{List, [], _∷_, _++_, map}
-use lib.ListN.{replicate}
-use lib.Ieee.{Float, toBits}
+use lib.ListN.{getD, replicate}
+use lib.Ieee.{Float, lt, eq, ofBits, toBits}
 use Rattle.arithmetic.specs.Number
 use Rattle.arithmetic.specs.Number.{one}
 use Rattle.arithmetic.specs.Reply.{finished, count, refused}
@@ -13,6 +13,8 @@ use Rattle.audio.specs.Planar.{frameAt, framesAt, written}
 use Rattle.audio.specs.Format.{sampleOf, bytesFor, placesOf, writtenBytes}
 use Rattle.audio.specs.declared.format.Format.the-variants.{F64}
 use Rattle.frame.specs.Frame.{Framed}
+use Rattle.frame.specs.Run.{peaksOfFrames}
+use Rattle.frame.specs.Place.{placeAt, highestOf, firstWith, placeOf}
 use Rattle.limiter.specs.Stores.{Stores}
 use Rattle.limiter.specs.Run.{movingOf}
 use Rattle.limiter.specs.declared.state.Limiter.{Limiter}
@@ -27,12 +29,15 @@ use Rattle.turns.specs.Events.{Event, latchedOne, latched, latchedAll, e
 use Rattle.turns.specs.Block.{Renderer, bankAt, runsFrom, runsThrough, blockDone}
 use Rattle.turns.specs.Drain.{drainDone}
 
--- ---- a renderer that gives out 1.0 in each frame of its one channel, and moves nothing: what a call writes is seen by it alone
-abbrev loudFrame : Limiter → Stores → List Float → Framed
-loudFrame l s xs = record { at = record { peak = one; seat = Seat.OnSample 0 }; floor = one; dropped = 0; mean = one; gain = one; outputs = one ∷ []; moving = movingOf l s }
+-- ---- renderers that give out 1.0 in each frame of their one channel, and move nothing: what a call writes is seen by it alone. The peaks that they show are 1.0, or the samples
+abbrev loudFrame : Limiter → Stores → Float → Framed
+loudFrame l s p = record { at = record { peak = p; seat = Seat.OnSample 0 }; floor = one; dropped = 0; mean = one; gain = one; outputs = one ∷ []; moving = movingOf l s }
 
 abbrev loud : Renderer
-loud l s target fs = record { limiter = l; stores = s; frames = map (λ (xs : List Float). loudFrame l s xs) fs }
+loud l s target fs = record { limiter = l; stores = s; frames = map (λ (xs : List Float). loudFrame l s one) fs }
+
+abbrev heard : Renderer
+heard l s target fs = record { limiter = l; stores = s; frames = map (λ (xs : List Float). loudFrame l s (getD xs 0 Number.zero)) fs }
 
 -- the small start of limiter/proofs/Wrong.antt, with a drained count
 abbrev machine : ℕ → Machine
@@ -54,6 +59,13 @@ bytewise = ⊥
 pub both-runs-written : blockDone loud F64 (machine 0) 31 2 [] (silent 16) .bytes ≡ oneBytes ++ oneBytes
 unfolding bytewise runsFrom runsThrough latched latchedAll firstMapped
 both-runs-written = refl
+
+-- a frame counted from its run's start: of two runs the second has the higher peak. The highest so far lost between runs: it is only as high
+pub place-in-block :
+    (placeOf (peaksOfFrames (blockDone heard F64 (machine 0) 31 2 [] (silent 8 ++ oneBytes) .frames)) ≡ placeAt 1 (Seat.OnSample 0))
+    × (placeOf (peaksOfFrames (blockDone loud F64 (machine 0) 31 2 [] (silent 16) .frames)) ≡ placeAt 0 (Seat.OnSample 0))
+unfolding bytewise runsFrom runsThrough latched latchedAll firstMapped placeOf highestOf firstWith lt eq ofBits
+place-in-block = (refl, refl)
 
 -- the bank stepped on the block's own grid: at a block's first frame, wherever it stands; and at no other multiple of 32 of the position
 pub steps-by-position : (b : SmootherBank) → (bankAt 33 b ≡ b) × (bankAt 64 b ≡ allChanged stepped b)

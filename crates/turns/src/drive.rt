@@ -5,8 +5,8 @@ ghost use Rattle.bank.specs.Smoother.{stepped};
 ghost use Rattle.bank.specs.Bank.{allChanged};
 ghost use Rattle.limiter.specs.Stores.{atEntry, atExit, atCall};
 ghost use Rattle.turns.specs.Machine.{machineOf};
-ghost use Rattle.frame.specs.Place.{placeIn};
-ghost use Rattle.turns.specs.Block.{placeReply};
+ghost use Rattle.frame.specs.Run.{peaksOfFrames};
+ghost use Rattle.frame.specs.Place.{placeAt, placeOf};
 ghost use Rattle.turns.specs.Inner.{BlockAsked, driven};
 use crate::events::latch_rest;
 use crate::turn::Unfinished;
@@ -17,7 +17,7 @@ use crate::turn::target_now;
 use crate::turn::turn;
 use audio::format::Format;
 use bank::smoother_bank::SmootherBank;
-use frame::highest::Highest;
+use frame::highest::Seat;
 use frame::highest::no_peak;
 use limiter::state::Limiter;
 
@@ -25,8 +25,9 @@ use limiter::state::Limiter;
 pub struct Driven {
     pub limiter: Limiter,
     pub bank: SmootherBank,
-    // its highest linked peak
-    pub highest: Highest,
+    // the first frame with its highest linked peak, 0 where there is none, and where that sat
+    pub frame: usize,
+    pub seat: Seat,
 }
 
 // A block with no event and a bank that a step leaves alone: every run has the same target, found
@@ -53,9 +54,9 @@ fn drive_still(
     ensures { λ _. ⌜ now (audio .exit)
         ≡ driven format (machineOf limiter bank (atEntry delay marks minima weights row detector)) position frames
         [] (now (audio .entry)) .bytes ⌝ }
-    ensures { λ r. ⌜ placeReply (placeIn (r .highest))
-        ≡ driven format (machineOf limiter bank (atEntry delay marks minima weights row detector)) position frames
-        [] (now (audio .entry)) .reply ⌝ }
+    ensures { λ r. ⌜ placeAt (r .frame) (r .seat)
+        ≡ placeOf (peaksOfFrames (driven format (machineOf limiter bank (atEntry delay marks minima weights row detector)) position frames
+        [] (now (audio .entry)) .frames)) ⌝ }
 {
     let target = target_now(limiter, bank);
     let mut run = run_room();
@@ -85,10 +86,12 @@ fn drive_still(
         highest = moved.highest;
         first += n;
     }
+    let seat = highest.seat;
     Driven {
         limiter: l,
         bank,
-        highest,
+        frame: highest.frame,
+        seat,
     }
 }
 
@@ -115,9 +118,9 @@ fn drive_turns(
     ensures { λ _. ⌜ now (audio .exit)
         ≡ driven format (machineOf limiter bank (atEntry delay marks minima weights row detector)) position frames
         (now (events .entry)) (now (audio .entry)) .bytes ⌝ }
-    ensures { λ r. ⌜ placeReply (placeIn (r .highest))
-        ≡ driven format (machineOf limiter bank (atEntry delay marks minima weights row detector)) position frames
-        (now (events .entry)) (now (audio .entry)) .reply ⌝ }
+    ensures { λ r. ⌜ placeAt (r .frame) (r .seat)
+        ≡ placeOf (peaksOfFrames (driven format (machineOf limiter bank (atEntry delay marks minima weights row detector)) position frames
+        (now (events .entry)) (now (audio .entry)) .frames)) ⌝ }
 {
     let mut run = run_room();
     let mut l = limiter;
@@ -151,18 +154,22 @@ fn drive_turns(
         block = t.block;
     }
     let highest = block.highest;
+    let frame = highest.frame;
+    let seat = highest.seat;
     // mostly nothing is left to latch: a bank is large, and is handed on as it came
     if events.len() / 3 <= block.latched {
         return Driven {
             limiter: l,
             bank: b,
-            highest,
+            frame,
+            seat,
         };
     }
     Driven {
         limiter: l,
         bank: latch_rest(b, events, block.latched),
-        highest,
+        frame,
+        seat,
     }
 }
 
@@ -189,9 +196,9 @@ pub fn drive(
     ensures { λ _. ⌜ now (audio .exit)
         ≡ driven format (machineOf limiter bank (atEntry delay marks minima weights row detector)) position frames
         (now (events .entry)) (now (audio .entry)) .bytes ⌝ }
-    ensures { λ r. ⌜ placeReply (placeIn (r .highest))
-        ≡ driven format (machineOf limiter bank (atEntry delay marks minima weights row detector)) position frames
-        (now (events .entry)) (now (audio .entry)) .reply ⌝ }
+    ensures { λ r. ⌜ placeAt (r .frame) (r .seat)
+        ≡ placeOf (peaksOfFrames (driven format (machineOf limiter bank (atEntry delay marks minima weights row detector)) position frames
+        (now (events .entry)) (now (audio .entry)) .frames)) ⌝ }
 {
     // most blocks: no whole event, and a bank at rest
     if (events.len() < 3) & bank.is_still() {

@@ -1,7 +1,6 @@
 -- `no_peak`: the literals.
 use lib.Ieee.{ofBits}
 use mathlib.Core.Path.{refl}
-use borrow.Author.Needs.{needs}
 use Rattle.frame.proofs.highest.no_peak.Statement.{statement}
 use Rattle.frame.proofs.highest.no_peak.Tie as tie
 

@@ -11,8 +11,6 @@ use mathlib.Core.Path.{_≡_, sym, _∙_}
 use borrow.Author.Needs.{needs}
 use Rattle.frame.proofs.peaks.all_peaks.Statement.{statement}
 use Rattle.frame.proofs.peaks.all_peaks.Tie as tie
-use Rattle.detector.proofs.quiet.level_below.Reads as level-below-reads
-use Rattle.frame.proofs.peaks.hear_or_pass.Reads as hear-or-pass-reads
 
 abbrev Inv-loop : tie.InvT-loop
 Inv-loop settings ceiling channels n audio detector peaks₀ level c₀ peaks c =

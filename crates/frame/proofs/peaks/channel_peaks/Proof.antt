@@ -1,9 +1,7 @@
 -- `channel_peaks`: the answers are a local array's first n.
 use borrow.Author.Needs.{needs}
-use borrow.Author.Needs.{needs}
 use Rattle.frame.proofs.peaks.channel_peaks.Statement.{statement}
 use Rattle.frame.proofs.peaks.channel_peaks.Tie as tie
-use Rattle.frame.proofs.peaks.hear_channel.Reads as hear-channel-reads
 
 sub-hear-channel : tie.Need-sub-hear-channel
 sub-hear-channel c = search needs

@@ -2,11 +2,8 @@
 use Rattle.frame.proofs.Channels.{channel-heard}
 use denote.Ref.{now}
 use borrow.Author.Needs.{needs}
-use borrow.Author.Needs.{needs}
 use Rattle.frame.proofs.peaks.hear_channel.Statement.{statement}
 use Rattle.frame.proofs.peaks.hear_channel.Tie as tie
-use Rattle.detector.proofs.oversample.answers_abs.Reads as answers-abs-reads
-use Rattle.frame.proofs.peaks.hear_run.Reads as hear-run-reads
 
 answers-abs-requires : tie.Need-answers-abs-requires
 answers-abs-requires c κs = search needs
@@ -27,7 +24,8 @@ returns c =
     let h = c .before .before .hear-run in
     let p = c .before .before .before .before .before .before .before .answers-abs in
     let a = c .before .before .before .before .before .before .before .before .before .before .before .before .before .args in
-    (channel-heard (a .settings) (a .c) (now (a .store)) (now (a .samples)) (now (a .peaks)) (h .last .0) (p .last .1 .1 .0) (p .ensures) (h .ensures .0), h .ensures .1)
+    let o = channel-heard (a .settings) (a .c) (now (a .store)) (now (a .samples)) (now (a .peaks)) (h .last .0) (p .last .1 .1 .0) (p .ensures) (h .ensures .0) in
+    (o .0, (o .1, h .ensures .1))
 
 pub hear-channel-spec : {M : Type 1} → statement M
 hear-channel-spec =

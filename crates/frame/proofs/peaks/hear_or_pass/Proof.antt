@@ -3,11 +3,8 @@ use Rattle.frame.proofs.Alike.{left-out, taken-in}
 use denote.Ref.{now}
 use mathlib.Core.Path.{sym, _∙_}
 use borrow.Author.Needs.{needs}
-use borrow.Author.Needs.{needs}
 use Rattle.frame.proofs.peaks.hear_or_pass.Statement.{statement}
 use Rattle.frame.proofs.peaks.hear_or_pass.Tie as tie
-use Rattle.detector.proofs.quiet.lies_within.Reads as lies-within-reads
-use Rattle.frame.proofs.peaks.channel_peaks.Reads as channel-peaks-reads
 
 lies-within-requires : tie.Need-lies-within-requires
 lies-within-requires c κs = search needs

@@ -13,7 +13,6 @@ use mathlib.Core.Path.{_≡_}
 use borrow.Author.Needs.{needs}
 use Rattle.frame.proofs.peaks.remember_all.Statement.{statement}
 use Rattle.frame.proofs.peaks.remember_all.Tie as tie
-use Rattle.detector.proofs.oversample.remember.Reads as remember-reads
 
 abbrev Inv-loop : tie.InvT-loop
 Inv-loop channels n audio detector₀ c₀ detector c =

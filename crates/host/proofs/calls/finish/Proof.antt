@@ -23,7 +23,7 @@ same-length-2 : tie.Need-same-length-2
 same-length-2 c = search needs
 
 returns : tie.Need-returns
-returns c = (refl, (c .before .before .before .before .before .before .write-answer .ensures ∙ ap (λ (t : ReplyWords). answered (now (c .before .before .before .before .before .before .before .before .before .before .before .before .before .before .args .buffer)) (wordsOf t)) (c .before .before .before .before .before .before .before .of-place .ensures), c .before .before .write-parts .ensures))
+returns c = (refl, (c .before .before .before .before .before .before .write-answer .ensures ∙ ap (λ (t : ReplyWords). answered (now (c .before .before .before .before .before .before .before .before .before .before .before .before .before .args .buffer)) (wordsOf t)) (c .before .before .before .before .before .before .before .of-place .ensures), c .before .before .write-parts .ensures))
 
 pub finish-spec : {M : Type 1} → statement M
 finish-spec =

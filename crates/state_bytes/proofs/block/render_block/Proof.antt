@@ -1,8 +1,7 @@
 -- `render_block`: the turns, of the bank that shows the threshold.
 use mathlib.Core.Path.{sym, subst}
 use denote.Ref.{now}
-use Rattle.frame.specs.Place.{placeIn}
-use Rattle.turns.specs.Block.{placeReply}
+use Rattle.frame.specs.Place.{placeAt}
 use Rattle.limiter.specs.Stores.{Stores, storesAt}
 use Rattle.bank.specs.declared.smoother_bank.SmootherBank.{SmootherBank}
 use Rattle.turns.specs.Machine.{machineOf}
@@ -49,12 +48,12 @@ same-length-6 c = search needs
 
 returns : tie.Need-returns
 returns c =
-    let s = c .before .before .before .before .before .before .before .before .before .before .before .before .before .before .before .before .before .before .before .before .before .before .before .before .before .before .before .before .before .before .before .before in
+    let s = c .before .before .before .before .before .before .before .before .before .before .before .before .before .before .before .before .before .before .before .before .before .before .before .before .before .before .before .before .before .before .before in
     let a = s .args in
-    let d = c .before .before .before .before .before .before .before .before .before .before .before .before .before .before .before .before .drive in
+    let d = c .before .before .before .before .before .before .before .before .before .before .before .before .before .before .before .drive in
     let o = d .last .1 .1 .1 .1 .1 .1 in
-    rendered-shows (a .format) (a .l) (a .t) (stores s) (a .position) (a .frames) (now (a .events)) (now (a .audio)) (c .before .before .before .before .before .before .before .before .before .before .before .before .before .before .before .before .before .before .before .before .before .before .before .bank-with .result) (c .before .before .before .before .before .before .before .before .before .before .before .before .before .before .before .before .before .before .before .before .before .before .before .bank-with .ensures) (d .result .limiter) (d .result .bank)
-    (storesAt (o .1 .0) (o .1 .1 .0) (o .1 .1 .1 .0) (now (a .weights)) (o .1 .1 .1 .1 .1 .0) (o .1 .1 .1 .1 .1 .1 .0)) (o .0) (d .ensures .0) (d .ensures .1 .0) (placeReply (placeIn (d .result .highest))) (d .ensures .1 .1) (c .shown .result) (c .shown .ensures)
+    rendered-shows (a .format) (a .l) (a .t) (stores s) (a .position) (a .frames) (now (a .events)) (now (a .audio)) (c .before .before .before .before .before .before .before .before .before .before .before .before .before .before .before .before .before .before .before .before .before .before .bank-with .result) (c .before .before .before .before .before .before .before .before .before .before .before .before .before .before .before .before .before .before .before .before .before .before .bank-with .ensures) (d .result .limiter) (d .result .bank)
+    (storesAt (o .1 .0) (o .1 .1 .0) (o .1 .1 .1 .0) (now (a .weights)) (o .1 .1 .1 .1 .1 .0) (o .1 .1 .1 .1 .1 .1 .0)) (o .0) (d .ensures .0) (d .ensures .1 .0) (placeAt (d .result .frame) (d .result .seat)) (d .ensures .1 .1) (c .shown .result) (c .shown .ensures)
 
 pub render-block-spec : {M : Type 1} → statement M
 render-block-spec =

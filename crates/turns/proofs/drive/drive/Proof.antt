@@ -1,10 +1,9 @@
 -- `drive`: no event and a still bank, or turn by turn.
 use denote.Ref.{now}
 use Rattle.limiter.specs.Stores.{storesAt}
-use Rattle.frame.specs.Place.{placeIn}
+use Rattle.frame.specs.Place.{placeAt}
 use Rattle.turns.specs.Machine.{Machine, machineOf}
-use Rattle.turns.specs.Block.{placeReply}
-use Rattle.turns.proofs.Still.{still-told, same-machine, same-bytes, same-reply}
+use Rattle.turns.proofs.Still.{still-told, same-machine, same-bytes, same-place}
 use Rattle.turns.proofs.drive.drive.Statement.{statement}
 use Rattle.turns.proofs.drive.drive.Tie as tie
 
@@ -50,7 +49,7 @@ returns c =
       same-machine (a .format) (machine s) (a .position) (a .frames) (now (a .events)) (now (a .audio)) (c .before .before .before .before .before .before .before .before .before .before .before .before .before .before .before .before .before .before .before .before .is-still .result) (c .before .before .before .before .before .before .before .before .before .before .before .before .before .before .before .before .before .before .before .if1 .taken) (machineOf (r .result .limiter) (r .result .bank) (storesAt (o .1 .0) (o .1 .1 .0) (o .1 .1 .1 .0) (now (a .weights)) (o .1 .1 .1 .1 .1 .0) (o .1 .1 .1 .1 .1 .1 .0))) (r .ensures .0),
       (
         same-bytes (a .format) (machine s) (a .position) (a .frames) (now (a .events)) (now (a .audio)) (c .before .before .before .before .before .before .before .before .before .before .before .before .before .before .before .before .before .before .before .before .is-still .result) (c .before .before .before .before .before .before .before .before .before .before .before .before .before .before .before .before .before .before .before .if1 .taken) (o .0) (r .ensures .1 .0),
-        same-reply (a .format) (machine s) (a .position) (a .frames) (now (a .events)) (now (a .audio)) (c .before .before .before .before .before .before .before .before .before .before .before .before .before .before .before .before .before .before .before .before .is-still .result) (c .before .before .before .before .before .before .before .before .before .before .before .before .before .before .before .before .before .before .before .if1 .taken) (placeReply (placeIn (r .result .highest))) (r .ensures .1 .1),
+        same-place (a .format) (machine s) (a .position) (a .frames) (now (a .events)) (now (a .audio)) (c .before .before .before .before .before .before .before .before .before .before .before .before .before .before .before .before .before .before .before .before .is-still .result) (c .before .before .before .before .before .before .before .before .before .before .before .before .before .before .before .before .before .before .before .if1 .taken) (placeAt (r .result .frame) (r .result .seat)) (r .ensures .1 .1),
       ),
     )
 

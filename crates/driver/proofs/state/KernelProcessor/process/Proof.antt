@@ -7,8 +7,7 @@ use Rattle.limiter.specs.Stores.{storesAt}
 use Rattle.turns.specs.Machine.{Machine, machineOf}
 use Rattle.turns.specs.Events.{eventsOf}
 use Rattle.arithmetic.specs.Reply.{Reply}
-use Rattle.frame.specs.Place.{placeIn}
-use Rattle.turns.specs.Block.{placeReply}
+use Rattle.turns.specs.Block.{placed, placeReply}
 use Rattle.driver.specs.Answers.{machineAt, answerReply, blockAnswerReply}
 use Rattle.driver.proofs.Refusing.{block-asks, block-left, block-finished}
 use Rattle.driver.proofs.state.KernelProcessor.process.Statement.{statement}
@@ -91,15 +90,15 @@ same-length-12 c = search needs
 
 returns-2 : tie.Need-returns-2
 returns-2 c =
-    let s = c .before .before .before .before .before .before .before .before .before .before .before .before .before .before .before .before .before .before .before .before .before .before .before .before .before .before .before .before .before .before .before .before .before .before .before .before .before .before .before .before .before .before .before in
+    let s = c .before .before .before .before .before .before .before .before .before .before .before .before .before .before .before .before .before .before .before .before .before .before .before .before .before .before .before .before .before .before .before .before .before .before .before .before .before .before .before .before .before .before in
     let a = s .args in
-    let z = c .before .before .before .before .before .before .before .before .before .before .before .before .before .before .before .before .before .before .before .before .before .before .before .before .before .before .before .before .before .before .before .before .before .size-of in
-    let j = c .before .before .before .before .before .before .before .before .before .before .before .before .before .before .before .before .before .before .before .before .before .before .before .before .judge-block in
-    let f = c .before .before .before .before .before .before .before .before .before .before .before .before .before .before .before .before .before .before .before .before .before .before .before .is-finished in
-    let d = c .before .before .before .before .before .before .before .before .before .before .before .before .before .before .before .drive in
+    let z = c .before .before .before .before .before .before .before .before .before .before .before .before .before .before .before .before .before .before .before .before .before .before .before .before .before .before .before .before .before .before .before .before .size-of in
+    let j = c .before .before .before .before .before .before .before .before .before .before .before .before .before .before .before .before .before .before .before .before .before .before .before .judge-block in
+    let f = c .before .before .before .before .before .before .before .before .before .before .before .before .before .before .before .before .before .before .before .before .before .before .is-finished in
+    let d = c .before .before .before .before .before .before .before .before .before .before .before .before .before .before .drive in
     let o = d .last .1 .1 .1 .1 .1 .1 in
-    block-finished (a .format) (machine s) (a .position) (a .frames) (eventsOf (now (a .events))) (now (a .audio)) (z .result) (z .ensures) (answerReply (j .result)) (j .ensures (a .self .bank) (sym (c .before .before .before .before .before .before .before .before .before .before .before .before .before .before .before .before .before .before .before .before .before .before .before .before .before .before .before .before .before .before .shown .ensures))) (f .result) (f .ensures)
-    (placeReply (placeIn (d .result .highest))) (machineOf (d .result .limiter) (d .result .bank) (storesAt (o .1 .0) (o .1 .1 .0) (o .1 .1 .1 .0) (now (a .weights)) (o .1 .1 .1 .1 .1 .0) (o .1 .1 .1 .1 .1 .1 .0))) (o .0) (c .before .before .before .before .before .before .before .before .before .before .before .before .before .before .before .before .before .before .before .before .before .before .if1 .left) (d .ensures .1 .1) (d .ensures .0) (d .ensures .1 .0)
+    block-finished (a .format) (machine s) (a .position) (a .frames) (eventsOf (now (a .events))) (now (a .audio)) (z .result) (z .ensures) (answerReply (j .result)) (j .ensures (a .self .bank) (sym (c .before .before .before .before .before .before .before .before .before .before .before .before .before .before .before .before .before .before .before .before .before .before .before .before .before .before .before .before .before .shown .ensures))) (f .result) (f .ensures)
+    (placed (d .result .frame) (d .result .seat)) (machineOf (d .result .limiter) (d .result .bank) (storesAt (o .1 .0) (o .1 .1 .0) (o .1 .1 .1 .0) (now (a .weights)) (o .1 .1 .1 .1 .1 .0) (o .1 .1 .1 .1 .1 .1 .0))) (o .0) (c .before .before .before .before .before .before .before .before .before .before .before .before .before .before .before .before .before .before .before .before .before .if1 .left) (ap placeReply (d .ensures .1 .1)) (d .ensures .0) (d .ensures .1 .0)
 
 pub process-spec : {M : Type 1} → statement M
 process-spec =

@@ -8,9 +8,8 @@ use Prim.Native.Nat.{_+_}
 use mathlib.Core.Bool.{Bool, true, false, not}
 use mathlib.Core.Path.{_≡_, refl, sym, _∙_}
 use borrow.Author.Needs.{needs}
-use borrow.Author.Needs.{needs}
-use Rattle.frame.proofs.highest.highest_in.Statement.{statement}
-use Rattle.frame.proofs.highest.highest_in.Tie as tie
+use Rattle.frame.proofs.peak_place.highest_in.Statement.{statement}
+use Rattle.frame.proofs.peak_place.highest_in.Tie as tie
 
 off : (b : Bool) → not b ≡ true → b ≡ false
 off true h = clash false h refl

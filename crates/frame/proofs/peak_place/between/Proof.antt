@@ -11,10 +11,8 @@ use native.Mathlib.Omega.{arith}
 use Prim.Native.Nat.{_+_, _-_, _*_, _≤_}
 use mathlib.Core.Path.{_≡_, sym, ap, _∙_}
 use borrow.Author.Needs.{needs}
-use Rattle.frame.proofs.highest.between.Statement.{statement}
-use Rattle.frame.proofs.highest.between.Tie as tie
-use Rattle.detector.proofs.oversample.answer_at.Reads as answer-at-reads
-use Rattle.frame.proofs.highest.heard_by.Reads as heard-by-reads
+use Rattle.frame.proofs.peak_place.between.Statement.{statement}
+use Rattle.frame.proofs.peak_place.between.Tie as tie
 
 abbrev Inv-loop : tie.InvT-loop
 Inv-loop channels n at peak audio detector c₀ c =

@@ -7,8 +7,8 @@ use Prim.Native.Nat.{_-_, _≤_}
 use mathlib.Core.Bool.{_||_}
 use mathlib.Core.Path.{_≡_, refl}
 use borrow.Author.Needs.{needs}
-use Rattle.frame.proofs.highest.any_above.Statement.{statement}
-use Rattle.frame.proofs.highest.any_above.Tie as tie
+use Rattle.frame.proofs.peak_place.any_above.Statement.{statement}
+use Rattle.frame.proofs.peak_place.any_above.Tie as tie
 
 abbrev Inv-loop : tie.InvT-loop
 Inv-loop peaks top found₀ n i₀ found i = (i ≤ n) × (found || anyAbove top (drop i peaks) ≡ anyAbove top peaks)

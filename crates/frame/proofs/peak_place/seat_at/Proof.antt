@@ -12,8 +12,8 @@ use lib.ListN.{getD}
 use Prim.Native.Nat.{_+_, _-_, _*_, _≤_}
 use mathlib.Core.Path.{_≡_, refl, sym, ap, _∙_}
 use borrow.Author.Needs.{needs}
-use Rattle.frame.proofs.highest.seat_at.Statement.{statement}
-use Rattle.frame.proofs.highest.seat_at.Tie as tie
+use Rattle.frame.proofs.peak_place.seat_at.Statement.{statement}
+use Rattle.frame.proofs.peak_place.seat_at.Tie as tie
 
 abbrev Inv-loop : tie.InvT-loop
 Inv-loop settings channels n at peak audio detector c₀ c =

@@ -1,8 +1,8 @@
 -- `heard_by`: by the phase's cases.
 use mathlib.Core.Path.{refl}
 use borrow.Author.Needs.{needs}
-use Rattle.frame.proofs.highest.heard_by.Statement.{statement}
-use Rattle.frame.proofs.highest.heard_by.Tie as tie
+use Rattle.frame.proofs.peak_place.heard_by.Statement.{statement}
+use Rattle.frame.proofs.peak_place.heard_by.Tie as tie
 
 enum-told : tie.Need-enum-told
 enum-told c = search needs

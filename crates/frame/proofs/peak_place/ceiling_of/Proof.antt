@@ -1,8 +1,7 @@
 -- `ceiling_of`: the lower of the two.
 use mathlib.Core.Path.{refl, sym}
-use borrow.Author.Needs.{needs}
-use Rattle.frame.proofs.highest.ceiling_of.Statement.{statement}
-use Rattle.frame.proofs.highest.ceiling_of.Tie as tie
+use Rattle.frame.proofs.peak_place.ceiling_of.Statement.{statement}
+use Rattle.frame.proofs.peak_place.ceiling_of.Tie as tie
 
 returns : tie.Need-returns
 returns c = sym (rw (c .if1 .taken) refl)

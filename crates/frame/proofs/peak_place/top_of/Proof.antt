@@ -7,8 +7,8 @@ use Prim.Native.Nat.{_-_, _≤_}
 use mathlib.Core.Logic.{⊎-elim}
 use mathlib.Core.Path.{_≡_, refl}
 use borrow.Author.Needs.{needs}
-use Rattle.frame.proofs.highest.top_of.Statement.{statement}
-use Rattle.frame.proofs.highest.top_of.Tie as tie
+use Rattle.frame.proofs.peak_place.top_of.Statement.{statement}
+use Rattle.frame.proofs.peak_place.top_of.Tie as tie
 
 abbrev Inv-loop : tie.InvT-loop
 Inv-loop peaks top n peak₀ at₀ i₀ peak at i = (i ≤ n) × (risenFrom i (risenTo peak at) (drop i peaks) ≡ risenFrom 0 (risenTo top (length peaks)) peaks)
