@@ -42,7 +42,10 @@
  *   DAGGERYUZU_PEAK_BETWEEN, frame, channel, phase   no sample is; the lowest channel whose detector is, and the first
  *                                                    of its phases, 0 to 3, that is
  * A phase is the signal between two samples, at frame - 5.875 + phase / 4, since the detector hears it that late; below 0
- * it lies in what came before the block. A drain tells no place. */
+ * it lies in what came before the block. A drain tells no place. A block that is lent an empty answer computes no sum
+ * for its sake, which takes less time, most of all in quiet audio and short blocks; audio, state and stores are the same.
+ * Where such a block is refused by 21, the same call with a whole answer tells the index: a refused block or drain leaves
+ * audio and stores, like the state, as they were. */
 #ifndef DAGGERYUZU_H
 #define DAGGERYUZU_H
 

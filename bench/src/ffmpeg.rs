@@ -105,7 +105,7 @@ fn interleaved(block: &[f64], channels: usize) -> impl Iterator<Item = f64> + '_
 fn limit(ours: &mut Ours, source: &[Vec<f64>], case: &Case) -> Result<f64, String> {
     let mut time = 0.0;
     for blocks in source.chunks(turn(case.block)) {
-        time += ours.run(&mut blocks.to_vec(), case.channels)?;
+        time += ours.run(&mut blocks.to_vec(), case.channels, case.asked)?;
     }
     Ok(time)
 }

@@ -28,6 +28,8 @@ pub struct Case {
     pub channels: usize,
     /// Frames in a block.
     pub block: usize,
+    /// Whether a block is asked where its highest peak sat, which the Rust does not tell.
+    pub asked: bool,
 }
 
 impl Default for Case {
@@ -39,6 +41,7 @@ impl Default for Case {
             look: 72,
             channels: 2,
             block: 512,
+            asked: false,
         }
     }
 }
@@ -136,7 +139,7 @@ fn measure_as<T: Sample>(case: &Case, effort: &Effort) -> Result<Measured, Strin
         // By turns within a round, so that what disturbs one disturbs both.
         let turn = turn(case.block);
         for (x, y) in a.chunks_mut(turn).zip(b.chunks_mut(turn)) {
-            our_time += ours.run(x, case.channels)?;
+            our_time += ours.run(x, case.channels, case.asked)?;
             their_time += theirs.run(y, case.channels);
         }
         if !same(&a, &b) {

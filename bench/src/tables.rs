@@ -36,6 +36,9 @@ pub struct Row {
     pub case: Case,
 }
 
+/// Frames in a block, from one alone to the most.
+const LENGTHS: [usize; 7] = [1, 16, 32, 64, 512, 4096, 65_536];
+
 /// Every table.
 fn all() -> Vec<Table> {
     let usual = Case::default();
@@ -69,7 +72,28 @@ fn all() -> Vec<Table> {
         ),
         beside_rust(
             "frames in a block, loud",
-            [1, 16, 32, 64, 512, 4096, 65_536].map(|block| row(block, Case { block, ..usual })),
+            LENGTHS.map(|block| row(block, Case { block, ..usual })),
+        ),
+        beside_rust(
+            "frames in a block, quiet",
+            LENGTHS.map(|block| row(block, Case { block, ..quiet })),
+        ),
+        beside_rust(
+            "blocks of 512, asked where the highest peak sat",
+            [
+                row("loud", asked(usual)),
+                row("f32 loud", asked(narrow(usual))),
+                row("quiet", asked(quiet)),
+                row("f32 quiet", asked(narrow(quiet))),
+            ],
+        ),
+        beside_rust(
+            "frames in a block, loud, asked where the highest peak sat",
+            LENGTHS.map(|block| row(block, asked(Case { block, ..usual }))),
+        ),
+        beside_rust(
+            "frames in a block, quiet, asked where the highest peak sat",
+            LENGTHS.map(|block| row(block, asked(Case { block, ..quiet }))),
         ),
         beside_plain(
             "deinterleave within a slice, channels x frames",
@@ -143,6 +167,14 @@ fn row(name: impl ToString, case: Case) -> Row {
 
 fn at(level: Level, case: Case) -> Case {
     Case { level, ..case }
+}
+
+/// The same, each block asked where its highest peak sat.
+fn asked(case: Case) -> Case {
+    Case {
+        asked: true,
+        ..case
+    }
 }
 
 /// The same of f32 samples.
@@ -220,11 +252,22 @@ mod tests {
     }
 
     #[test]
+    fn a_title_says_where_blocks_are_asked() {
+        for table in all() {
+            let says = table.title.contains("asked");
+            assert!(table.rows.iter().all(|row| row.case.asked == says));
+        }
+    }
+
+    #[test]
     fn a_word_of_a_row_chooses_it_wherever_it_is() {
         let seen = labels(&["65536", "1152"]);
         let expected = [
             "look in frames, loud: 1152",
             "frames in a block, loud: 65536",
+            "frames in a block, quiet: 65536",
+            "frames in a block, loud, asked where the highest peak sat: 65536",
+            "frames in a block, quiet, asked where the highest peak sat: 65536",
         ];
         assert_eq!(seen, expected);
     }

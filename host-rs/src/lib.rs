@@ -96,6 +96,7 @@ impl Limiter {
     ///
     /// The answer says where the highest linked peak sat; none where the block is
     /// empty or has none above 0.0. The detector remembers eleven samples before it.
+    /// [`process_audio`](Self::process_audio) does not ask for it.
     ///
     /// # Errors
     /// 20, 21 or 22; 18, 16 and 19 never arise here, because nobody else
@@ -106,16 +107,45 @@ impl Limiter {
         audio: &mut [T],
         events: &[ParamEvent],
     ) -> Result<Option<PeakPlace>, Refusal> {
+        self.take(events);
+        told(|answer| self.block(answer, position, audio)).map(PeakPlace::told)
+    }
+
+    /// [`process`](Self::process) for who does not ask where the highest peak sat: no sum
+    /// is computed for its sake, which takes less time, most of all in quiet audio and
+    /// short blocks. A block that is refused is judged twice.
+    ///
+    /// # Errors
+    /// Those of [`process`](Self::process).
+    pub fn process_audio<T: Sample>(
+        &mut self,
+        position: u64,
+        audio: &mut [T],
+        events: &[ParamEvent],
+    ) -> Result<(), Refusal> {
+        self.take(events);
+        if self.block(&mut [], position, audio) == 0 {
+            return Ok(());
+        }
+        // a refused call changes nothing: asked again, it tells its values too
+        told(|answer| self.block(answer, position, audio)).map(|_| ())
+    }
+
+    /// Lays a block's events out in words.
+    fn take(&mut self, events: &[ParamEvent]) {
         self.events.clear();
         for e in events {
             self.events
                 .extend([u64::from(e.offset), u64::from(e.param), e.value.to_bits()]);
         }
+    }
+
+    /// A block with the events taken: its number, and its words, as many as fit.
+    fn block<T: Sample>(&mut self, answer: &mut [u64], position: u64, audio: &mut [T]) -> u32 {
         let frames = audio.len() / self.spec.channels;
         let (state, events, stores) = (&mut self.state, &self.events, self.stores.lent());
         let audio = sys::bytes(audio);
-        told(|answer| T::PROCESS(state, answer, position, frames, events, audio, stores))
-            .map(PeakPlace::told)
+        T::PROCESS(state, answer, position, frames, events, audio, stores)
     }
 
     /// Drains the tail: silence goes in, what was held back comes out. It says nothing

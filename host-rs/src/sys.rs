@@ -356,7 +356,8 @@ macro_rules! blocks_and_drains {
 
 blocks_and_drains! {
     /// Limits a block in place: 18, 16, 19, 20, 21 (its index), 22. It tells where the
-    /// highest peak sat: see [`PeakPlace`](crate::PeakPlace). Events are three words
+    /// highest peak sat: see [`PeakPlace`](crate::PeakPlace); with an empty answer no
+    /// sum is computed for its sake. Events are three words
     /// each: offset, id, bits of the value. A sample is 8 bytes, low byte first.
     process: daggeryuzu_process,
     /// Drains the tail: 18, 16, 19, 20, 22. It tells the frames written and whether

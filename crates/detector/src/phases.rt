@@ -129,7 +129,24 @@ pub fn peak_of_push(table: &[f64], newest: f64, store: &[f64]) -> Peak
     answer_of(&sums)
 }
 
-// The answer at place i of a run that follows what a store remembers.
+// The sums of the answer at place i of a run that follows what a store remembers.
+fn sums_of_one(table: &[f64], store: &[f64], run: &[f64], i: usize) -> [f64; 4]
+    requires { ⌜ length (now table) ≡ tapCount ⌝ }
+    requires { ⌜ length (now store) ≡ remembered ⌝ }
+    requires { ⌜ i < length (now run) ⌝ }
+    ensures { λ r. ⌜ r ≡ sumsBy (now (table .entry)) (samplesAt (now (store .entry)) (now (run .entry)) i) ⌝ }
+{
+    let mut sums = [0.0; 4];
+    if i < 12 {
+        add_run(&mut sums, table, run, i, i + 1);
+        add_store(&mut sums, table, store, i + 1, 12);
+        return sums;
+    }
+    add_run(&mut sums, table, run, i, 12);
+    sums
+}
+
+// The answer at place i of such a run, with its phase.
 pub fn answer_one(table: &[f64], store: &[f64], run: &[f64], i: usize) -> Peak
     requires { ⌜ length (now table) ≡ tapCount ⌝ }
     requires { ⌜ length (now store) ≡ remembered ⌝ }
@@ -137,13 +154,7 @@ pub fn answer_one(table: &[f64], store: &[f64], run: &[f64], i: usize) -> Peak
     ensures { λ r. ⌜ r .peak ≡ largestOf (sumsBy (now (table .entry)) (samplesAt (now (store .entry)) (now (run .entry)) i)) ⌝ }
     ensures { λ r. ⌜ r .phase ≡ phaseOf (sumsBy (now (table .entry)) (samplesAt (now (store .entry)) (now (run .entry)) i)) ⌝ }
 {
-    let mut sums = [0.0; 4];
-    if i < 12 {
-        add_run(&mut sums, table, run, i, i + 1);
-        add_store(&mut sums, table, store, i + 1, 12);
-        return answer_of(&sums);
-    }
-    add_run(&mut sums, table, run, i, 12);
+    let sums = sums_of_one(table, store, run, i);
     answer_of(&sums)
 }
 
@@ -263,7 +274,7 @@ pub fn answer_all(table: &[f64], store: &[f64], run: &[f64], answers: &mut [f64]
     let m = n / 4 * 4;
     answer_fours(table, store, &run[0..m], answers);
     for i in m..n {
-        let answer = answer_one(table, store, run, i);
-        answers[i] = answer.peak;
+        let sums = sums_of_one(table, store, run, i);
+        answers[i] = largest_of(&sums);
     }
 }

@@ -144,6 +144,7 @@ impl KernelProcessor {
             weights,
             row,
             detector,
+            true,
         );
         let limiter = left.limiter;
         let bank = left.bank;

@@ -5,7 +5,7 @@ use mathlib.Core.List.{List, [], _∷_, _++_, map-append}
 use Prim.Native.Nat.{ℕ, suc, _+_}
 use native.Mathlib.Omega.{arith}
 use lib.ListN.{length, take, drop, length-map}
-use lib.Ieee.{Float, lt, le, eq}
+use lib.Ieee.{Float, nan, inf, fin, lt, le, eq}
 use Rattle.arithmetic.specs.Number
 use Rattle.arithmetic.specs.Number.{absOf, maxOf}
 use Rattle.arithmetic.specs.Sanitize.{finiteOrZero}
@@ -17,7 +17,7 @@ use Rattle.frame.specs.Rules.{Linking, Rules}
 use Rattle.frame.specs.Seat.{PeakAt}
 use Rattle.frame.specs.Frame.{heard, linkedFrom, Moving, Framed, frameOf}
 use Rattle.frame.specs.Run.{framesOf, peaksOfFrames}
-use Rattle.frame.specs.Place.{Place, placeAt, noPlace, highestOf, firstWith, placeOf, noPeak, higher, highestFrom, placeIn}
+use Rattle.frame.specs.Place.{Place, placeAt, noPlace, highestOf, firstWith, placeOf, placeTold, startOf, higher, highestFrom, placeIn}
 use Rattle.frame.specs.declared.highest.Highest.{Highest}
 use Rattle.frame.proofs.Heard.{max-from-zero}
 
@@ -96,9 +96,9 @@ found-from i h (p ∷ ps) H Z =
     go false e up on = ap (λ (b : Bool). placeIn (highestFrom (i + 1) (cond b (taking p) h) ps)) e ∙ on e
 
 -- of a whole block
-pub found : (ps : List PeakAt) → peaksFromZero ps ≡ true → placeIn (highestFrom 0 noPeak ps) ≡ placeOf ps
+pub found : (ps : List PeakAt) → peaksFromZero ps ≡ true → placeIn (highestFrom 0 (startOf true) ps) ≡ placeOf ps
 unfolding placeOf le
-found ps Z = found-from 0 noPeak ps refl Z ∙ go (eq (highestOf ps) Number.zero) refl
+found ps Z = found-from 0 (startOf true) ps refl Z ∙ go (eq (highestOf ps) Number.zero) refl
   where
     k : (eq (highestOf ps) Number.zero ≡ true → lt Number.zero (highestOf ps) ≡ false) × (eq (highestOf ps) Number.zero ≡ false → lt Number.zero (highestOf ps) ≡ true)
     k = zero-or-above (highestOf ps) (highest-from-zero ps Z)
@@ -106,6 +106,18 @@ found ps Z = found-from 0 noPeak ps refl Z ∙ go (eq (highestOf ps) Number.zero
     go : (b : Bool) → eq (highestOf ps) Number.zero ≡ b → cond (lt Number.zero (highestOf ps)) (firstWith (highestOf ps) 0 ps) noPlace ≡ cond (eq (highestOf ps) Number.zero) noPlace (firstWith (highestOf ps) 0 ps)
     go true e = rw (e, k .0 e) refl
     go false e = rw (e, k .1 e) refl
+
+-- of one that is not asked: nothing is above its start
+none-above : (x : Float) → lt (inf false) x ≡ false
+unfolding lt
+none-above nan = refl
+none-above (inf s) = refl
+none-above (fin s m e) = refl
+
+found-told : (asked : Bool) (ps : List PeakAt) → peaksFromZero ps ≡ true → placeIn (highestFrom 0 (startOf asked) ps) ≡ placeTold asked ps
+unfolding le
+found-told true ps Z = found ps Z
+found-told false ps Z = found-from 0 (startOf false) ps refl Z ∙ rw (none-above (highestOf ps)) refl
 
 -- ---- what frames in turn show
 linked-from-zero : (linking : Linking) (c : ℕ) (peak : Float) (detector xs : List Float) → le Number.zero peak ≡ true → le Number.zero (linkedFrom linking c peak detector xs .peak) ≡ true
@@ -138,29 +150,30 @@ unfolding highestFrom
 highest-append i h [] qs = let e : i + 0 ≡ i = omega arith in rw e refl
 highest-append i h (p ∷ ps) qs = let e : i + 1 + length ps ≡ i + suc (length ps) = omega arith in highest-append (i + 1) (higher i h p) ps qs ∙ rw e refl
 
--- ---- the highest so far of the frames that a block has shown
-pub record SoFar (h : Highest) (shown : List Framed) : Type 0 where
-  pub is : h ≡ highestFrom 0 noPeak (peaksOfFrames shown)
-  pub from-zero : peaksFromZero (peaksOfFrames shown) ≡ true
+-- ---- the highest so far of the frames that a block has shown, asked for its place or not
+module _ (asked : Bool) where
+  pub record SoFar (h : Highest) (shown : List Framed) : Type 0 where
+    pub is : h ≡ highestFrom 0 (startOf asked) (peaksOfFrames shown)
+    pub from-zero : peaksFromZero (peaksOfFrames shown) ≡ true
 
-pub so-far-start : SoFar noPeak []
-unfolding highestFrom
-so-far-start = record { is = refl; from-zero = refl }
+  pub so-far-start : SoFar (startOf asked) []
+  unfolding highestFrom
+  so-far-start = record { is = refl; from-zero = refl }
 
-pub so-far-more : (h g : Highest) (shown fs : List Framed) (first : ℕ) → SoFar h shown → length shown ≡ first → g ≡ highestFrom first h (peaksOfFrames fs) → peaksFromZero (peaksOfFrames fs) ≡ true → SoFar g (shown ++ fs)
-so-far-more h g shown fs first s n e z =
-    let at : Framed → PeakAt = λ (f : Framed). f .at in
-    let both = map-append at shown fs in
-    let many : first ≡ 0 + length (peaksOfFrames shown) = sym n ∙ sym (length-map shown at) ∙ omega arith in
-    record {
-      is =
-          e ∙ ap (λ (z : Highest). highestFrom first z (peaksOfFrames fs)) (s .is)
-          ∙ ap (λ (j : ℕ). highestFrom j (highestFrom 0 noPeak (peaksOfFrames shown)) (peaksOfFrames fs)) many
-          ∙ sym (highest-append 0 noPeak (peaksOfFrames shown) (peaksOfFrames fs))
-          ∙ ap (highestFrom 0 noPeak) (sym both);
-      from-zero = rw both (append-from-zero (peaksOfFrames shown) (peaksOfFrames fs) (s .from-zero) z);
-    }
+  pub so-far-more : (h g : Highest) (shown fs : List Framed) (first : ℕ) → SoFar h shown → length shown ≡ first → g ≡ highestFrom first h (peaksOfFrames fs) → peaksFromZero (peaksOfFrames fs) ≡ true → SoFar g (shown ++ fs)
+  so-far-more h g shown fs first s n e z =
+      let at : Framed → PeakAt = λ (f : Framed). f .at in
+      let both = map-append at shown fs in
+      let many : first ≡ 0 + length (peaksOfFrames shown) = sym n ∙ sym (length-map shown at) ∙ omega arith in
+      record {
+        is =
+            e ∙ ap (λ (z : Highest). highestFrom first z (peaksOfFrames fs)) (s .is)
+            ∙ ap (λ (j : ℕ). highestFrom j (highestFrom 0 (startOf asked) (peaksOfFrames shown)) (peaksOfFrames fs)) many
+            ∙ sym (highest-append 0 (startOf asked) (peaksOfFrames shown) (peaksOfFrames fs))
+            ∙ ap (highestFrom 0 (startOf asked)) (sym both);
+        from-zero = rw both (append-from-zero (peaksOfFrames shown) (peaksOfFrames fs) (s .from-zero) z);
+      }
 
--- at the end it is the plain scan's
-pub so-far-done : (h : Highest) (shown : List Framed) → SoFar h shown → placeIn h ≡ placeOf (peaksOfFrames shown)
-so-far-done h shown s = ap (λ (z : Highest). placeIn z) (s .is) ∙ found (peaksOfFrames shown) (s .from-zero)
+  -- at the end it is the plain scan's, where that is asked for
+  pub so-far-done : (h : Highest) (shown : List Framed) → SoFar h shown → placeIn h ≡ placeTold asked (peaksOfFrames shown)
+  so-far-done h shown s = ap (λ (z : Highest). placeIn z) (s .is) ∙ found-told asked (peaksOfFrames shown) (s .from-zero)

@@ -1,8 +1,8 @@
 -- Change 5: where a block's highest peak sat, by plain scan over its frames' linked peaks. Last, how the code finds it, which only inner contracts cite.
 use Prim.Native.Nat.{ℕ, _+_}
-use mathlib.Core.Bool.{cond}
+use mathlib.Core.Bool.{Bool, false, cond}
 use mathlib.Core.List.{List, [], _∷_}
-use lib.Ieee.{Float, lt, eq}
+use lib.Ieee.{Float, inf, lt, eq}
 use Rattle.arithmetic.specs.Number.{zero}
 use Rattle.frame.specs.Seat.{PeakAt}
 use Rattle.frame.specs.declared.highest.Seat.{Seat}
@@ -35,9 +35,13 @@ unfoldable pub placeOf : List PeakAt → Place
 placeOf ps = cond (eq (highestOf ps) zero) noPlace (firstWith (highestOf ps) 0 ps)
 
 -- ---- the highest so far
--- at a block's start
-abbrev pub noPeak : Highest
-noPeak = record { peak = zero; frame = 0; seat = Seat.Nowhere }
+-- what it comes to at the end of a block that is asked for its place; one that is not tells none
+abbrev pub placeTold : Bool → List PeakAt → Place
+placeTold asked ps = cond asked (placeOf ps) noPlace
+
+-- at a block's start: 0.0, and where it is not asked an infinity, above which there is no peak
+abbrev pub startOf : Bool → Highest
+startOf asked = record { peak = cond asked zero (inf false); frame = 0; seat = Seat.Nowhere }
 
 -- frame i takes its place where its peak is higher
 abbrev pub higher : ℕ → Highest → PeakAt → Highest

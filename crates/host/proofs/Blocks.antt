@@ -1,16 +1,20 @@
 -- A block of what a state's bytes keep, step by step: no state, refused, or rendered.
 use mathlib.Core.Path.{_≡_, refl, sym, ap, _∙_}
 use mathlib.Core.Bool.{Bool, true, false, not}
-use mathlib.Core.List.{List}
+use mathlib.Core.List.{List, [], _∷_}
 use Prim.Native.Nat.{ℕ}
+use native.Mathlib.Omega.{arith}
 use lib.Dec.{eqb}
-use borrow.Author.Tests.{not-true}
+use lib.ListN.{length}
+use borrow.Author.Tests.{not-true, eqb-true}
 use Rattle.arithmetic.specs.Reply.{Reply, numbered}
 use Rattle.audio.specs.Format.{sizeOf}
 use Rattle.audio.specs.declared.format.Format.{Format}
 use Rattle.audio.specs.Bytes.{wordsIn}
 use Rattle.frame.specs.Run.{peaksOfFrames}
-use Rattle.frame.specs.Place.{Place, placeAt, placeOf}
+use Rattle.frame.specs.Seat.{PeakAt}
+use Rattle.frame.specs.Place.{Place, placeAt, placeOf, placeTold}
+use Rattle.frame.specs.declared.highest.Seat.{Seat}
 use Rattle.limiter.specs.State.{notSetUp}
 use Rattle.limiter.specs.Stores.{Stores}
 use Rattle.limiter.specs.declared.state.Limiter.{Limiter}
@@ -32,7 +36,7 @@ use Rattle.state_bytes.specs.State.{stateWords, isState, limiterIn, bankIn, pro
 use Rattle.state_bytes.specs.Shown.{Showing, showing, renderedAt}
 use Rattle.state_bytes.specs.declared.block.RenderedBlock.{RenderedBlock}
 use Rattle.state_bytes.proofs.Stored.{read-other, read-parts}
-use Rattle.host.specs.Answer.{replyWords, answeredBy}
+use Rattle.host.specs.Answer.{replyWords, answered, answeredBy}
 use Rattle.host.specs.Host.{returnedAt, returnedWith, audioBy}
 use Rattle.host.proofs.Through.{rendered}
 
@@ -40,6 +44,19 @@ use Rattle.host.proofs.Through.{rendered}
 never-prepared : prepared notSetUp unset ≡ false
 unfolding prepared
 never-prepared = rw not-prepared refl
+
+-- who lends no word is told nothing, and need not ask
+nothing-told : (old : List ℕ) → length old ≡ 0 → (p q : Reply) → answeredBy old p ≡ answeredBy old q
+unfolding answered
+nothing-told [] h p q = refl
+nothing-told (x ∷ xs) h p q = absurd (omega (arith, h))
+
+place-told : (old : List ℕ) (i : ℕ) (seat : Seat) (ps : List PeakAt) → placeAt i seat ≡ placeTold (not (eqb (length old) 0)) ps → answeredBy old (placed i seat) ≡ answeredBy old (placeReply (placeOf ps))
+place-told old i seat ps = go (eqb (length old) 0) refl
+  where
+    go : (b : Bool) → eqb (length old) 0 ≡ b → placeAt i seat ≡ placeTold (not b) ps → answeredBy old (placed i seat) ≡ answeredBy old (placeReply (placeOf ps))
+    go true e h = nothing-told old (eqb-true (length old) 0 e) (placed i seat) (placeReply (placeOf ps))
+    go false e h = ap (λ (p : Place). answeredBy old (placeReply p)) h
 
 module _ (format : Format) (answer state : List ℕ) (position frames : ℕ) (words bytes : List ℕ) (stores : Stores) where
   abbrev call : Machine → List ℕ → Outcome
@@ -86,11 +103,13 @@ module _ (format : Format) (answer state : List ℕ) (position frames : ℕ) (wo
     block-may z = block-asks format (machineAt q stores) position frames (eventsOf words) bytes size S reply (J (bankWith t) refl) f F z
 
     pub rendered-block : not f ≡ false → (done : RenderedBlock) (later : Stores) (bytes' : List ℕ)
-        → (let o = driven format (machineOf l (bankWith t) stores) position frames words bytes in renderedAt done later ≡ showing (o .machine) → bytes' ≡ o .bytes → placeAt (done .frame) (done .seat) ≡ placeOf (peaksOfFrames (o .frames))
+        → (let o = driven format (machineOf l (bankWith t) stores) position frames words bytes in renderedAt done later ≡ showing (o .machine) → bytes' ≡ o .bytes → placeAt (done .frame) (done .seat) ≡ placeTold (not (eqb (length answer) 0)) (peaksOfFrames (o .frames))
         → (r : ℕ) → r ≡ 0 → (after : List ℕ) → after ≡ answeredBy answer (placed (done .frame) (done .seat)) → (next : List ℕ) → ((b : SmootherBank) → shownOf b ≡ done .threshold → next ≡ stateOut (record { limiter = done .limiter; bank = b }))
         → returnedWith (returnedAt r after next later) bytes' ≡ audioBy call answer state stores bytes)
     rendered-block z done later bytes' D B P r R after A next N =
-        let m = driven format (machineOf l (bankWith t) stores) position frames words bytes .machine in
+        let o = driven format (machineOf l (bankWith t) stores) position frames words bytes in
+        let m = o .machine in
+        let p = placeOf (peaksOfFrames (o .frames)) in
         ap (λ (s : Showing). returnedWith (returnedAt r after next (s .stores)) bytes') D
-        ∙ kept q held r after (placeAt (done .frame) (done .seat)) m bytes' (block-finished format (machineAt q stores) position frames (eventsOf words) bytes size S reply (J (bankWith t) refl) f F (placed (done .frame) (done .seat)) m bytes' z (ap placeReply P) refl B) R A next
+        ∙ kept q held r after p m bytes' (block-finished format (machineAt q stores) position frames (eventsOf words) bytes size S reply (J (bankWith t) refl) f F (placeReply p) m bytes' z refl refl B) R (A ∙ place-told answer (done .frame) (done .seat) (peaksOfFrames (o .frames)) P) next
         (N (m .bank) (ap (λ (s : Showing). s .threshold) (sym D)) ∙ ap (λ (s : Showing). stateOut (record { limiter = s .limiter; bank = m .bank })) D)

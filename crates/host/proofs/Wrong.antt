@@ -8,10 +8,12 @@ use Rattle.arithmetic.specs.Number.{largest}
 use Rattle.arithmetic.specs.Reply.{Value, finished, refused, numbered, count}
 use Rattle.settings.specs.declared.memory.Cap.{Cap}
 use Rattle.turns.specs.Machine.{Machine}
+use Rattle.turns.specs.Block.{placed}
+use Rattle.frame.specs.declared.highest.Seat.{Seat}
 use Rattle.driver.proofs.Wrong.{machine, judging}
 use Rattle.driver.specs.Calls.{parameterOf, gainOf, gainTold}
 use Rattle.state_bytes.specs.State.{stateOut, processorOf}
-use Rattle.host.specs.Answer.{replyWords, answered, wordsOf}
+use Rattle.host.specs.Answer.{replyWords, answered, wordsOf, answeredBy}
 use Rattle.host.specs.Host.{returned, parameterBy, capOf, wholeNeeded}
 
 -- ---- the state, of every call
@@ -35,6 +37,11 @@ pub eight-words :
     × (answered (7 ∷ 7 ∷ []) (wordsOf (replyWords (refused 7 (count 80 ∷ count 79 ∷ [])))) ≡ 80 ∷ 79 ∷ [])
 unfolding answered
 eight-words = (refl, refl)
+
+-- a place that a block does not tell who lends it one word
+pub one-word-told : (i c : ℕ) → answeredBy (7 ∷ []) (placed i (Seat.OnSample c)) ≡ 1 ∷ []
+unfolding answered
+one-word-told i c = refl
 
 -- a NaN whose sign and payload are lost in 23: 7ff8000000000000
 pub nan-given-back : parameterBy 0 0xfff0_0000_0000_0001 (machine 8000 0 1) .reply ≡ refused 23 (count 0 ∷ count 0xfff0_0000_0000_0001 ∷ [])

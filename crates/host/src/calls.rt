@@ -237,6 +237,8 @@ fn process_as(
     if !told.is_finished() {
         return refuse(answer, told);
     }
+    // who lends no word is not told the place: no sum is then computed for its sake
+    let asked = answer.len() != 0;
     let done = render_block(
         l,
         t,
@@ -251,6 +253,7 @@ fn process_as(
         weights,
         row,
         detector,
+        asked,
     );
     finish(state, answer, done)
 }

@@ -11,7 +11,7 @@ use crate::state::Limiter;
 use crate::stores::fill;
 use audio::format::Format;
 use frame::highest::Highest;
-use frame::highest::Seat;
+use frame::highest::start_of;
 use frame::render::Rendered;
 use frame::render::render_run;
 
@@ -119,12 +119,7 @@ impl Limiter {
     {
         fill(audio, 0.0);
         let drained = self.drained + n;
-        // no peak but an infinite one, or nearly so, is above it
-        let best = Highest {
-            peak: 1e308,
-            frame: 0,
-            seat: Seat::Nowhere,
-        };
+        let best = start_of(false);
         let after = self.render(
             format,
             self.target,

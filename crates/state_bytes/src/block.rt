@@ -4,7 +4,7 @@ ghost use mathlib.Core.Path.{_≡_};
 ghost use Rattle.limiter.specs.Stores.{atEntry, atExit, atCall};
 ghost use Rattle.turns.specs.Machine.{machineOf};
 ghost use Rattle.frame.specs.Run.{peaksOfFrames};
-ghost use Rattle.frame.specs.Place.{placeAt, placeOf};
+ghost use Rattle.frame.specs.Place.{placeAt, placeTold};
 ghost use Rattle.turns.specs.Inner.{BlockAsked, driven};
 ghost use Rattle.driver.specs.Parts.{bankWith};
 ghost use Rattle.state_bytes.specs.Shown.{showing, renderedAt};
@@ -21,7 +21,7 @@ use turns::drive::drive;
 pub struct RenderedBlock {
     pub limiter: Limiter,
     pub threshold: Threshold,
-    // the first frame with its highest linked peak, 0 where there is none, and where that sat
+    // the first frame with its highest linked peak, 0 where there is none or nobody asked, and where that sat
     pub frame: usize,
     pub seat: Seat,
 }
@@ -40,7 +40,8 @@ pub fn bank_with(t: Threshold) -> SmootherBank
     }
 }
 
-// A block that nothing refuses, of a limiter whose bank holds the threshold alone.
+// A block that nothing refuses, of a limiter whose bank holds the threshold alone. It is asked for the place of its
+// highest peak, or is not.
 pub fn render_block(
     l: Limiter,
     t: Threshold,
@@ -55,6 +56,7 @@ pub fn render_block(
     weights: &[f64],
     row: &mut [f64],
     detector: &mut [f64],
+    asked: bool,
 ) -> RenderedBlock
     requires { ⌜ BlockAsked (machineOf l (bankWith t) (atCall delay marks minima weights row detector)) format position frames (now audio) ⌝ }
     ensures { λ r. ⌜ renderedAt r (atExit delay marks minima weights row detector)
@@ -64,7 +66,7 @@ pub fn render_block(
         ≡ driven format (machineOf l (bankWith t) (atEntry delay marks minima weights row detector)) position frames
         (now (events .entry)) (now (audio .entry)) .bytes ⌝ }
     ensures { λ r. ⌜ placeAt (r .frame) (r .seat)
-        ≡ placeOf (peaksOfFrames (driven format (machineOf l (bankWith t) (atEntry delay marks minima weights row detector)) position frames
+        ≡ placeTold asked (peaksOfFrames (driven format (machineOf l (bankWith t) (atEntry delay marks minima weights row detector)) position frames
         (now (events .entry)) (now (audio .entry)) .frames)) ⌝ }
 {
     let left = drive(
@@ -81,6 +83,7 @@ pub fn render_block(
         weights,
         row,
         detector,
+        asked,
     );
     let limiter = left.limiter;
     let bank = left.bank;

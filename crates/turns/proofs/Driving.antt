@@ -1,4 +1,5 @@
 -- The turns of a block: what the rest of the runs makes of the machine now is what all of them make of the machine at the start.
+use mathlib.Core.Bool.{Bool}
 use mathlib.Core.Path.{_≡_, refl, sym, ap, subst, _∙_}
 use mathlib.Core.List.{List, [], _++_, append-assoc, append-nil, map-append}
 use Prim.Native.Nat.{ℕ, zero, suc, _+_, _-_, _*_, _/_, _≤_, _<_}
@@ -16,7 +17,7 @@ use Rattle.detector.specs.Run.{runLength}
 use Rattle.frame.specs.Rules.{rulesOf}
 use Rattle.frame.specs.Frame.{Framed}
 use Rattle.frame.specs.Run.{peaksOfFrames}
-use Rattle.frame.specs.Place.{placeOf, noPeak, placeIn}
+use Rattle.frame.specs.Place.{placeTold, startOf, placeIn}
 use Rattle.frame.proofs.Found.{SoFar, so-far-start, so-far-more, so-far-done}
 use Rattle.bank.specs.declared.smoother_bank.SmootherBank.{SmootherBank}
 use Rattle.turns.specs.Machine.{Machine, machineOf}
@@ -52,8 +53,8 @@ module _ (render : Renderer) where
   runs-end position first zero events fs m = refl
   runs-end position first (suc most) events fs m = refl
 
--- ---- the turns
-module _ (format : Format) (position frames : ℕ) (words bytes₀ : List ℕ) (m₀ : Machine) where
+-- ---- the turns, of a block that is asked for its place or not
+module _ (format : Format) (position frames : ℕ) (words bytes₀ : List ℕ) (m₀ : Machine) (told : Bool) where
   abbrev k : ℕ
   k = m₀ .limiter .channels
 
@@ -77,7 +78,7 @@ module _ (format : Format) (position frames : ℕ) (words bytes₀ : List ℕ) (
     -- what the frames so far showed
     pub shown : List Framed
     pub many : length shown ≡ block .rendered
-    pub so-far : SoFar (block .highest) shown
+    pub so-far : SoFar told (block .highest) shown
     pub most : ℕ
     pub enough : frames - block .rendered ≤ most
     pub inside : block .rendered ≤ frames
@@ -90,10 +91,10 @@ module _ (format : Format) (position frames : ℕ) (words bytes₀ : List ℕ) (
     pub run-fit : length run ≡ 8 * runLength
 
   -- ---- from the start
-  pub driving-start : (run : List Float) → length run ≡ 8 * runLength → BlockAsked m₀ format position frames bytes₀ → (block : Unfinished) → block ≡ record { position = position; frames = frames; rendered = 0; latched = 0; highest = noPeak } → Driving block m₀ bytes₀ run
+  pub driving-start : (run : List Float) → length run ≡ 8 * runLength → BlockAsked m₀ format position frames bytes₀ → (block : Unfinished) → block ≡ record { position = position; frames = frames; rendered = 0; latched = 0; highest = startOf told } → Driving block m₀ bytes₀ run
   driving-start run fit a block E = subst (λ (b : Unfinished). Driving b m₀ bytes₀ run) (sym E) start
     where
-      start : Driving (record { position = position; frames = frames; rendered = 0; latched = 0; highest = noPeak }) m₀ bytes₀ run
+      start : Driving (record { position = position; frames = frames; rendered = 0; latched = 0; highest = startOf told }) m₀ bytes₀ run
       start =
           let e : position + 0 ≡ position = omega arith in
           let f : frames - 0 ≡ frames = omega arith in
@@ -103,7 +104,7 @@ module _ (format : Format) (position frames : ℕ) (words bytes₀ : List ℕ) (
             frames-is = refl;
             shown = [];
             many = refl;
-            so-far = so-far-start;
+            so-far = so-far-start told;
             most = frames;
             enough = omega arith;
             inside = omega arith;
@@ -199,7 +200,7 @@ module _ (format : Format) (position frames : ℕ) (words bytes₀ : List ℕ) (
             frames-is = r .frames-is ∙ d .frames-is;
             shown = d .shown ++ turn .frames;
             many = length-append (d .shown) (turn .frames) ∙ rw (d .many, turn-many) (sym e);
-            so-far = so-far-more (block .highest) (next .highest) (d .shown) (turn .frames) first (d .so-far) (d .many) (r .highest-is) (shown-from-zero (rulesOf (m .limiter .settings) format) (m .limiter) _ (m .stores) gs);
+            so-far = so-far-more told (block .highest) (next .highest) (d .shown) (turn .frames) first (d .so-far) (d .many) (r .highest-is) (shown-from-zero (rulesOf (m .limiter .settings) format) (m .limiter) _ (m .stores) gs);
             most = d .most - 1;
             enough = omega (arith, e, d .enough, run-inside .0);
             inside = omega (arith, e, run-inside .2);
@@ -240,10 +241,10 @@ module _ (format : Format) (position frames : ℕ) (words bytes₀ : List ℕ) (
     pub driven-machine : machineOf (m .limiter) bank (m .stores) ≡ driven format m₀ position frames words bytes₀ .machine
     driven-machine = ap (λ (r : RunsLeft). r .machine) last
 
-    pub driven-place : placeIn (block .highest) ≡ placeOf (peaksOfFrames (driven format m₀ position frames words bytes₀ .frames))
+    pub driven-place : placeIn (block .highest) ≡ placeTold told (peaksOfFrames (driven format m₀ position frames words bytes₀ .frames))
     driven-place =
-        so-far-done (block .highest) (d .shown) (d .so-far)
-        ∙ ap (λ (l : List Framed). placeOf (peaksOfFrames l)) (sym (append-nil (d .shown)) ∙ ap (λ (r : RunsLeft). r .frames) last)
+        so-far-done told (block .highest) (d .shown) (d .so-far)
+        ∙ ap (λ (l : List Framed). placeTold told (peaksOfFrames l)) (sym (append-nil (d .shown)) ∙ ap (λ (r : RunsLeft). r .frames) last)
 
     pub driven-audio : bytes ≡ driven format m₀ position frames words bytes₀ .bytes
     driven-audio =

@@ -12,7 +12,7 @@ use Rattle.arithmetic.proofs.Order.{and-true}
 use Rattle.audio.specs.declared.format.Format.{Format}
 use Rattle.detector.specs.Run.{runLength}
 use Rattle.frame.specs.Run.{peaksOfFrames}
-use Rattle.frame.specs.Place.{Place, placeOf, noPeak, placeIn}
+use Rattle.frame.specs.Place.{Place, placeTold, startOf, placeIn}
 use Rattle.frame.specs.declared.highest.Highest.{Highest}
 use Rattle.limiter.specs.Stores.{Stores}
 use Rattle.limiter.specs.declared.state.Limiter.{Limiter}
@@ -49,8 +49,8 @@ module _ (format : Format) (m : Machine) (position frames : ℕ) (words bytes : 
   pub same-bytes : (bytes' : List ℕ) → bytes' ≡ driven format m position frames [] bytes .bytes → bytes' ≡ driven format m position frames words bytes .bytes
   same-bytes bytes' e = e ∙ ap (λ (o : Outcome). o .bytes) no-events
 
-  pub same-place : (p : Place) → p ≡ placeOf (peaksOfFrames (driven format m position frames [] bytes .frames)) → p ≡ placeOf (peaksOfFrames (driven format m position frames words bytes .frames))
-  same-place p e = e ∙ ap (λ (o : Outcome). placeOf (peaksOfFrames (o .frames))) no-events
+  pub same-place : (told : Bool) (p : Place) → p ≡ placeTold told (peaksOfFrames (driven format m position frames [] bytes .frames)) → p ≡ placeTold told (peaksOfFrames (driven format m position frames words bytes .frames))
+  same-place told p e = e ∙ ap (λ (o : Outcome). placeTold told (peaksOfFrames (o .frames))) no-events
 
 -- ---- a bank that a step leaves alone
 module _ (b : SmootherBank) (still : allChanged stepped b ≡ b) where
@@ -64,17 +64,17 @@ module _ (b : SmootherBank) (still : allChanged stepped b ≡ b) where
   still-before position first = ap (λ (x : SmootherBank). record { bank = x; waiting = [] }) (same-bank (eqb (position % period) 0))
 
 -- ---- the turns
-module _ (format : Format) (position frames : ℕ) (bytes₀ : List ℕ) (m₀ : Machine) where
+module _ (format : Format) (position frames : ℕ) (bytes₀ : List ℕ) (m₀ : Machine) (told : Bool) where
   -- so many of its frames are rendered
   abbrev pub block : ℕ → Highest → Unfinished
   block first highest = record { position = position; frames = frames; rendered = first; latched = 0; highest = highest }
 
   -- the frames shown so far and what the rest of the runs makes of limiter and stores now are the whole, beside the bank as it was
   abbrev pub Going : ℕ → Highest → Limiter → Stores → List ℕ → List Float → Type 0
-  Going first h l s bytes run = Driving format position frames [] bytes₀ m₀ (block first h) (machineOf l (m₀ .bank) s) bytes run
+  Going first h l s bytes run = Driving format position frames [] bytes₀ m₀ told (block first h) (machineOf l (m₀ .bank) s) bytes run
 
-  pub going-start : (run : List Float) → length run ≡ 8 * runLength → BlockAsked m₀ format position frames bytes₀ → (h : Highest) → h ≡ noPeak → Going 0 h (m₀ .limiter) (m₀ .stores) bytes₀ run
-  going-start run fit a h e = driving-start format position frames [] bytes₀ m₀ run fit a (block 0 h) (ap (block 0) e)
+  pub going-start : (run : List Float) → length run ≡ 8 * runLength → BlockAsked m₀ format position frames bytes₀ → (h : Highest) → h ≡ startOf told → Going 0 h (m₀ .limiter) (m₀ .stores) bytes₀ run
+  going-start run fit a h e = driving-start format position frames [] bytes₀ m₀ told run fit a (block 0 h) (ap (block 0) e)
 
   module _ (asked : BlockAsked m₀ format position frames bytes₀) (target : Float) (T : target ≡ targetOf (thresholdOf (m₀ .bank) .cur) (m₀ .limiter .settings .«true_peak_margin_db»))
       (first : ℕ) (h : Highest) (l : Limiter) (s : Stores) (bytes : List ℕ) (run : List Float) (d : Going first h l s bytes run) (more : first < frames) (n : ℕ) (N : n ≡ runAt (position + first) (frames - first)) where
@@ -82,7 +82,7 @@ module _ (format : Format) (position frames : ℕ) (bytes₀ : List ℕ) (m₀ :
     m = machineOf l (m₀ .bank) s
 
     asks : TurnAsked m (block first h) format [] bytes run
-    asks = driving-asks format position frames [] bytes₀ m₀ asked (block first h) m bytes run d more
+    asks = driving-asks format position frames [] bytes₀ m₀ told asked (block first h) m bytes run d more
 
     target-is : target ≡ targetOf (thresholdOf (m₀ .bank) .cur) (l .settings .«true_peak_margin_db»)
     target-is = T ∙ ap (λ (z : LimiterSettings). targetOf (thresholdOf (m₀ .bank) .cur) (z .«true_peak_margin_db»)) (sym (d .settings-are))
@@ -100,7 +100,7 @@ module _ (format : Format) (position frames : ℕ) (bytes₀ : List ℕ) (m₀ :
           turn-given m (block first h) format [] bytes run asks n N (record { bank = m₀ .bank; cursor = 0 }) (still-before (m₀ .bank) still (position + first) first) (omega arith) target target-is after stores bytes' run' g r
 
       pub going-more : Going (first + n) g after stores bytes' run'
-      going-more = driving-more format position frames [] bytes₀ m₀ asked (block first h) m bytes run d more (machineOf after (m₀ .bank) stores) (block (first + n) g) bytes' run' given R
+      going-more = driving-more format position frames [] bytes₀ m₀ told asked (block first h) m bytes run d more (machineOf after (m₀ .bank) stores) (block (first + n) g) bytes' run' given R
 
   -- ---- to the end
   module _ (first : ℕ) (h : Highest) (l : Limiter) (s : Stores) (bytes : List ℕ) (run : List Float) (d : Going first h l s bytes run) (done : frames ≤ first) where
@@ -109,10 +109,10 @@ module _ (format : Format) (position frames : ℕ) (bytes₀ : List ℕ) (m₀ :
     none-left = refl
 
     pub gone-machine : machineOf l (m₀ .bank) s ≡ driven format m₀ position frames [] bytes₀ .machine
-    gone-machine = driven-machine format position frames [] bytes₀ m₀ (block first h) (machineOf l (m₀ .bank) s) bytes run d done (m₀ .bank) none-left
+    gone-machine = driven-machine format position frames [] bytes₀ m₀ told (block first h) (machineOf l (m₀ .bank) s) bytes run d done (m₀ .bank) none-left
 
-    pub gone-place : placeIn h ≡ placeOf (peaksOfFrames (driven format m₀ position frames [] bytes₀ .frames))
-    gone-place = driven-place format position frames [] bytes₀ m₀ (block first h) (machineOf l (m₀ .bank) s) bytes run d done (m₀ .bank) none-left
+    pub gone-place : placeIn h ≡ placeTold told (peaksOfFrames (driven format m₀ position frames [] bytes₀ .frames))
+    gone-place = driven-place format position frames [] bytes₀ m₀ told (block first h) (machineOf l (m₀ .bank) s) bytes run d done (m₀ .bank) none-left
 
     pub gone-audio : bytes ≡ driven format m₀ position frames [] bytes₀ .bytes
-    gone-audio = driven-audio format position frames [] bytes₀ m₀ (block first h) (machineOf l (m₀ .bank) s) bytes run d done (m₀ .bank) none-left
+    gone-audio = driven-audio format position frames [] bytes₀ m₀ told (block first h) (machineOf l (m₀ .bank) s) bytes run d done (m₀ .bank) none-left

@@ -6,7 +6,7 @@ ghost use Rattle.bank.specs.Bank.{allChanged};
 ghost use Rattle.limiter.specs.Stores.{atEntry, atExit, atCall};
 ghost use Rattle.turns.specs.Machine.{machineOf};
 ghost use Rattle.frame.specs.Run.{peaksOfFrames};
-ghost use Rattle.frame.specs.Place.{placeAt, placeOf};
+ghost use Rattle.frame.specs.Place.{placeAt, placeTold};
 ghost use Rattle.turns.specs.Inner.{BlockAsked, driven};
 use crate::events::latch_rest;
 use crate::turn::Unfinished;
@@ -18,14 +18,15 @@ use crate::turn::turn;
 use audio::format::Format;
 use bank::smoother_bank::SmootherBank;
 use frame::highest::Seat;
-use frame::highest::no_peak;
+use frame::highest::start_of;
+use limiter::run::Moved;
 use limiter::state::Limiter;
 
 // What a block leaves beside audio and stores.
 pub struct Driven {
     pub limiter: Limiter,
     pub bank: SmootherBank,
-    // the first frame with its highest linked peak, 0 where there is none, and where that sat
+    // the first frame with its highest linked peak, 0 where there is none or nobody asked, and where that sat
     pub frame: usize,
     pub seat: Seat,
 }
@@ -45,6 +46,7 @@ fn drive_still(
     weights: &[f64],
     row: &mut [f64],
     detector: &mut [f64],
+    asked: bool,
 ) -> Driven
     requires { ⌜ BlockAsked (machineOf limiter bank (atCall delay marks minima weights row detector)) format position frames (now audio) ⌝ }
     requires { ⌜ allChanged stepped bank ≡ bank ⌝ }
@@ -55,17 +57,22 @@ fn drive_still(
         ≡ driven format (machineOf limiter bank (atEntry delay marks minima weights row detector)) position frames
         [] (now (audio .entry)) .bytes ⌝ }
     ensures { λ r. ⌜ placeAt (r .frame) (r .seat)
-        ≡ placeOf (peaksOfFrames (driven format (machineOf limiter bank (atEntry delay marks minima weights row detector)) position frames
+        ≡ placeTold asked (peaksOfFrames (driven format (machineOf limiter bank (atEntry delay marks minima weights row detector)) position frames
         [] (now (audio .entry)) .frames)) ⌝ }
 {
     let target = target_now(limiter, bank);
     let mut run = run_room();
-    let mut l = limiter;
-    let mut highest = no_peak();
+    // what a run leaves is handed to the next one as it came back: taken apart, it would be copied each time
+    let mut moved = Moved {
+        limiter,
+        highest: start_of(asked),
+    };
     let mut first: usize = 0;
     while first < frames {
         let n = run_length(position + first as u64, frames - first);
-        let moved = render_frames(
+        let l = moved.limiter;
+        let best = moved.highest;
+        moved = render_frames(
             l,
             format,
             target,
@@ -80,15 +87,15 @@ fn drive_still(
             weights,
             row,
             detector,
-            highest,
+            best,
         );
-        l = moved.limiter;
-        highest = moved.highest;
         first += n;
     }
+    let limiter = moved.limiter;
+    let highest = moved.highest;
     let seat = highest.seat;
     Driven {
-        limiter: l,
+        limiter,
         bank,
         frame: highest.frame,
         seat,
@@ -110,6 +117,7 @@ fn drive_turns(
     weights: &[f64],
     row: &mut [f64],
     detector: &mut [f64],
+    asked: bool,
 ) -> Driven
     requires { ⌜ BlockAsked (machineOf limiter bank (atCall delay marks minima weights row detector)) format position frames (now audio) ⌝ }
     ensures { λ r. ⌜ machineOf (r .limiter) (r .bank) (atExit delay marks minima weights row detector)
@@ -119,13 +127,13 @@ fn drive_turns(
         ≡ driven format (machineOf limiter bank (atEntry delay marks minima weights row detector)) position frames
         (now (events .entry)) (now (audio .entry)) .bytes ⌝ }
     ensures { λ r. ⌜ placeAt (r .frame) (r .seat)
-        ≡ placeOf (peaksOfFrames (driven format (machineOf limiter bank (atEntry delay marks minima weights row detector)) position frames
+        ≡ placeTold asked (peaksOfFrames (driven format (machineOf limiter bank (atEntry delay marks minima weights row detector)) position frames
         (now (events .entry)) (now (audio .entry)) .frames)) ⌝ }
 {
     let mut run = run_room();
     let mut l = limiter;
     let mut b = bank;
-    let highest = no_peak();
+    let highest = start_of(asked);
     let mut block = Unfinished {
         position,
         frames,
@@ -173,7 +181,7 @@ fn drive_turns(
     }
 }
 
-// A block that nothing refuses.
+// A block that nothing refuses, which is asked for the place of its highest peak, or is not.
 pub fn drive(
     limiter: Limiter,
     bank: SmootherBank,
@@ -188,6 +196,7 @@ pub fn drive(
     weights: &[f64],
     row: &mut [f64],
     detector: &mut [f64],
+    asked: bool,
 ) -> Driven
     requires { ⌜ BlockAsked (machineOf limiter bank (atCall delay marks minima weights row detector)) format position frames (now audio) ⌝ }
     ensures { λ r. ⌜ machineOf (r .limiter) (r .bank) (atExit delay marks minima weights row detector)
@@ -197,7 +206,7 @@ pub fn drive(
         ≡ driven format (machineOf limiter bank (atEntry delay marks minima weights row detector)) position frames
         (now (events .entry)) (now (audio .entry)) .bytes ⌝ }
     ensures { λ r. ⌜ placeAt (r .frame) (r .seat)
-        ≡ placeOf (peaksOfFrames (driven format (machineOf limiter bank (atEntry delay marks minima weights row detector)) position frames
+        ≡ placeTold asked (peaksOfFrames (driven format (machineOf limiter bank (atEntry delay marks minima weights row detector)) position frames
         (now (events .entry)) (now (audio .entry)) .frames)) ⌝ }
 {
     // most blocks: no whole event, and a bank at rest
@@ -215,6 +224,7 @@ pub fn drive(
             weights,
             row,
             detector,
+            asked,
         );
     }
     drive_turns(
@@ -231,5 +241,6 @@ pub fn drive(
         weights,
         row,
         detector,
+        asked,
     )
 }

@@ -1,11 +1,12 @@
 -- `answer_all`: at each turn the answers passed are those of the run.
 use Rattle.detector.proofs.Line.{answers-length, answer-more, first-answers}
 use Rattle.detector.proofs.Copy.{copied-all}
+use Rattle.detector.specs.Oversample.{largestOf}
 use Rattle.detector.specs.Sums.{sumsBy, answersOf}
 use denote.Ref.{now}
 use lib.ListN.{length, take, length-set}
 use Prim.Native.Nat.{_-_, _*_, _/_, _≤_}
-use mathlib.Core.Path.{_≡_, _∙_}
+use mathlib.Core.Path.{_≡_, ap, _∙_}
 use borrow.Author.Needs.{needs}
 use Rattle.detector.proofs.phases.answer_all.Statement.{statement}
 use Rattle.detector.proofs.phases.answer_all.Tie as tie
@@ -39,8 +40,14 @@ loop-holds c =
     let n = length (now (a .run)) in
     (search needs, f .kept .1 .1 .1 .0 ∙ s .pre .1 .1, first-answers (sumsBy (now (a .table))) (now (a .store)) (now (a .run)) (f .last .1 .1 .1 .0) (n / 4 * 4) (search needs) (f .ensures))
 
-answer-one-requires : tie.Need-answer-one-requires Inv-loop μ-loop
-answer-one-requires c κs = search needs
+sums-of-one-requires : tie.Need-sums-of-one-requires Inv-loop μ-loop
+sums-of-one-requires c κs = search needs
+
+slice-aggregate-largest-of : tie.Need-slice-aggregate-largest-of Inv-loop μ-loop
+slice-aggregate-largest-of c = search needs
+
+largest-of-requires : tie.Need-largest-of-requires Inv-loop μ-loop
+largest-of-requires c κs = search needs
 
 mul-answers : tie.Need-mul-answers Inv-loop μ-loop
 mul-answers c = search needs
@@ -56,12 +63,14 @@ loop-less c = search needs
 
 loop-again : tie.Need-loop-again Inv-loop μ-loop
 loop-again c =
-    let l = c .before .before in
-    let a = l .before .before .before .before .before .before .before .before .before .before .args in
-    let o = c .answer-one in (
+    let s = c .before .before .before .before .before .before .before .before .before .before .before .before .before .before in
+    let a = s .args in
+    let l = c .before .before .before .before .loop in
+    let o = c .before .before .sums-of-one in
+    let t = c .largest-of in (
       search needs,
-      simp length-set (l .loop .inv .1),
-      answer-more (sumsBy (now (a .table))) (now (a .store)) (now (a .run)) (l .loop .answers) (l .loop .i) (o .result .peak) (search needs) (search needs) (l .loop .inv .2) (o .ensures .0),
+      simp length-set (l .inv .1),
+      answer-more (sumsBy (now (a .table))) (now (a .store)) (now (a .run)) (l .answers) (l .i) (t .result) (search needs) (search needs) (l .inv .2) (t .ensures ∙ ap largestOf (o .ensures)),
     )
 
 same-length : tie.Need-same-length Inv-loop μ-loop
@@ -85,7 +94,9 @@ answer-all-spec =
     part-answer-fours-end
     answer-fours-requires
     loop-holds
-    answer-one-requires
+    sums-of-one-requires
+    slice-aggregate-largest-of
+    largest-of-requires
     mul-answers
     slice-write-answers
     add-i

@@ -53,7 +53,7 @@ returns c =
     let d = c .before .before .before .before .before .before .before .before .before .before .before .before .before .before .before .drive in
     let o = d .last .1 .1 .1 .1 .1 .1 in
     rendered-shows (a .format) (a .l) (a .t) (stores s) (a .position) (a .frames) (now (a .events)) (now (a .audio)) (c .before .before .before .before .before .before .before .before .before .before .before .before .before .before .before .before .before .before .before .before .before .before .bank-with .result) (c .before .before .before .before .before .before .before .before .before .before .before .before .before .before .before .before .before .before .before .before .before .before .bank-with .ensures) (d .result .limiter) (d .result .bank)
-    (storesAt (o .1 .0) (o .1 .1 .0) (o .1 .1 .1 .0) (now (a .weights)) (o .1 .1 .1 .1 .1 .0) (o .1 .1 .1 .1 .1 .1 .0)) (o .0) (d .ensures .0) (d .ensures .1 .0) (placeAt (d .result .frame) (d .result .seat)) (d .ensures .1 .1) (c .shown .result) (c .shown .ensures)
+    (storesAt (o .1 .0) (o .1 .1 .0) (o .1 .1 .1 .0) (now (a .weights)) (o .1 .1 .1 .1 .1 .0) (o .1 .1 .1 .1 .1 .1 .0)) (o .0) (d .ensures .0) (d .ensures .1 .0) (a .asked) (placeAt (d .result .frame) (d .result .seat)) (d .ensures .1 .1) (c .shown .result) (c .shown .ensures)
 
 pub render-block-spec : {M : Type 1} → statement M
 render-block-spec =

@@ -49,7 +49,7 @@ returns c =
       same-machine (a .format) (machine s) (a .position) (a .frames) (now (a .events)) (now (a .audio)) (c .before .before .before .before .before .before .before .before .before .before .before .before .before .before .before .before .before .before .before .before .is-still .result) (c .before .before .before .before .before .before .before .before .before .before .before .before .before .before .before .before .before .before .before .if1 .taken) (machineOf (r .result .limiter) (r .result .bank) (storesAt (o .1 .0) (o .1 .1 .0) (o .1 .1 .1 .0) (now (a .weights)) (o .1 .1 .1 .1 .1 .0) (o .1 .1 .1 .1 .1 .1 .0))) (r .ensures .0),
       (
         same-bytes (a .format) (machine s) (a .position) (a .frames) (now (a .events)) (now (a .audio)) (c .before .before .before .before .before .before .before .before .before .before .before .before .before .before .before .before .before .before .before .before .is-still .result) (c .before .before .before .before .before .before .before .before .before .before .before .before .before .before .before .before .before .before .before .if1 .taken) (o .0) (r .ensures .1 .0),
-        same-place (a .format) (machine s) (a .position) (a .frames) (now (a .events)) (now (a .audio)) (c .before .before .before .before .before .before .before .before .before .before .before .before .before .before .before .before .before .before .before .before .is-still .result) (c .before .before .before .before .before .before .before .before .before .before .before .before .before .before .before .before .before .before .before .if1 .taken) (placeAt (r .result .frame) (r .result .seat)) (r .ensures .1 .1),
+        same-place (a .format) (machine s) (a .position) (a .frames) (now (a .events)) (now (a .audio)) (c .before .before .before .before .before .before .before .before .before .before .before .before .before .before .before .before .before .before .before .before .is-still .result) (c .before .before .before .before .before .before .before .before .before .before .before .before .before .before .before .before .before .before .before .if1 .taken) (a .asked) (placeAt (r .result .frame) (r .result .seat)) (r .ensures .1 .1),
       ),
     )
 

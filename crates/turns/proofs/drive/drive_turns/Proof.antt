@@ -13,12 +13,12 @@ use Rattle.turns.proofs.drive.drive_turns.Statement.{statement}
 use Rattle.turns.proofs.drive.drive_turns.Tie as tie
 
 abbrev Inv-loop : tie.InvT-loop
-Inv-loop format position frames events audio₀ delay₀ marks₀ minima₀ weights row₀ detector₀ run₀ l₀ b₀ block₀ audio delay marks minima row detector run l b block =
-    Driving format position frames events audio₀ (machineOf l₀ b₀ (storesAt delay₀ marks₀ minima₀ weights row₀ detector₀)) block (machineOf l b (storesAt delay marks minima weights row detector)) audio run
+Inv-loop format position frames events audio₀ delay₀ marks₀ minima₀ weights row₀ detector₀ asked run₀ l₀ b₀ block₀ audio delay marks minima row detector run l b block =
+    Driving format position frames events audio₀ (machineOf l₀ b₀ (storesAt delay₀ marks₀ minima₀ weights row₀ detector₀)) asked block (machineOf l b (storesAt delay marks minima weights row detector)) audio run
     × (length audio ≡ length audio₀) × (length delay ≡ length delay₀) × (length marks ≡ length marks₀) × (length minima ≡ length minima₀) × (length row ≡ length row₀) × (length detector ≡ length detector₀)
 
 abbrev μ-loop : tie.MeasureT-loop
-μ-loop format position frames events audio₀ delay₀ marks₀ minima₀ weights row₀ detector₀ run₀ l₀ b₀ block₀ audio delay marks minima row detector run l b block =
+μ-loop format position frames events audio₀ delay₀ marks₀ minima₀ weights row₀ detector₀ asked run₀ l₀ b₀ block₀ audio delay marks minima row detector run l b block =
     frames - block .rendered
 
 -- the machine that the call found
@@ -30,14 +30,14 @@ machine s =
 run-room-requires : tie.Need-run-room-requires Inv-loop μ-loop
 run-room-requires c κs = tt
 
-no-peak-requires : tie.Need-no-peak-requires Inv-loop μ-loop
-no-peak-requires c κs = tt
+start-of-requires : tie.Need-start-of-requires Inv-loop μ-loop
+start-of-requires c κs = tt
 
 loop-holds : tie.Need-loop-holds Inv-loop μ-loop
 loop-holds c =
     let s = c .before .before .before .before .before .before .before .before .before .before in
     let a = s .args in
-    (driving-start (a .format) (a .position) (a .frames) (now (a .events)) (now (a .audio)) (machine s) (c .before .run-room .result) (c .before .run-room .ensures) (s .pre) _ (ap (λ (h : Highest). record { position = a .position; frames = a .frames; rendered = 0; latched = 0; highest = h }) (c .no-peak .ensures)), refl, refl, refl, refl, refl, refl)
+    (driving-start (a .format) (a .position) (a .frames) (now (a .events)) (now (a .audio)) (machine s) (a .asked) (c .before .run-room .result) (c .before .run-room .ensures) (s .pre) _ (ap (λ (h : Highest). record { position = a .position; frames = a .frames; rendered = 0; latched = 0; highest = h }) (c .start-of .ensures)), refl, refl, refl, refl, refl, refl)
 
 slice-aggregate-turn : tie.Need-slice-aggregate-turn Inv-loop μ-loop
 slice-aggregate-turn c = omega arith
@@ -47,7 +47,7 @@ turn-requires c κs =
     let s = c .before .before .before .before .before .before .before .before .before .before .before .before .before .before .before .before .before .before .before .before in
     let a = s .args in
     let l = c .before .before .before .before .before .before .before .before .before .loop in
-    driving-asks (a .format) (a .position) (a .frames) (now (a .events)) (now (a .audio)) (machine s) (s .pre) (l .block) (machineOf (l .l) (l .b) (storesAt (l .delay) (l .marks) (l .minima) (now (a .weights)) (l .row) (l .detector))) (l .audio) (l .run) (l .inv .0) (c .before .before .before .before .before .before .before .if1 .taken)
+    driving-asks (a .format) (a .position) (a .frames) (now (a .events)) (now (a .audio)) (machine s) (a .asked) (s .pre) (l .block) (machineOf (l .l) (l .b) (storesAt (l .delay) (l .marks) (l .minima) (now (a .weights)) (l .row) (l .detector))) (l .audio) (l .run) (l .inv .0) (c .before .before .before .before .before .before .before .if1 .taken)
 
 loop-less : tie.Need-loop-less Inv-loop μ-loop
 loop-less c =
@@ -56,7 +56,7 @@ loop-less c =
     let l = c .before .before .before .before .before .before .before .before .before .before .before .before .before .before .before .before .before .before .before .before .before .before .before .before .before .before .loop in
     let t = c .before .before .before .before .before .before .before .before .before .before .before .before .before .before .before .before .turn in
     let o = t .last .1 .1 .1 .1 .1 in
-    driving-less (a .format) (a .position) (a .frames) (now (a .events)) (now (a .audio)) (machine s) (s .pre) (l .block) (machineOf (l .l) (l .b) (storesAt (l .delay) (l .marks) (l .minima) (now (a .weights)) (l .row) (l .detector))) (l .audio) (l .run) (l .inv .0) (c .before .before .before .before .before .before .before .before .before .before .before .before .before .before .before .before .before .before .before .before .before .before .before .before .if1 .taken)
+    driving-less (a .format) (a .position) (a .frames) (now (a .events)) (now (a .audio)) (machine s) (a .asked) (s .pre) (l .block) (machineOf (l .l) (l .b) (storesAt (l .delay) (l .marks) (l .minima) (now (a .weights)) (l .row) (l .detector))) (l .audio) (l .run) (l .inv .0) (c .before .before .before .before .before .before .before .before .before .before .before .before .before .before .before .before .before .before .before .before .before .before .before .before .if1 .taken)
     (machineOf (t .result .limiter) (t .result .bank) (storesAt (o .1 .1 .0) (o .1 .1 .1 .0) (o .1 .1 .1 .1 .0) (now (a .weights)) (o .1 .1 .1 .1 .1 .1 .0) (o .1 .1 .1 .1 .1 .1 .1 .0))) (t .result .block) (o .0) (o .1 .0) (t .ensures) (t .kept .1 .1 .1 .1 .1 .1 .0)
 
 loop-again : tie.Need-loop-again Inv-loop μ-loop
@@ -67,7 +67,7 @@ loop-again c =
     let t = c .before .before .before .before .before .before .before .before .before .before .before .before .before .before .before .before .turn in
     let o = t .last .1 .1 .1 .1 .1 in
     let k = t .kept .1 .1 .1 .1 .1 in (
-      driving-more (a .format) (a .position) (a .frames) (now (a .events)) (now (a .audio)) (machine s) (s .pre) (l .block) (machineOf (l .l) (l .b) (storesAt (l .delay) (l .marks) (l .minima) (now (a .weights)) (l .row) (l .detector))) (l .audio) (l .run) (l .inv .0) (c .before .before .before .before .before .before .before .before .before .before .before .before .before .before .before .before .before .before .before .before .before .before .before .before .if1 .taken)
+      driving-more (a .format) (a .position) (a .frames) (now (a .events)) (now (a .audio)) (machine s) (a .asked) (s .pre) (l .block) (machineOf (l .l) (l .b) (storesAt (l .delay) (l .marks) (l .minima) (now (a .weights)) (l .row) (l .detector))) (l .audio) (l .run) (l .inv .0) (c .before .before .before .before .before .before .before .before .before .before .before .before .before .before .before .before .before .before .before .before .before .before .before .before .if1 .taken)
           (machineOf (t .result .limiter) (t .result .bank) (storesAt (o .1 .1 .0) (o .1 .1 .1 .0) (o .1 .1 .1 .1 .0) (now (a .weights)) (o .1 .1 .1 .1 .1 .1 .0) (o .1 .1 .1 .1 .1 .1 .1 .0))) (t .result .block) (o .0) (o .1 .0) (t .ensures) (k .1 .0),
       _∙_ {b = length (l .audio)} (k .0) (l .inv .1),
       _∙_ {b = length (l .delay)} (k .1 .1 .0) (l .inv .2),
@@ -101,10 +101,10 @@ returns c =
     let a = s .args in
     let l = c .before .before .before .before .before .loop in
     let m = (machineOf (l .l) (l .b) (storesAt (l .delay) (l .marks) (l .minima) (now (a .weights)) (l .row) (l .detector))) in (
-      driven-machine (a .format) (a .position) (a .frames) (now (a .events)) (now (a .audio)) (machine s) (l .block) m (l .audio) (l .run) (l .inv .0) (c .before .before .before .if1 .left) (l .b) (rest-end (now (a .events)) (length (now (a .events)) / 3) (l .block .latched) (l .b) (c .if2 .taken)),
+      driven-machine (a .format) (a .position) (a .frames) (now (a .events)) (now (a .audio)) (machine s) (a .asked) (l .block) m (l .audio) (l .run) (l .inv .0) (c .before .before .before .if1 .left) (l .b) (rest-end (now (a .events)) (length (now (a .events)) / 3) (l .block .latched) (l .b) (c .if2 .taken)),
       (
-        driven-audio (a .format) (a .position) (a .frames) (now (a .events)) (now (a .audio)) (machine s) (l .block) m (l .audio) (l .run) (l .inv .0) (c .before .before .before .if1 .left) (l .b) (rest-end (now (a .events)) (length (now (a .events)) / 3) (l .block .latched) (l .b) (c .if2 .taken)),
-        driven-place (a .format) (a .position) (a .frames) (now (a .events)) (now (a .audio)) (machine s) (l .block) m (l .audio) (l .run) (l .inv .0) (c .before .before .before .if1 .left) (l .b) (rest-end (now (a .events)) (length (now (a .events)) / 3) (l .block .latched) (l .b) (c .if2 .taken)),
+        driven-audio (a .format) (a .position) (a .frames) (now (a .events)) (now (a .audio)) (machine s) (a .asked) (l .block) m (l .audio) (l .run) (l .inv .0) (c .before .before .before .if1 .left) (l .b) (rest-end (now (a .events)) (length (now (a .events)) / 3) (l .block .latched) (l .b) (c .if2 .taken)),
+        driven-place (a .format) (a .position) (a .frames) (now (a .events)) (now (a .audio)) (machine s) (a .asked) (l .block) m (l .audio) (l .run) (l .inv .0) (c .before .before .before .if1 .left) (l .b) (rest-end (now (a .events)) (length (now (a .events)) / 3) (l .block .latched) (l .b) (c .if2 .taken)),
       ),
     )
 
@@ -135,14 +135,14 @@ returns-2 c =
     let a = s .args in
     let l = c .before .before .before .before .before .before .loop in
     let m = (machineOf (l .l) (l .b) (storesAt (l .delay) (l .marks) (l .minima) (now (a .weights)) (l .row) (l .detector))) in (
-      driven-machine (a .format) (a .position) (a .frames) (now (a .events)) (now (a .audio)) (machine s) (l .block) m (l .audio) (l .run) (l .inv .0) (c .before .before .before .before .if1 .left) (c .latch-rest .result) (c .latch-rest .ensures),
+      driven-machine (a .format) (a .position) (a .frames) (now (a .events)) (now (a .audio)) (machine s) (a .asked) (l .block) m (l .audio) (l .run) (l .inv .0) (c .before .before .before .before .if1 .left) (c .latch-rest .result) (c .latch-rest .ensures),
       (
-        driven-audio (a .format) (a .position) (a .frames) (now (a .events)) (now (a .audio)) (machine s) (l .block) m (l .audio) (l .run) (l .inv .0) (c .before .before .before .before .if1 .left) (c .latch-rest .result) (c .latch-rest .ensures),
-        driven-place (a .format) (a .position) (a .frames) (now (a .events)) (now (a .audio)) (machine s) (l .block) m (l .audio) (l .run) (l .inv .0) (c .before .before .before .before .if1 .left) (c .latch-rest .result) (c .latch-rest .ensures),
+        driven-audio (a .format) (a .position) (a .frames) (now (a .events)) (now (a .audio)) (machine s) (a .asked) (l .block) m (l .audio) (l .run) (l .inv .0) (c .before .before .before .before .if1 .left) (c .latch-rest .result) (c .latch-rest .ensures),
+        driven-place (a .format) (a .position) (a .frames) (now (a .events)) (now (a .audio)) (machine s) (a .asked) (l .block) m (l .audio) (l .run) (l .inv .0) (c .before .before .before .before .if1 .left) (c .latch-rest .result) (c .latch-rest .ensures),
       ),
     )
 
 pub drive-turns-spec : {M : Type 1} → statement M
 drive-turns-spec =
     tie.close
-    (tie.spec Inv-loop μ-loop run-room-requires no-peak-requires loop-holds slice-aggregate-turn turn-requires loop-less loop-again same-length same-length-2 same-length-3 same-length-4 same-length-5 same-length-6 returns latch-rest-requires same-length-7 same-length-8 same-length-9 same-length-10 same-length-11 same-length-12 returns-2)
+    (tie.spec Inv-loop μ-loop run-room-requires start-of-requires loop-holds slice-aggregate-turn turn-requires loop-less loop-again same-length same-length-2 same-length-3 same-length-4 same-length-5 same-length-6 returns latch-rest-requires same-length-7 same-length-8 same-length-9 same-length-10 same-length-11 same-length-12 returns-2)

@@ -29,10 +29,13 @@ add-drained c =
     let few = drained-few (s .args .self) (s .args .n) (lent s) (now (s .args .audio)) (s .pre) in
     omega arith
 
+start-of-requires : tie.Need-start-of-requires
+start-of-requires c κs = search needs
+
 render-requires : tie.Need-render-requires
 unfolding ofBits
 render-requires c κs =
-    let f = c .before .before .before .before .before .before .before .before .before in
+    let f = c .before .before .before .before .before .before .before .before .before .before in
     let s = f .before .before .before .before .before .before .before .before .before in
     let a = s .args in
     let filled = sym (f .fill .ensures) in (
@@ -46,7 +49,7 @@ drained-to-requires c κs = search needs
 same-length : tie.Need-same-length
 same-length c =
     let r = c .before .before .before .before .before .before .before .before .before .before .before .before .before .before in
-    let f = r .before .before .before .before .before .before .before .before .before .before in
+    let f = r .before .before .before .before .before .before .before .before .before .before .before in
     r .render .kept .1 .1 .1 .1 .0 ∙ f .fill .kept .0
 
 same-length-2 : tie.Need-same-length-2
@@ -68,7 +71,7 @@ returns : tie.Need-returns
 unfolding ofBits renderOf drainOf
 returns c =
     let r = c .before .before .before .before .before .before .before .before .before .before .before .before .before .before in
-    let f = r .before .before .before .before .before .before .before .before .before .before in
+    let f = r .before .before .before .before .before .before .before .before .before .before .before in
     let s = f .before .before .before .before .before .before .before .before .before in
     let a = s .args in
     let count = a .self .drained + a .n in
@@ -82,6 +85,7 @@ drain-spec =
     (tie.spec
     fill-requires
     add-drained
+    start-of-requires
     render-requires
     drained-to-requires
     same-length
