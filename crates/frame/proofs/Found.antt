@@ -107,17 +107,25 @@ found ps Z = found-from 0 (startOf true) ps refl Z ∙ go (eq (highestOf ps) Num
     go true e = rw (e, k .0 e) refl
     go false e = rw (e, k .1 e) refl
 
--- of one that is not asked: nothing is above its start
-none-above : (x : Float) → lt (inf false) x ≡ false
-unfolding lt
-none-above nan = refl
-none-above (inf s) = refl
-none-above (fin s m e) = refl
+-- ---- a block that is not asked: nothing is above an infinity
+none-above : (x p : Float) → eq x (inf false) ≡ true → lt x p ≡ false
+unfolding lt eq
+none-above nan p h = clash false h refl
+none-above (fin s m e) p h = clash false h refl
+none-above (inf true) p h = clash false h refl
+none-above (inf false) nan h = refl
+none-above (inf false) (inf s) h = refl
+none-above (inf false) (fin s m e) h = refl
+
+pub none-higher : (i : ℕ) (h : Highest) (ps : List PeakAt) → eq (h .peak) (inf false) ≡ true → h ≡ highestFrom i h ps
+unfolding highestFrom
+none-higher i h [] e = refl
+none-higher i h (p ∷ ps) e = rw (none-above (h .peak) (p .peak) e) (none-higher (i + 1) h ps e)
 
 found-told : (asked : Bool) (ps : List PeakAt) → peaksFromZero ps ≡ true → placeIn (highestFrom 0 (startOf asked) ps) ≡ placeTold asked ps
-unfolding le
+unfolding eq
 found-told true ps Z = found ps Z
-found-told false ps Z = found-from 0 (startOf false) ps refl Z ∙ rw (none-above (highestOf ps)) refl
+found-told false ps Z = ap (λ (h : Highest). placeIn h) (sym (none-higher 0 (startOf false) ps refl))
 
 -- ---- what frames in turn show
 linked-from-zero : (linking : Linking) (c : ℕ) (peak : Float) (detector xs : List Float) → le Number.zero peak ≡ true → le Number.zero (linkedFrom linking c peak detector xs .peak) ≡ true

@@ -150,6 +150,10 @@ pub fn highest_in(
     ensures { λ r. ⌜ ((target : Float) (whole : List Float) → AllAlike (ceilingOf target (best .peak)) (now (peaks .entry)) whole
         → r ≡ highestFrom first best (placesFrom (linkingOf settings) channels 0 whole (now (detector .entry)) (now (audio .entry)))) ⌝ }
 {
+    // nothing is above an infinity, where a block starts that is not asked: its peaks are not looked through
+    if best.peak == f64::from_bits(0x7ff0_0000_0000_0000) {
+        return best;
+    }
     if !any_above(peaks, best.peak) {
         return best;
     }
