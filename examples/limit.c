@@ -19,14 +19,6 @@ static uint64_t bits(double x) {
     return w;
 }
 
-/* the attack's weights: the inside of a Hann window, summing to 1 */
-static double *hann(size_t l) {
-    double *weights = calloc(l, 8), sum = 0;
-    for (size_t j = 0; j < l; j++) sum += weights[j] = 0.5 - 0.5 * cos(2 * PI * (j + 1.0) / (l + 1.0));
-    for (size_t j = 0; j < l; j++) weights[j] /= sum;
-    return weights;
-}
-
 /* the tone from frame `at` on: left and right of a frame side by side, the right one at half the level */
 static void fill(block *audio, int is_float, uint64_t at) {
     for (int i = 0; i < CHANNELS * BLOCK; i++) {
@@ -61,14 +53,16 @@ int main(int argc, char **argv) {
 
     /* the stores, for the look of 1.5 ms */
     const size_t look = daggeryuzu_look(bits(1.5), RATE), l = look > 12 ? look - 11 : 1;
-    double *delay = calloc(CHANNELS * look, 8), *minima = calloc(look + 1, 8), *weights = hann(l);
+    double *delay = calloc(CHANNELS * look, 8), *minima = calloc(look + 1, 8), *weights = calloc(l, 8);
     double *row = calloc(l, 8), *detector = calloc(CHANNELS * 12, 8);
     uint64_t *marks = calloc(look + 1, 8);
 
-    /* -1 dB, 0.1 dB margin, 1.5 ms, release 50 ms; no cap */
+    /* -1 dB, 0.1 dB margin, 1.5 ms, release 50 ms; no cap; the house weights, since this rate and look have some: setup
+     * fills them in (for others daggeryuzu.h has a formula) */
+    const uint32_t capped = 0, house = 1;
     uint32_t number = daggeryuzu_setup(state, sizeof state, answer, DAGGERYUZU_ANSWER, bits(-1.0), bits(0.1), bits(1.5),
-        bits(50.0), RATE, CHANNELS, BLOCK, 0, 0, delay, CHANNELS * look, marks, look + 1, minima, look + 1, weights, l,
-        row, l, detector, CHANNELS * 12);
+        bits(50.0), RATE, CHANNELS, BLOCK, capped, 0, house, delay, CHANNELS * look, marks, look + 1, minima, look + 1,
+        weights, l, row, l, detector, CHANNELS * 12);
     block audio;
     uint8_t *bytes = (uint8_t *)&audio;
     const size_t len = is_float ? sizeof audio.f32 : sizeof audio.f64;

@@ -1,6 +1,6 @@
 /* The limiter's C functions (crate host, libhost.a, x86-64, System V).
  *
- * Every function answers document 01's number: 0 where the work is finished, else the refusal. `answer` tells
+ * Every function that can refuse answers document 01's number: 0 where the work is finished, else the refusal. `answer` tells
  * the values that go with it, in DAGGERYUZU_ANSWER words: the values in order (a count as itself, a float as
  * its 64 bits), then 0. As many of these words are written as fit; what a longer buffer has behind them stays,
  * and a host that wants none lends an empty one. No call is refused for it.
@@ -12,10 +12,20 @@
  * look - 11, at least 1): delay channels * look; marks look + 1; minima look + 1; weights L; row L;
  * detector channels * 12. Each call gets them as the last one left them. No two slices may overlap.
  *
- * The weights are the caller's to compute, for example as examples/limit.c does; setup judges them, by 17. Each is above 0
+ * The weights for 1.5 ms at four rates are built in, as house tables. These are the rates with their looks:
+ *   44100, 66   48000, 72   96000, 144   192000, 288
+ * A host that asks setup for the house table of its rate and look computes nothing: setup fills the weights from it and
+ * does not read what they held. To ask where there is none is refusal 29, just before 16; daggeryuzu_has_house_weights
+ * tells where there is one. For any other rate or look the weights are the caller's to compute, for example as the
+ * inside of a Hann window. So are the house tables, but for the last digits of some weights, since one cos differs from
+ * another. With
+ *   h(i) = 0.5 - 0.5 * cos(2 * pi * (i + 1) / (L + 1)), i from 0 to L - 1
+ * the weight at place i is h(i) divided by the sum of them all.
+ *
+ * Where no house table is asked for, setup reads the weights, changes none, and judges them, by 17. Each is above 0
  * and at most 1. Of the whole parts of weight * 2^60, the sum is at most 512 * L from 2^60, and no two at mirrored places
  * (i and L - 1 - i, from 0) are more than 4096 apart. The weights themselves rise strictly from place 0 to (L - 1) / 2,
- * rounded down.
+ * rounded down. A refused setup leaves them as they were, and every other call only reads them.
  *
  * Audio is planar: channel c holds frames c * frames onward; a sample is 8 bytes, or 4 in the functions that end
  * in _float, low byte first. audio_len is channels * frames * 8 bytes, * 4 in _float; any other is refusal 20 of a block
@@ -70,13 +80,18 @@ uint64_t daggeryuzu_look(uint64_t lookahead_ms_bits, uint32_t rate);
  * channels and a look of 11 to 4096 */
 uint64_t daggeryuzu_bytes_needed(size_t channels, size_t look);
 
-/* refusals 1 to 17, 16 for the state's length too; settings as bits of f64; capped 0: no limit */
+/* 1 where there is a house table of weights for this rate and look, else 0 */
+uint32_t daggeryuzu_has_house_weights(uint32_t rate, size_t look);
+
+/* refusals 1 to 15, 29, 16, 17, in this order; 16 for the state's length too; settings as bits of f64; capped 0: no
+ * limit; house 0: the weights are read, any other: they are filled from the house table of the rate and look, and there
+ * is no 17 */
 uint32_t daggeryuzu_setup(
     uint8_t *state, size_t state_len, uint64_t *answer, size_t answer_len,
     uint64_t threshold_db_bits, uint64_t true_peak_margin_db_bits, uint64_t lookahead_ms_bits, uint64_t release_ms_bits,
-    uint32_t rate, size_t channels, size_t max_block, uint32_t capped, uint64_t cap,
+    uint32_t rate, size_t channels, size_t max_block, uint32_t capped, uint64_t cap, uint32_t house,
     double *delay, size_t delay_len, uint64_t *marks, size_t marks_len, double *minima, size_t minima_len,
-    const double *weights, size_t weights_len, double *row, size_t row_len, double *detector, size_t detector_len);
+    double *weights, size_t weights_len, double *row, size_t row_len, double *detector, size_t detector_len);
 
 /* refusals 18, 16, 19, 20, 21 (index), 22; answer: where the highest peak sat (above) */
 uint32_t daggeryuzu_process(

@@ -30,7 +30,7 @@ pub fn run(job: &Job) -> Result<Report, Failure> {
     };
     let mut limiter =
         Limiter::prepare(job.settings, spec).map_err(|e| Failure::at(&job.input, refused(e)))?;
-    let look = limiter.latency();
+    let (look, house_weights) = (limiter.latency(), limiter.has_house_weights());
     let mut sound = job.output.as_deref().map(|p| Sound::start(p, &reader));
     let mut sound = sound.take().transpose()?;
     let mut numbers = job.report.as_deref().map(Pending::start).transpose()?;
@@ -47,6 +47,7 @@ pub fn run(job: &Job) -> Result<Report, Failure> {
         format,
         settings: job.settings,
         look,
+        house_weights,
         outcome,
     };
     let mut files = Vec::new();

@@ -54,6 +54,7 @@ fn the_numbers(kind: i32) {
     assert_eq!(number("rate"), 48_000.0);
     assert_eq!(number("target_dbfs"), -1.1);
     assert_eq!(number("look_frames"), 72.0);
+    assert_eq!(member(&json, "weights"), "\"house\"");
     assert!((number("sample_peak_dbfs") - 20.0 * 0.9_f64.log10()).abs() < 1e-6);
     let seen = number("detector_peak_dbfs");
     assert!((1.8..2.6).contains(&seen), "{seen}");
@@ -70,6 +71,7 @@ fn the_numbers(kind: i32) {
     assert!((400.0..=480.0).contains(&below), "{below}");
     assert!(number("real_time_factor") > 0.0);
     assert!(told.contains("at 00:00:00.50"), "{told}");
+    assert!(told.contains("release 50 ms, house weights)\n"), "{told}");
     assert!(told.contains("written         "), "{told}");
 
     let svg = fs::read_to_string(svg).expect("the picture");
@@ -84,6 +86,29 @@ fn the_numbers(kind: i32) {
         assert!(svg.contains(part), "{part}");
     }
     assert!(!svg.contains("NaN") && !svg.contains("inf"));
+}
+
+/// The house's for 1.5 ms, the default, at the rates that have them.
+#[test]
+fn whose_the_weights_are_is_told() {
+    let folder = Folder::new();
+    let (input, json) = (folder.at("in.wav"), folder.at("r.json"));
+    for (rate, lookahead, due) in [
+        (44_100, "1.5", "house"),
+        (48_000, "1.5", "house"),
+        (96_000, "1.5", "house"),
+        (192_000, "1.5", "house"),
+        (22_050, "1.5", "computed"),
+        (48_000, "2", "computed"),
+    ] {
+        let format = Format::numbered(WAV | PCM_16, rate, 1).expect("a format");
+        write(&input, format, &[0.25; 500]);
+        let words = ["--dry-run", "--lookahead", lookahead, "--report"];
+        let told = succeeds(&[&words[..], &[text(&json), text(&input)]].concat());
+        assert!(told.contains(&format!(", {due} weights)\n")), "{told}");
+        let json = fs::read_to_string(&json).expect("the report");
+        assert_eq!(member(&json, "weights"), format!("\"{due}\""), "{rate}");
+    }
 }
 
 /// A peak on any frame is metered: the first, the last, and at a block's edge.

@@ -20,6 +20,9 @@
 //!
 //! Files hold frame after frame: [`Limiter::deinterleave`] before a block and
 //! [`Limiter::interleave`] after it, and after a drain, rearrange the audio in place.
+//!
+//! The weights of the attack are the proved code's own, a house table, for 1.5 ms at
+//! 44,100, 48,000, 96,000 and 192,000; others the wrapper computes ([`Limiter::prepare`]).
 
 #![warn(missing_docs)]
 
@@ -73,20 +76,24 @@ pub struct Limiter {
 }
 
 impl Limiter {
-    /// Sets a limiter up.
+    /// Sets a limiter up. Where there is a house table of weights for its rate and look
+    /// (1.5 ms at 44,100, 48,000, 96,000 or 192,000), it runs on that one, and nothing is
+    /// computed; else the wrapper computes them, as the Rust does.
     ///
     /// # Errors
-    /// Refusals 1 to 17 of document 01.
+    /// Refusals 1 to 15 of document 01; 29, 16 and 17 never arise here, because a table is
+    /// asked for only where there is one, and stores and weights are made to fit.
     pub fn prepare(settings: LimiterSettings, spec: ProcessSpec) -> Result<Self, Refusal> {
         let look = sys::look(settings.lookahead_ms, spec.sample_rate);
         let mut limiter = Self {
             state: [0; STATE],
-            stores: Stores::new(spec.channels, look),
+            stores: Stores::new(spec.sample_rate, spec.channels, look),
             spec,
             events: Vec::new(),
         };
-        let (state, stores) = (&mut limiter.state, limiter.stores.lent());
-        told(|answer| sys::setup(state, answer, settings, spec, stores))?;
+        let house = limiter.stores.house();
+        let (state, stores) = (&mut limiter.state, limiter.stores.lent_to_setup());
+        told(|answer| sys::setup(state, answer, settings, spec, house, stores))?;
         Ok(limiter)
     }
 
@@ -213,6 +220,12 @@ impl Limiter {
     #[must_use]
     pub fn latency(&self) -> usize {
         self.stores.look()
+    }
+
+    /// Whether it runs on a house table of weights, or else on computed ones.
+    #[must_use]
+    pub fn has_house_weights(&self) -> bool {
+        self.stores.house()
     }
 
     /// Bytes of stores and bank, as document 01 counts them.

@@ -50,6 +50,7 @@ impl Refusal {
             24 => "there is no such parameter",
             27 => "not 1 to 8 channels to rearrange",
             28 => "over 524,288 samples to rearrange, or not whole frames",
+            29 => "no house weights for the rate and lookahead",
             _ => "not a number of the table",
         }
     }

@@ -1,6 +1,6 @@
 //! The stores that are lent to each call.
 
-use crate::sys::LentStores;
+use crate::sys::{self, LentStores, SetupStores};
 
 /// Document 01's six stores.
 #[derive(Clone, Debug)]
@@ -12,6 +12,7 @@ pub(crate) struct Stores {
     row: Vec<f64>,
     detector: Vec<f64>,
     look: usize,
+    house: bool,
 }
 
 /// The largest counts that setup takes: for others it refuses before it looks
@@ -20,23 +21,38 @@ const CHANNELS: usize = 8;
 const LOOK: u64 = 4096;
 
 impl Stores {
-    /// Stores of exact lengths; the weights are computed as the Rust does.
-    pub(crate) fn new(channels: usize, look: u64) -> Self {
+    /// Stores of exact lengths. The weights are computed as the Rust does, but for a rate
+    /// and look with a house table, which setup is to fill in.
+    pub(crate) fn new(rate: u32, channels: usize, look: u64) -> Self {
         let channels = channels.min(CHANNELS);
         let look = look.min(LOOK) as usize;
         let l = look.saturating_sub(11).max(1);
+        let house = sys::has_house_weights(rate, look);
         Self {
             delay: vec![0.0; channels * look],
             marks: vec![0; look + 1],
             minima: vec![0.0; look + 1],
-            weights: hann(l),
+            weights: if house { vec![0.0; l] } else { hann(l) },
             row: vec![0.0; l],
             detector: vec![0.0; channels * 12],
             look,
+            house,
         }
     }
 
-    /// For one call.
+    /// For setup.
+    pub(crate) fn lent_to_setup(&mut self) -> SetupStores<'_> {
+        SetupStores {
+            delay: &mut self.delay,
+            marks: &mut self.marks,
+            minima: &mut self.minima,
+            weights: &mut self.weights,
+            row: &mut self.row,
+            detector: &mut self.detector,
+        }
+    }
+
+    /// For one call after it.
     pub(crate) fn lent(&mut self) -> LentStores<'_> {
         LentStores {
             delay: &mut self.delay,
@@ -51,6 +67,11 @@ impl Stores {
     pub(crate) fn look(&self) -> usize {
         self.look
     }
+
+    /// Whether the weights are for setup to fill in, from a house table.
+    pub(crate) fn house(&self) -> bool {
+        self.house
+    }
 }
 
 /// The attack's weights: the inside of a Hann window, normalised to a sum of 1.
@@ -63,4 +84,27 @@ fn hann(l: usize) -> Vec<f64> {
         *w /= sum;
     }
     weights
+}
+
+#[cfg(test)]
+mod tests {
+    use super::*;
+    use crate::{Limiter, LimiterSettings, ProcessSpec};
+
+    /// A host that changes over to the house tables hears no difference.
+    #[test]
+    fn the_house_tables_are_what_would_be_computed() {
+        for (rate, l) in [(44_100, 55), (48_000, 61), (96_000, 133), (192_000, 277)] {
+            let spec = ProcessSpec {
+                sample_rate: rate,
+                channels: 1,
+                max_block: 1,
+                max_memory: None,
+            };
+            let limiter = Limiter::prepare(LimiterSettings::default(), spec).expect("set up");
+            assert!(limiter.has_house_weights());
+            let bits = |weights: &[f64]| weights.iter().map(|w| w.to_bits()).collect::<Vec<_>>();
+            assert_eq!(bits(&limiter.stores.weights), bits(&hann(l)), "{rate}");
+        }
+    }
 }

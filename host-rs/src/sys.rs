@@ -29,6 +29,7 @@ pub const PEAK_BETWEEN: u64 = 2;
 extern "C" {
     fn daggeryuzu_look(lookahead_ms: u64, rate: u32) -> u64;
     fn daggeryuzu_bytes_needed(channels: usize, look: usize) -> u64;
+    fn daggeryuzu_has_house_weights(rate: u32, look: usize) -> u32;
     fn daggeryuzu_setup(
         state: *mut u8,
         state_len: usize,
@@ -43,13 +44,14 @@ extern "C" {
         max_block: usize,
         capped: u32,
         cap: u64,
+        house: u32,
         delay: *mut f64,
         delay_len: usize,
         marks: *mut u64,
         marks_len: usize,
         minima: *mut f64,
         minima_len: usize,
-        weights: *const f64,
+        weights: *mut f64,
         weights_len: usize,
         row: *mut f64,
         row_len: usize,
@@ -218,6 +220,23 @@ pub struct LentStores<'a> {
     pub detector: &'a mut [f64],
 }
 
+/// The stores of a setup: those of [`LentStores`], with weights that may be written.
+#[derive(Debug)]
+pub struct SetupStores<'a> {
+    /// `channels × look`.
+    pub delay: &'a mut [f64],
+    /// `look + 1`.
+    pub marks: &'a mut [u64],
+    /// `look + 1`.
+    pub minima: &'a mut [f64],
+    /// L: `look - 11`, at least 1. Filled where a house table is asked for, else only read.
+    pub weights: &'a mut [f64],
+    /// L.
+    pub row: &'a mut [f64],
+    /// `channels × 12`.
+    pub detector: &'a mut [f64],
+}
+
 /// The frames by which the audio is held back.
 #[must_use]
 pub fn look(lookahead_ms: f64, rate: u32) -> u64 {
@@ -232,13 +251,24 @@ pub fn bytes_needed(channels: usize, look: usize) -> u64 {
     unsafe { daggeryuzu_bytes_needed(channels, look) }
 }
 
-/// Sets a limiter up: 1 to 17.
+/// Whether there is a house table of this rate and look: 44,100 and 66, 48,000 and 72,
+/// 96,000 and 144, 192,000 and 288, which is 1.5 ms at each.
+#[must_use]
+pub fn has_house_weights(rate: u32, look: usize) -> bool {
+    // SAFETY: only numbers cross.
+    unsafe { daggeryuzu_has_house_weights(rate, look) != 0 }
+}
+
+/// Sets a limiter up: 1 to 15, 29, 16, 17. Asked for the house table of its rate and
+/// look, it fills the weights from it and does not read what they held: 29 where there
+/// is none, and no 17. Else it reads them. A refused setup leaves them as they were.
 pub fn setup(
     state: &mut [u8],
     answer: &mut [u64],
     settings: LimiterSettings,
     spec: ProcessSpec,
-    stores: LentStores<'_>,
+    house: bool,
+    stores: SetupStores<'_>,
 ) -> u32 {
     // SAFETY: pointers and lengths are those of slices that are borrowed apart.
     unsafe {
@@ -256,13 +286,14 @@ pub fn setup(
             spec.max_block,
             u32::from(spec.max_memory.is_some()),
             spec.max_memory.unwrap_or_default(),
+            u32::from(house),
             stores.delay.as_mut_ptr(),
             stores.delay.len(),
             stores.marks.as_mut_ptr(),
             stores.marks.len(),
             stores.minima.as_mut_ptr(),
             stores.minima.len(),
-            stores.weights.as_ptr(),
+            stores.weights.as_mut_ptr(),
             stores.weights.len(),
             stores.row.as_mut_ptr(),
             stores.row.len(),

@@ -1,6 +1,6 @@
 //! The answer buffer over the slices of `sys`: its eight words as far as they fit.
 
-use daggeryuzu::sys::{self, LentStores, ANSWER, STATE};
+use daggeryuzu::sys::{self, SetupStores, ANSWER, STATE};
 use daggeryuzu::{LimiterSettings, ProcessSpec};
 
 const SPEC: ProcessSpec = ProcessSpec {
@@ -13,15 +13,16 @@ const SPEC: ProcessSpec = ProcessSpec {
 /// A setup that is one byte short: 15 with the bytes needed and those allowed,
 /// judged before any store.
 fn refused(state: &mut [u8], answer: &mut [u64], spec: ProcessSpec) -> u32 {
-    let stores = LentStores {
+    let stores = SetupStores {
         delay: &mut [],
         marks: &mut [],
         minima: &mut [],
-        weights: &[],
+        weights: &mut [],
         row: &mut [],
         detector: &mut [],
     };
-    sys::setup(state, answer, LimiterSettings::default(), spec, stores)
+    let settings = LimiterSettings::default();
+    sys::setup(state, answer, settings, spec, false, stores)
 }
 
 #[test]

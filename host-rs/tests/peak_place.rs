@@ -3,7 +3,7 @@
 
 use std::f64::consts::{FRAC_PI_2, PI};
 
-use daggeryuzu::sys::{self, LentStores, ANSWER, STATE};
+use daggeryuzu::sys::{self, LentStores, SetupStores, ANSWER, STATE};
 use daggeryuzu::{Limiter, LimiterSettings, PeakPlace, ProcessSpec, Sample};
 
 const FRAMES: usize = 200;
@@ -239,8 +239,16 @@ impl Lent {
             detector: [0.0; 24],
         };
         let settings = LimiterSettings::default().lookahead_ms(11.0 / 48.0);
-        let (state, stores) = lent.parts();
-        assert_eq!(sys::setup(state, &mut [], settings, spec(2), stores), 0);
+        let stores = SetupStores {
+            delay: &mut lent.delay,
+            marks: &mut lent.marks,
+            minima: &mut lent.minima,
+            weights: &mut [1.0],
+            row: &mut lent.row,
+            detector: &mut lent.detector,
+        };
+        let number = sys::setup(&mut lent.state, &mut [], settings, spec(2), false, stores);
+        assert_eq!(number, 0);
         lent
     }
 

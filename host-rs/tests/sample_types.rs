@@ -1,6 +1,6 @@
 //! Blocks and drains of f32, and of both sample types by turns on one state.
 
-use daggeryuzu::sys::{self, LentStores, STATE};
+use daggeryuzu::sys::{self, LentStores, SetupStores, STATE};
 use daggeryuzu::{Limiter, LimiterSettings, ProcessSpec, Sample};
 
 const CHANNELS: usize = 2;
@@ -150,8 +150,16 @@ impl Lent {
             detector: [0.0; CHANNELS * 12],
         };
         let settings = LimiterSettings::default().lookahead_ms(11.0 / 48.0);
-        let (state, stores) = lent.parts();
-        assert_eq!(sys::setup(state, &mut [], settings, SPEC, stores), 0);
+        let stores = SetupStores {
+            delay: &mut lent.delay,
+            marks: &mut lent.marks,
+            minima: &mut lent.minima,
+            weights: &mut [1.0],
+            row: &mut lent.row,
+            detector: &mut lent.detector,
+        };
+        let number = sys::setup(&mut lent.state, &mut [], settings, SPEC, false, stores);
+        assert_eq!(number, 0);
         lent
     }
 

@@ -1,11 +1,12 @@
-//! The weights: every look's own are taken, and a table that sums up but is
-//! lopsided or rises late is refused by 17.
+//! The weights that a host lends: those that the wrapper computes are taken at every
+//! look, and a table that sums up but is lopsided or rises late is refused by 17.
 
-use daggeryuzu::sys::{self, LentStores, STATE};
+use daggeryuzu::sys::{self, SetupStores, STATE};
 use daggeryuzu::{Limiter, LimiterSettings, ProcessSpec};
 
+/// A rate that has no house table.
 const SPEC: ProcessSpec = ProcessSpec {
-    sample_rate: 48_000,
+    sample_rate: 8_000,
     channels: 1,
     max_block: 64,
     max_memory: None,
@@ -15,34 +16,37 @@ const SPEC: ProcessSpec = ProcessSpec {
 const LOOK: usize = 16;
 
 fn looking(look: usize) -> LimiterSettings {
-    LimiterSettings::default().lookahead_ms(look as f64 / 48.0)
+    LimiterSettings::default().lookahead_ms(look as f64 / 8.0)
 }
 
 #[test]
 fn the_wrappers_weights_are_taken_at_every_look() {
     for look in 11..=4096 {
-        let limiter = Limiter::prepare(looking(look), SPEC);
-        assert_eq!(limiter.map(|l| l.latency()), Ok(look));
+        let limiter = Limiter::prepare(looking(look), SPEC).expect("set up");
+        assert_eq!(limiter.latency(), look);
+        assert!(!limiter.has_house_weights(), "{look}");
     }
 }
 
 /// Weights that are taken.
 const GOOD: [f64; 5] = [0.125, 0.1875, 0.375, 0.1875, 0.125];
 
-/// Sets a limiter up on stores full of 7: what was answered, and whether the
-/// stores stayed.
+/// Sets a limiter up on stores full of 7: what was answered, and whether the other
+/// stores stayed. The weights always do.
 fn set_up_on_sevens(state: &mut [u8], weights: &[f64]) -> (u32, bool) {
     let (mut delay, mut marks, mut minima) = ([7.0; LOOK], [7; LOOK + 1], [7.0; LOOK + 1]);
     let (mut row, mut detector) = ([7.0; 5], [7.0; 12]);
-    let stores = LentStores {
+    let mut lent = weights.to_vec();
+    let stores = SetupStores {
         delay: &mut delay,
         marks: &mut marks,
         minima: &mut minima,
-        weights,
+        weights: &mut lent,
         row: &mut row,
         detector: &mut detector,
     };
-    let number = sys::setup(state, &mut [], looking(LOOK), SPEC, stores);
+    let number = sys::setup(state, &mut [], looking(LOOK), SPEC, false, stores);
+    assert_eq!(lent, weights);
     let floats = [&delay[..], &minima, &row, &detector].concat();
     let stayed = floats.iter().all(|&x| x == 7.0) && marks == [7; LOOK + 1];
     (number, stayed)

@@ -28,6 +28,7 @@ pub const USAGE: &str = "usage:
   oracle taps                     print the detector's taps, one phase to a line
   oracle time                     time the proved detector beside the Rust's
   oracle weights LOOK             print the attack weights for a look
+  oracle house                    print the house tables, one after the other
   oracle steps LOOK [--release MS] GAIN...
                                   drive step_env with gains, each 16 hex digits
 ";
@@ -51,6 +52,7 @@ pub enum Command {
     Interleave(interleave::Settings),
     Taps,
     Time,
+    House,
     Weights {
         look: usize,
     },
@@ -136,14 +138,9 @@ pub fn parse(words: &[String]) -> Result<Command, String> {
         "model" => Ok(Command::Model(sessions(rest, Mode::Whole)?)),
         "model-damage" => Ok(Command::Model(damaged_calls(rest)?)),
         "interleave" => slices(&Words::read(rest, &["--slices", "--seed"])?),
-        "taps" => {
-            Words::read(rest, &[])?.no_plain()?;
-            Ok(Command::Taps)
-        }
-        "time" => {
-            Words::read(rest, &[])?.no_plain()?;
-            Ok(Command::Time)
-        }
+        "taps" => alone(rest, Command::Taps),
+        "time" => alone(rest, Command::Time),
+        "house" => alone(rest, Command::House),
         "weights" => match Words::read(rest, &[])?.plain.as_slice() {
             [look] => Ok(Command::Weights {
                 look: number(look)?,
@@ -153,6 +150,12 @@ pub fn parse(words: &[String]) -> Result<Command, String> {
         "steps" => steps(&Words::read(rest, &["--release"])?),
         other => Err(format!("unknown command {other}")),
     }
+}
+
+/// A command that takes no words.
+fn alone(rest: &[String], command: Command) -> Result<Command, String> {
+    Words::read(rest, &[])?.no_plain()?;
+    Ok(command)
 }
 
 /// The one file that a command wants.
@@ -252,6 +255,7 @@ mod tests {
     #[test]
     fn commands_read_as_they_are_written() {
         assert_eq!(read("taps"), Ok(Command::Taps));
+        assert_eq!(read("house"), Ok(Command::House));
         let recorded = Command::RecordWhole { out: "x/y".into() };
         assert_eq!(read("record-whole x/y"), Ok(recorded));
         assert_eq!(read("weights 72"), Ok(Command::Weights { look: 72 }));
@@ -307,6 +311,7 @@ mod tests {
             "",
             "tap",
             "taps x",
+            "house 48000",
             "record-whole x y",
             "record-whole",
             "whole x",

@@ -36,6 +36,8 @@ pub enum Call {
     Setup {
         setup: Setup,
         cap: Option<u64>,
+        /// Whether it asks for a house table.
+        house: bool,
     },
     Process {
         position: u64,
@@ -58,13 +60,17 @@ pub enum Call {
     GainStep {
         bits: u64,
     },
-    /// The two functions of numbers alone; the answer's first word is theirs.
+    /// The three functions of numbers alone; the answer's first word is theirs.
     Look {
         lookahead: f64,
         rate: u32,
     },
     Bytes {
         channels: u64,
+        look: u64,
+    },
+    House {
+        rate: u32,
         look: u64,
     },
 }

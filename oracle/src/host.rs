@@ -1,7 +1,7 @@
 //! The proved limiter and the proved rearrangement, called through the C functions
 //! of the library `host`.
 
-use daggeryuzu::sys::{self, LentStores};
+use daggeryuzu::sys::{self, LentStores, SetupStores};
 use daggeryuzu::{LimiterSettings, ProcessSpec};
 
 use crate::audio::Format;
@@ -23,10 +23,11 @@ pub fn rearrange(call: &interleave::Call, audio: &mut [u8]) -> u32 {
 /// A call of the proved code: a side of the comparison.
 pub fn call(lent: &mut Lent, call: &mut Call) -> u32 {
     let (state, answer) = (&mut lent.state, &mut lent.answer);
-    let stores = lent_stores(&mut lent.stores);
+    let stores = &mut lent.stores;
     match call {
-        Call::Setup { setup, cap } => {
-            sys::setup(state, answer, settings(setup), spec(setup, *cap), stores)
+        Call::Setup { setup, cap, house } => {
+            let (settings, spec) = (settings(setup), spec(setup, *cap));
+            sys::setup(state, answer, settings, spec, *house, setup_stores(stores))
         }
         Call::Process {
             position,
@@ -39,6 +40,7 @@ pub fn call(lent: &mut Lent, call: &mut Call) -> u32 {
                 Format::F32 => sys::process_float,
             };
             let (frames, audio) = (*frames as usize, &mut audio.bytes);
+            let stores = lent_stores(stores);
             process(state, answer, *position, frames, events, audio, stores)
         }
         Call::Flush { frames, audio } => {
@@ -46,21 +48,29 @@ pub fn call(lent: &mut Lent, call: &mut Call) -> u32 {
                 Format::F64 => sys::flush,
                 Format::F32 => sys::flush_float,
             };
-            flush(state, answer, *frames as usize, &mut audio.bytes, stores)
+            let (frames, audio) = (*frames as usize, &mut audio.bytes);
+            flush(state, answer, frames, audio, lent_stores(stores))
         }
         Call::Set { id, bits } => sys::set_parameter(state, answer, *id, *bits),
         Call::Read { id } => sys::parameter(state, answer, *id),
-        Call::Reset => sys::reset(state, answer, stores),
-        Call::GainStep { bits } => sys::gain_step(state, answer, *bits, stores),
-        Call::Look { lookahead, rate } => {
-            lent.tell(&[sys::look(*lookahead, *rate)]);
-            0
-        }
+        Call::Reset => sys::reset(state, answer, lent_stores(stores)),
+        Call::GainStep { bits } => sys::gain_step(state, answer, *bits, lent_stores(stores)),
+        Call::Look { lookahead, rate } => number(lent, sys::look(*lookahead, *rate)),
         Call::Bytes { channels, look } => {
-            lent.tell(&[sys::bytes_needed(*channels as usize, *look as usize)]);
-            0
+            let bytes = sys::bytes_needed(*channels as usize, *look as usize);
+            number(lent, bytes)
+        }
+        Call::House { rate, look } => {
+            let has = sys::has_house_weights(*rate, *look as usize);
+            number(lent, u64::from(has))
         }
     }
+}
+
+/// The answer of a function of numbers alone.
+fn number(lent: &mut Lent, number: u64) -> u32 {
+    lent.tell(&[number]);
+    0
 }
 
 fn settings(setup: &Setup) -> LimiterSettings {
@@ -85,6 +95,19 @@ fn spec(setup: &Setup, cap: Option<u64>) -> ProcessSpec {
 fn lent_stores(stores: &mut Stores) -> LentStores<'_> {
     let [delay, marks, minima, weights, row, detector] = stores.0.each_mut();
     LentStores {
+        delay: floats(delay),
+        marks,
+        minima: floats(minima),
+        weights: floats(weights),
+        row: floats(row),
+        detector: floats(detector),
+    }
+}
+
+/// The same for a setup, which may fill the weights.
+fn setup_stores(stores: &mut Stores) -> SetupStores<'_> {
+    let [delay, marks, minima, weights, row, detector] = stores.0.each_mut();
+    SetupStores {
         delay: floats(delay),
         marks,
         minima: floats(minima),

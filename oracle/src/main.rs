@@ -16,6 +16,7 @@ mod compare;
 mod gains;
 #[cfg(feature = "host")]
 mod host;
+mod houses;
 mod interleave;
 mod layout;
 mod leaf;
@@ -78,6 +79,7 @@ fn run(command: Command) -> Result<ExitCode, String> {
         Command::Taps => show::taps(),
         Command::Time => timed()?,
         Command::Weights { look } => show::weights(look)?,
+        Command::House => show::house()?,
         Command::Steps {
             look,
             release_ms,

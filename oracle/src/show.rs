@@ -4,6 +4,7 @@ use std::fmt::Write as _;
 
 use crate::dsp::oversample::{inside as detector, PolyphaseUpsampler};
 use crate::mastering::limiter::inside as limiter;
+use crate::model::house;
 
 /// The 48 taps of the limiter's detector, one phase to a line.
 pub fn taps() -> String {
@@ -23,6 +24,23 @@ pub fn weights(look: usize) -> Result<String, String> {
         .iter()
         .map(|w| hex(w) + "\n")
         .collect())
+}
+
+/// The house tables one after the other, one weight to a line; a line before each
+/// tells whose it is, and from which place of them all.
+pub fn house() -> Result<String, String> {
+    let (mut text, mut place) = (String::new(), 0);
+    for (rate, _) in house::PAIRS {
+        let (look, weights) = limiter::attack(house::LOOKAHEAD, rate)?;
+        let count = weights.len();
+        let _ = writeln!(
+            text,
+            "# rate {rate} look {look}, {count} weights from place {place}"
+        );
+        text.extend(weights.iter().map(|w| hex(w) + "\n"));
+        place += count;
+    }
+    Ok(text)
 }
 
 /// Drive `step_env` with required gains and print what each step leaves.
@@ -70,5 +88,22 @@ mod tests {
             let text = weights(look).expect("a good look");
             assert_eq!(text.lines().count(), row);
         }
+    }
+
+    /// Each stretch is what the Rust computes for its look at any rate.
+    #[test]
+    fn house_tables_lie_end_to_end() {
+        let stretch = |rate: u32, look: usize, place: usize| {
+            let rows = weights(look).expect("a good look");
+            let count = look - 11;
+            format!("# rate {rate} look {look}, {count} weights from place {place}\n{rows}")
+        };
+        let due = [
+            stretch(44_100, 66, 0),
+            stretch(48_000, 72, 55),
+            stretch(96_000, 144, 116),
+            stretch(192_000, 288, 249),
+        ];
+        assert_eq!(house(), Ok(due.concat()));
     }
 }

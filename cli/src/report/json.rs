@@ -39,6 +39,7 @@ pub fn json(report: &Report) -> String {
         ("lookahead_ms", number(Some(settings.lookahead_ms))),
         ("release_ms", number(Some(settings.release_ms))),
         ("look_frames", report.look.to_string()),
+        ("weights", quoted(report.weights())),
         ("target_dbfs", number(Some(report.target_db()))),
         ("in", peaks(&outcome.input)),
         ("out", peaks(&outcome.output)),

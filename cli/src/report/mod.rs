@@ -29,6 +29,8 @@ pub struct Report {
     pub settings: LimiterSettings,
     /// Frames that it looks ahead.
     pub look: usize,
+    /// Whether it ran on a house table of weights.
+    pub house_weights: bool,
     /// What the work came to.
     pub outcome: Outcome,
 }
@@ -50,6 +52,16 @@ impl Report {
     #[must_use]
     pub fn target_db(&self) -> f64 {
         self.settings.threshold_db - self.settings.true_peak_margin_db
+    }
+
+    /// Whose the limiter's weights were.
+    #[must_use]
+    pub fn weights(&self) -> &'static str {
+        if self.house_weights {
+            "house"
+        } else {
+            "computed"
+        }
     }
 
     /// Seconds of sound for each second of work.

@@ -35,12 +35,13 @@ pub fn text(report: &Report) -> String {
     line(
         "target",
         format!(
-            "{:+.2} dBFS (threshold {:+}, margin {}, look {} frames, release {} ms)",
+            "{:+.2} dBFS (threshold {:+}, margin {}, look {} frames, release {} ms, {} weights)",
             report.target_db(),
             settings.threshold_db,
             settings.true_peak_margin_db,
             report.look,
-            settings.release_ms
+            settings.release_ms,
+            report.weights()
         ),
     );
     let pair = |a, b| format!("{} dBFS in, {} dBFS out", level(a), level(b));

@@ -2,7 +2,7 @@
 -- `stereo`: look 14, two channels, three weights, release 50 ms.
 use Prim.Native.Nat.{ℕ, _+_, _*_}
 use mathlib.Core.Path.{_≡_, refl, ap, subst, _∙_}
-use mathlib.Core.Bool.{true}
+use mathlib.Core.Bool.{true, false}
 use mathlib.Core.List.{List, [], _∷_}
 use lib.ListN.{length, replicate}
 use lib.Ieee.{Float, ofBits, toBits, toUnsigned, lt, le, eq, ne, isNan, neg, add, sub, mul, div, ofInt}
@@ -118,7 +118,7 @@ abbrev pub settingsIn : Start → LimiterSettings
 settingsIn s = settingsOf Number.zero Number.zero (s .lookahead) (s .release)
 
 abbrev pub specIn : Start → ProcessSpec
-specIn s = processSpec 8000 (s .channels) 64 Cap.Unlimited
+specIn s = processSpec 8000 (s .channels) 64 Cap.Unlimited false
 
 abbrev pub storesIn : Start → Stores
 storesIn s =

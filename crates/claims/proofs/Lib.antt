@@ -28,3 +28,4 @@ pub mod Controls
 pub mod SetupControls
 pub mod Lent
 pub mod Rows
+pub mod HouseRows

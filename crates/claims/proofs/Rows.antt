@@ -36,7 +36,7 @@ four-looks : map (λ (ms : Float). lookOf ms 48000) (ms0·22 ∷ ms85·34 ∷ ms
 four-looks = rw (shortest, longest, too-short, too-long) refl
 
 module _ (stores : Stores) where
-  passes : cappedAt 4336 stores ≡ numbered (storesRefusal 2 72 (lengthsOf stores) (stores .weights))
+  passes : cappedAt 4336 stores ≡ numbered (storesRefusal (stereo Cap.Unlimited) 72 (lengthsOf stores) (stores .weights))
   unfolding Calls.setupOf setUpOf declaredReply firstFault faultOf mul ofInt ofBits lt le
   passes = prepare-replies _ _ stores
 
@@ -48,11 +48,11 @@ module _ (stores : Stores) where
   unfolding Calls.setupOf setUpOf declaredReply firstFault faultOf ofBits lt le
   over-7 = refl
 
-  pass-11 : lookingAt ms0·22 stores ≡ numbered (storesRefusal 2 11 (lengthsOf stores) (stores .weights))
+  pass-11 : lookingAt ms0·22 stores ≡ numbered (storesRefusal (stereo Cap.Unlimited) 11 (lengthsOf stores) (stores .weights))
   unfolding Calls.setupOf setUpOf declaredReply firstFault faultOf mul ofInt ofBits lt le
   pass-11 = prepare-replies _ _ stores
 
-  pass-4096 : lookingAt ms85·34 stores ≡ numbered (storesRefusal 2 4096 (lengthsOf stores) (stores .weights))
+  pass-4096 : lookingAt ms85·34 stores ≡ numbered (storesRefusal (stereo Cap.Unlimited) 4096 (lengthsOf stores) (stores .weights))
   unfolding Calls.setupOf setUpOf declaredReply firstFault faultOf mul ofInt ofBits lt le
   pass-4096 = prepare-replies _ _ stores
 

@@ -14,12 +14,13 @@ use Rattle.arithmetic.proofs.Order.{and-true}
 use Rattle.arithmetic.proofs.Passed.{passed-then}
 use Rattle.arithmetic.proofs.Same.{same-self}
 use Rattle.settings.specs.Derived.{lookOf, coefficientOf}
+use Rattle.settings.specs.House.{weightsFor}
 use Rattle.settings.specs.declared.LimiterSettings.{LimiterSettings}
 use Rattle.settings.specs.declared.ProcessSpec.{ProcessSpec}
 use Rattle.frame.specs.Rules.{linkingOf}
 use Rattle.limiter.specs.State.{notSetUp, started}
 use Rattle.limiter.specs.Stores.{Stores, lengthsOf, lengthsFit, filled}
-use Rattle.limiter.specs.Prepare.{prepareRefusal, LimiterLeft, limiterLeft, prepareOf}
+use Rattle.limiter.specs.Prepare.{prepareRefusal, LimiterLeft, limiterLeft, filledFor, prepareOf}
 use Rattle.limiter.specs.Order.{prepared, inOrder}
 use Rattle.limiter.specs.declared.state.Limiter.{Limiter}
 use Rattle.limiter.proofs.Judge.{Fit, fit}
@@ -79,18 +80,18 @@ module _ (s : LimiterSettings) (spec : ProcessSpec) (stores : Stores) where
   reply = prepareRefusal s spec (lengthsOf stores) (stores .weights)
 
   -- what is left of a finished setup
-  prepare-left : (let o = prepareOf s spec stores in o .reply .number ≡ 0 → (o .limiter ≡ started s spec) × (o .stores ≡ filled stores))
+  prepare-left : (let o = prepareOf s spec stores in o .reply .number ≡ 0 → (o .limiter ≡ started s spec) × (o .stores ≡ filledFor s spec stores))
   unfolding prepareOf
   prepare-left = go (eqb (reply .number) 0) refl
     where
       go : (b : Bool) → eqb (reply .number) 0 ≡ b
-          → (let o = cond b (limiterLeft reply (started s spec) (filled stores)) (limiterLeft reply notSetUp stores) in
-          o .reply .number ≡ 0 → (o .limiter ≡ started s spec) × (o .stores ≡ filled stores))
+          → (let o = cond b (limiterLeft reply (started s spec) (filledFor s spec stores)) (limiterLeft reply notSetUp stores) in
+          o .reply .number ≡ 0 → (o .limiter ≡ started s spec) × (o .stores ≡ filledFor s spec stores))
       go true e z = (refl, refl)
       go false e z = absurd (eqb-false (reply .number) 0 e z)
 
   module _ (z : prepareOf s spec stores .reply .number ≡ 0) where
-    prepare-kernel : Kernel (started s spec) (filled stores)
+    prepare-kernel : Kernel (started s spec) (filledFor s spec stores)
     prepare-kernel =
         let e = prepare-left z in
         let r = subst (Judged (started s spec)) (e .1) (subst (λ (l : Limiter). Judged l (prepareOf s spec stores .stores)) (e .0) (setup-ready s spec stores z)) in
@@ -99,8 +100,8 @@ module _ (s : LimiterSettings) (spec : ProcessSpec) (stores : Stores) where
         Judged : Limiter → Stores → Type 0
         Judged l t = (prepared l ≡ true) × (lengthsFit (spec .channels) (l .env .keeper .look) (lengthsOf t) ≡ true) × (inOrder l (t .marks) (t .minima) (t .row) ≡ true)
 
-    prepare-fit : Fit (spec .channels) (lookOf (s .«lookahead_ms») (spec .rate)) (lengthsOf (filled stores))
-    prepare-fit = fit (spec .channels) (lookOf (s .«lookahead_ms») (spec .rate)) (lengthsOf (filled stores)) (prepare-kernel .lengths)
+    prepare-fit : Fit (spec .channels) (lookOf (s .«lookahead_ms») (spec .rate)) (lengthsOf (filledFor s spec stores))
+    prepare-fit = fit (spec .channels) (lookOf (s .«lookahead_ms») (spec .rate)) (lengthsOf (filledFor s spec stores)) (prepare-kernel .lengths)
 
 -- ---- both
 pub setup-left-alone : (s : LimiterSettings) (spec : ProcessSpec) (stores : Stores)
@@ -123,7 +124,7 @@ module _ (s : LimiterSettings) (spec : ProcessSpec) (stores : Stores) (z : setup
       (p .0, passed-then (budgetReply (spec .cap)) (own .reply) (p .1) .1)
 
   abbrev start : Machine
-  start = machineOf (started s spec) (new s (spec .rate)) (filled stores)
+  start = machineOf (started s spec) (new s (spec .rate)) (filledFor s spec stores)
 
   setup-machine : setupOf s spec stores .machine ≡ start
   unfolding setupOf
@@ -135,7 +136,7 @@ module _ (s : LimiterSettings) (spec : ProcessSpec) (stores : Stores) (z : setup
       ∙ ap (λ (b : SmootherBank). machineOf (started s spec) b (own .stores)) (new-bank s (spec .rate) (f .0))
       ∙ ap (λ (t : Stores). machineOf (started s spec) (new s (spec .rate)) t) (e .1)
 
-  start-tied : Tied (openedNew s spec (stores .weights)) start
+  start-tied : Tied (openedNew s spec (weightsFor s spec (stores .weights))) start
   start-tied =
       let f = all-finished in
       let look = lookOf (s .«lookahead_ms») (spec .rate) in
@@ -150,7 +151,7 @@ module _ (s : LimiterSettings) (spec : ProcessSpec) (stores : Stores) (z : setup
         coeff = refl;
         ready = whole-ready start (threshold s (spec .rate)) (record { kernel = k; one = new-one s (spec .rate); rate = refl; sound = new-sound s (spec .rate) (f .0) });
         moving =
-            fresh-tied (linkingOf s) look (spec .channels) (filled stores .marks) (filled stores .minima) (stores .weights) (coefficientOf (s .«release_ms») (spec .rate)) (length (stores .delay)) (length (stores .row)) (length (stores .detector))
+            fresh-tied (linkingOf s) look (spec .channels) (filled stores .marks) (filled stores .minima) (weightsFor s spec (stores .weights)) (coefficientOf (s .«release_ms») (spec .rate)) (length (stores .delay)) (length (stores .row)) (length (stores .detector))
             (omega (arith, deep-enough (started s spec) (k .set-up))) (sym (length-replicate (length (stores .delay)) Number.zero) ∙ h .delay-is) (h .marks-is) (h .minima-is) (h .weights-is)
             (sym (length-replicate (length (stores .row)) one) ∙ h .row-is) (sym (length-replicate (length (stores .detector)) Number.zero) ∙ h .detector-is);
         slots = new-one s (spec .rate) .slots;
@@ -158,8 +159,8 @@ module _ (s : LimiterSettings) (spec : ProcessSpec) (stores : Stores) (z : setup
         drained = refl;
       }
 
-  pub setup-tied : Tied (openedNew s spec (stores .weights)) (setupOf s spec stores .machine)
-  setup-tied = subst (λ (m : Machine). Tied (openedNew s spec (stores .weights)) m) (sym setup-machine) start-tied
+  pub setup-tied : Tied (openedNew s spec (weightsFor s spec (stores .weights))) (setupOf s spec stores .machine)
+  setup-tied = subst (λ (m : Machine). Tied (openedNew s spec (weightsFor s spec (stores .weights))) m) (sym setup-machine) start-tied
 
-  pub setup-filled : setupOf s spec stores .machine .stores ≡ filled stores
+  pub setup-filled : setupOf s spec stores .machine .stores ≡ filledFor s spec stores
   setup-filled = ap (λ (m : Machine). m .stores) setup-machine

@@ -1,6 +1,6 @@
 -- Where the book opens: a finished reset of any state and stores leaves them tied to the book that opens with it.
 use mathlib.Core.Path.{_≡_, refl, sym, subst}
-use mathlib.Core.Bool.{true}
+use mathlib.Core.Bool.{Bool, true, false}
 use mathlib.Core.List.{List, []}
 use Prim.Native.Nat.{ℕ, _+_, _*_, _<_}
 use native.Mathlib.Omega.{arith}
@@ -58,9 +58,9 @@ module _ (linking : Linking) (look channels : ℕ) (marks : List ℕ) (minima we
   }
 
 -- ---- a reset
--- what setup was told, with any cap
-abbrev specWith : Limiter → Cap → ProcessSpec
-specWith l cap = processSpec (l .rate) (l .channels) (l .«max_block») cap
+-- what setup was told, with any cap and asked for a house table or not
+abbrev specWith : Limiter → Cap → Bool → ProcessSpec
+specWith l cap house = processSpec (l .rate) (l .channels) (l .«max_block») cap house
 
 pub reset-answers : (m : Machine) → resetOf m .reply ≡ numbered (resetRefusal m)
 unfolding resetOf
@@ -109,9 +109,9 @@ module _ (m : Machine) (passed : resetRefusal m ≡ 0) where
       let o = reset-set-up .one in
       record { slots = rw (o .count, o .slots) refl; count = o .count; ready = o .ready }
 
-  reset-tied : (cap : Cap) → Tied (opened (m .limiter .settings) (specWith (m .limiter) cap) (m .stores .weights) (resetOne (thresholdOf (m .bank)))) (resetDone m)
+  reset-tied : (cap : Cap) (house : Bool) → Tied (opened (m .limiter .settings) (specWith (m .limiter) cap house) (m .stores .weights) (resetOne (thresholdOf (m .bank)))) (resetDone m)
   unfolding Reset.resetOf
-  reset-tied cap =
+  reset-tied cap house =
       let l = m .limiter in
       let s = m .stores in
       let f = reset-fit in
@@ -149,14 +149,14 @@ module _ (m : Machine) (passed : resetRefusal m ≡ 0) where
   unfolding resetOf
   reset-opened =
       rw passed
-      (subst (λ (s : Smoother). Tied (opened (m .limiter .settings) (specOf (m .limiter)) (m .stores .weights) s) (resetDone m)) (sym reset-first) (reset-tied Cap.Unlimited))
+      (subst (λ (s : Smoother). Tied (opened (m .limiter .settings) (specOf (m .limiter)) (m .stores .weights) s) (resetDone m)) (sym reset-first) (reset-tied Cap.Unlimited false))
 
 -- ---- the call, on state and stores that are tied to the book
 module _ (drops : ℕ) (b : Book) (m : Machine) (t : Tied b m) (n : CountedIn drops b m) where
   reset-passed : resetRefusal m ≡ 0
   reset-passed = whole-resets m (b .threshold) (tied-whole b m t)
 
-  reset-reopened : opened (m .limiter .settings) (specWith (m .limiter) (b .spec .cap)) (m .stores .weights) (resetOne (thresholdOf (m .bank))) ≡ reopened b
+  reset-reopened : opened (m .limiter .settings) (specWith (m .limiter) (b .spec .cap) (b .spec .house)) (m .stores .weights) (resetOne (thresholdOf (m .bank))) ≡ reopened b
   reset-reopened = rw (t .settings, t .rate, t .channels, t .largest, t .weights, first-slot (b .threshold) (m .bank) (t .slots)) refl
 
   -- a start: no drop, no entry, no frame
@@ -173,4 +173,4 @@ module _ (drops : ℕ) (b : Book) (m : Machine) (t : Tied b m) (n : CountedIn dr
   unfolding enter resetOf
   reset-done =
       subst (λ (n : ℕ). Done drops b m reset (silently (settled (numbered n) (resetDone m) m)) (enter b reset)) (sym reset-passed)
-      (finished-done drops b m t n reset _ (enter b reset) refl refl tt reset-left (no-audio b) (subst (λ (c : Book). Tied c (resetDone m)) reset-reopened (reset-tied m reset-passed (b .spec .cap))) reset-counted)
+      (finished-done drops b m t n reset _ (enter b reset) refl refl tt reset-left (no-audio b) (subst (λ (c : Book). Tied c (resetDone m)) reset-reopened (reset-tied m reset-passed (b .spec .cap) (b .spec .house))) reset-counted)

@@ -1,15 +1,14 @@
 -- Setup replies by document 01's table (specs/Table.antt): the bank's share for any declarations, the limiter's, and how a table is read.
-use Prim.Native.Nat.{ℕ, zero, suc, _+_, _*_, _≤_, _<_}
+use Prim.Native.Nat.{ℕ, zero, suc, _+_, _*_, _<_}
 use mathlib.Core.Path.{_≡_, refl, sym, ap, subst, _∙_}
 use mathlib.Core.Bool.{Bool, true, false, cond, not, _&&_, _||_}
 use mathlib.Core.List.{List, [], _∷_, _++_}
 use native.Mathlib.Omega.{arith}
-use native.Mathlib.Nat.{zero-add}
 use lib.Dec.{eqb, leb, ltb}
 use lib.ListN.{length, take, drop, replicate}
 use lib.Ieee.{Float, ofBits, lt, le}
 use lib.Ieee.Scale.{finite}
-use borrow.Author.Tests.{leb-true, leb-false, lt-ltb, le-ltb, eqb-true, ne-eqb, not-false}
+use borrow.Author.Tests.{leb-true, leb-false, lt-ltb, le-ltb, eqb-true, eqb-false, ne-eqb, not-true, not-false}
 use Rattle.arithmetic.specs.Number
 use Rattle.arithmetic.specs.Number.{within}
 use Rattle.arithmetic.specs.Reply.{Reply, finished, refused, numbered, count, unless, andThen}
@@ -18,6 +17,7 @@ use Rattle.keeper.specs.Keeper.{lookTaken}
 use Rattle.settings.specs.Derived.{lookOf, rowOf}
 use Rattle.settings.specs.Memory.{needed, capJudged, capReply, leftOf}
 use Rattle.settings.specs.Weights.{accepted}
+use Rattle.settings.specs.House.{houseEnd, houseStart, houseFits}
 use Rattle.settings.specs.Accepted.{rateTaken, marginTaken, lookaheadTaken, releaseTaken, channelsTaken, blockTaken, refusalOf}
 use Rattle.settings.specs.declared.LimiterSettings.{LimiterSettings}
 use Rattle.settings.specs.declared.ProcessSpec.{ProcessSpec}
@@ -34,7 +34,7 @@ use Rattle.turns.specs.Machine.{thresholdParam}
 use Rattle.driver.specs.Calls.{bankBytes, budgetReply, withRest, setupOf}
 use Rattle.claims.specs.Session.{Limiting}
 use Rattle.claims.specs.Claim.{Claim}
-use Rattle.claims.specs.Table.{Row, row, firstArising, plus30, tenThousand, hundredth, parameterRows, bankRows, thresholdDeclared, overCap, limiterNeeds, rest, outside, limiterRows, setupTable, rowAt, ArisesFirst, ReadOff, NeverHere}
+use Rattle.claims.specs.Table.{Row, row, firstArising, plus30, tenThousand, hundredth, parameterRows, bankRows, thresholdDeclared, overCap, bankNeeds, limiterNeeds, rest, outside, fitsNone, limiterRows, setupTable, rowAt, numbersOf, setupNumbers, ArisesFirst, ReadOff, NeverHere}
 
 -- ---- a condition, positively and negatively
 not-and : (p q : Bool) → (not p || not q) ≡ not (p && q)
@@ -178,6 +178,22 @@ release-row ms =
     let f = finite ms && not (lt ms Number.zero) in
     rw (not-not-and (finite ms) (lt ms Number.zero), not-not-and f (lt tenThousand ms)) (not-not-and (f && not (lt tenThousand ms)) (lt Number.zero ms && lt ms hundredth))
 
+none-row : (a b c d : Bool) → not (a || b || c || d) ≡ not (not (eqb (cond a 0 (cond b 55 (cond c 116 (cond d 249 houseEnd)))) houseEnd))
+none-row true b c d = refl
+none-row false true c d = refl
+none-row false false true d = refl
+none-row false false false true = refl
+none-row false false false false = refl
+
+house-row : (asked : Bool) (rate look : ℕ) → (asked && fitsNone rate look) ≡ not (not asked || houseFits rate look)
+unfolding houseStart
+house-row true rate look = none-row (eqb rate 44100 && eqb look 66) (eqb rate 48000 && eqb look 72) (eqb rate 96000 && eqb look 144) (eqb rate 192000 && eqb look 288)
+house-row false rate look = refl
+
+weights-row : (asked taken : Bool) → (not asked && not taken) ≡ not (asked || taken)
+weights-row true taken = refl
+weights-row false taken = refl
+
 six-rows : (a b c d e f : Bool) → (not a || not b || not c || not d || not e || not f) ≡ not (a && b && c && d && e && f)
 six-rows a b c d e f = rw (not-and a b, not-and (a && b) c, not-and (a && b && c) d, not-and (a && b && c && d) e) (not-and (a && b && c && d && e) f)
 
@@ -193,13 +209,14 @@ module _ (s : LimiterSettings) (spec : ProcessSpec) (stores : Stores) where
       let j = and-true (leb 11 look) (leb look 4096) (t .look-is) in
       rw (k .0, k .1, j .0, j .1) refl
 
-  -- 16 and 17
-  stores-rows : firstArising (drop 9 (limiterRows s spec stores)) ≡ numbered (storesRefusal (spec .channels) look (lengthsOf stores) (stores .weights))
+  -- 29, 16 and 17
+  stores-rows : firstArising (drop 9 (limiterRows s spec stores)) ≡ numbered (storesRefusal spec look (lengthsOf stores) (stores .weights))
   unfolding firstArising
   stores-rows =
-      row-number _ (lengthsFit (spec .channels) look (lengthsOf stores)) 15 _ _
+      row-number _ (not (spec .house) || houseFits (spec .rate) look) 28 _ _ (house-row (spec .house) (spec .rate) look)
+      (row-number _ (lengthsFit (spec .channels) look (lengthsOf stores)) 15 _ _
       (six-rows (eqb (length (stores .delay)) (spec .channels * look)) (eqb (length (stores .marks)) (look + 1)) (eqb (length (stores .minima)) (look + 1)) (eqb (length (stores .weights)) (rowOf look)) (eqb (length (stores .row)) (rowOf look)) (eqb (length (stores .detector)) (spec .channels * 12)))
-      (row-number _ (accepted (stores .weights)) 16 0 _ refl refl)
+      (row-number _ (spec .house || accepted (stores .weights)) 16 0 _ (weights-row (spec .house) (accepted (stores .weights))) refl))
 
   -- 8 to 14
   settings-rows : firstArising (drop 1 (limiterRows s spec stores)) ≡ andThen (numbered (refusalOf s spec)) (firstArising (drop 8 (limiterRows s spec stores)))
@@ -214,10 +231,10 @@ module _ (s : LimiterSettings) (spec : ProcessSpec) (stores : Stores) where
       (row-then _ (channelsTaken (spec .channels)) 12 _ _ next (outside-is 1 8 (spec .channels))
       (row-then _ (blockTaken (spec .«max_block»)) 13 0 _ next (over-is (spec .«max_block») 65536) refl))))))
 
-  -- 15 to 17
+  -- 15, 29, 16 and 17
   left-rows : refusalOf s spec ≡ 0
       → firstArising (drop 8 (limiterRows s spec stores))
-      ≡ andThen (capReply 15 (capJudged (needed (spec .channels) look) (leftOf bankBytes (spec .cap)))) (numbered (storesRefusal (spec .channels) look (lengthsOf stores) (stores .weights)))
+      ≡ andThen (capReply 15 (capJudged (needed (spec .channels) look) (leftOf bankBytes (spec .cap)))) (numbered (storesRefusal spec look (lengthsOf stores) (stores .weights)))
   left-rows z =
       cap-row 14 (limiterNeeds (spec .channels) look) (rest (spec .cap)) (drop 9 (limiterRows s spec stores))
       ∙ ap (λ (cap : Cap). andThen (capReply 15 (capJudged (limiterNeeds (spec .channels) look) cap)) (firstArising (drop 9 (limiterRows s spec stores)))) (rest-is (spec .cap))
@@ -261,42 +278,63 @@ unfolding parameterRows ofBits lt
 never-here s spec stores = record { row-1 = refl; row-2 = refl; row-3 = refl; row-6 = refl }
 
 -- ---- how a table is read
--- numbers from n on
-abbrev CountFrom : ℕ → List Row → Type 0
-CountFrom n [] = Unit {0}
-CountFrom n (r ∷ rows) = (r .number ≡ n) × CountFrom (suc n) rows
+-- numbers of refusals, no two the same: a test that computes
+abbrev absent : ℕ → List ℕ → Bool
+absent n [] = true
+absent n (k ∷ ks) = not (eqb n k) && absent n ks
 
--- a number that is replied is one of them
-number-from : (n : ℕ) (rows : List Row) → CountFrom n rows → (firstArising rows .number ≡ 0 → ⊥) → n ≤ firstArising rows .number
+abbrev apart : List ℕ → Bool
+apart [] = true
+apart (n ∷ ns) = not (eqb n 0) && (absent n ns && apart ns)
+
+differ : (n k : ℕ) → not (eqb n k) ≡ true → n ≡ k → ⊥
+differ n k h e = eqb-false n k (not-true (eqb n k) h) e
+
+-- a number that no row has: it is no row's, and is not replied
+absent-at : (n : ℕ) (rows : List Row) → absent n (numbersOf rows) ≡ true → (i : ℕ) → i < length rows → n ≡ rowAt rows i .number → ⊥
+absent-at n [] h i l e = omega arith
+absent-at n (r ∷ rows) h zero l e = differ n (r .number) (and-true (not (eqb n (r .number))) (absent n (numbersOf rows)) h .0) e
+absent-at n (r ∷ rows) h (suc i) l e = absent-at n rows (and-true (not (eqb n (r .number))) (absent n (numbersOf rows)) h .1) i (omega arith) e
+
+absent-told : (n : ℕ) (rows : List Row) → absent n (numbersOf rows) ≡ true → (n ≡ 0 → ⊥) → n ≡ firstArising rows .number → ⊥
 unfolding firstArising
-number-from n [] c some = absurd (some refl)
-number-from n (r ∷ rows) c some = go (r .arises) some (number-from (suc n) rows (c .1))
+absent-told n [] h some e = some e
+absent-told n (r ∷ rows) h some e = go (r .arises) e (absent-told n rows (a .1) some)
   where
-    go : (t : Bool) → (cond t (refused (r .number) (r .values)) (firstArising rows) .number ≡ 0 → ⊥) → ((firstArising rows .number ≡ 0 → ⊥) → suc n ≤ firstArising rows .number)
-        → n ≤ cond t (refused (r .number) (r .values)) (firstArising rows) .number
-    go true some later = omega (arith, c .0)
-    go false some later = omega (arith, later some)
+    a : (not (eqb n (r .number)) ≡ true) × (absent n (numbersOf rows) ≡ true)
+    a = and-true (not (eqb n (r .number))) (absent n (numbersOf rows)) h
 
-replied-from : (n : ℕ) (rows : List Row) → CountFrom (suc n) rows → (i : ℕ) → ArisesFirst rows i → firstArising rows ≡ refused (i + suc n) (rowAt rows i .values)
-unfolding firstArising
-replied-from n [] c i f = clash false (f .arises) refl
-replied-from n (r ∷ rows) c zero f = rw (f .arises, c .0, zero-add (suc n)) refl
-replied-from n (r ∷ rows) c (suc i) f =
-    let e : suc i + suc n ≡ i + suc (suc n) = omega arith in
-    rw (f .before 0 (omega arith), e) (replied-from (suc n) rows (c .1) i (record { arises = f .arises; before = λ j h. f .before (suc j) (omega arith) }))
+    go : (t : Bool) → n ≡ cond t (refused (r .number) (r .values)) (firstArising rows) .number → (n ≡ firstArising rows .number → ⊥) → ⊥
+    go true e later = differ n (r .number) (a .0) e
+    go false e later = later e
 
-arisen-from : (n : ℕ) (rows : List Row) → CountFrom (suc n) rows → (i : ℕ) → firstArising rows .number ≡ i + suc n → ArisesFirst rows i
+replied-first : (rows : List Row) (i : ℕ) → ArisesFirst rows i → firstArising rows ≡ refused (rowAt rows i .number) (rowAt rows i .values)
 unfolding firstArising
-arisen-from n [] c i h = absurd (omega arith)
-arisen-from n (r ∷ rows) c i h = go (r .arises) refl i h (λ j. arisen-from (suc n) rows (c .1) j)
+replied-first [] i f = clash false (f .arises) refl
+replied-first (r ∷ rows) zero f = rw (f .arises) refl
+replied-first (r ∷ rows) (suc i) f = rw (f .before 0 (omega arith)) (replied-first rows i (record { arises = f .arises; before = λ j h. f .before (suc j) (omega arith) }))
+
+-- what `apart` says of a table's first row, and of the others
+apart-first : (r : Row) (rows : List Row) → apart (numbersOf (r ∷ rows)) ≡ true → (r .number ≡ 0 → ⊥) × ((absent (r .number) (numbersOf rows) ≡ true) × (apart (numbersOf rows) ≡ true))
+apart-first r rows h =
+    let a = and-true (not (eqb (r .number) 0)) (absent (r .number) (numbersOf rows) && apart (numbersOf rows)) h in
+    (differ (r .number) 0 (a .0), and-true (absent (r .number) (numbersOf rows)) (apart (numbersOf rows)) (a .1))
+
+arisen-first : (rows : List Row) → apart (numbersOf rows) ≡ true → (i : ℕ) → i < length rows → firstArising rows .number ≡ rowAt rows i .number → ArisesFirst rows i
+unfolding firstArising
+arisen-first [] c i l h = absurd (omega arith)
+arisen-first (r ∷ rows) c i l h = go (r .arises) refl i l h (λ j. arisen-first rows (a .1 .1) j)
   where
-    go : (t : Bool) → r .arises ≡ t → (i : ℕ) → cond t (refused (r .number) (r .values)) (firstArising rows) .number ≡ i + suc n
-        → ((j : ℕ) → firstArising rows .number ≡ j + suc (suc n) → ArisesFirst rows j) → ArisesFirst (r ∷ rows) i
-    go true e zero h later = record { arises = e; before = λ j l. absurd (omega arith) }
-    go true e (suc i) h later = absurd (omega (arith, c .0))
-    go false e zero h later = absurd (omega (arith, number-from (suc (suc n)) rows (c .1) (λ z. omega arith)))
-    go false e (suc i) h later =
-        let f = later i (omega arith) in
+    a : (r .number ≡ 0 → ⊥) × ((absent (r .number) (numbersOf rows) ≡ true) × (apart (numbersOf rows) ≡ true))
+    a = apart-first r rows c
+
+    go : (t : Bool) → r .arises ≡ t → (i : ℕ) → i < length (r ∷ rows) → cond t (refused (r .number) (r .values)) (firstArising rows) .number ≡ rowAt (r ∷ rows) i .number
+        → ((j : ℕ) → j < length rows → firstArising rows .number ≡ rowAt rows j .number → ArisesFirst rows j) → ArisesFirst (r ∷ rows) i
+    go true e zero l h later = record { arises = e; before = λ j l. absurd (omega arith) }
+    go true e (suc i) l h later = absurd (absent-at (r .number) rows (a .1 .0) i (omega arith) h)
+    go false e zero l h later = absurd (absent-told (r .number) rows (a .1 .0) (a .0) (sym h))
+    go false e (suc i) l h later =
+        let f = later i (omega arith) h in
         record { arises = f .arises; before = λ j l. behind j l f }
       where
         behind : (j : ℕ) → j < suc i → ArisesFirst rows i → rowAt (r ∷ rows) j .arises ≡ false
@@ -308,77 +346,38 @@ unfolding firstArising
 passes-all [] h = refl
 passes-all (r ∷ rows) h = rw (h 0) (passes-all rows (λ i. h (suc i)))
 
-passed-from : (n : ℕ) (rows : List Row) → CountFrom (suc n) rows → firstArising rows .number ≡ 0 → (i : ℕ) → rowAt rows i .arises ≡ false
+passed-all : (rows : List Row) → apart (numbersOf rows) ≡ true → firstArising rows .number ≡ 0 → (i : ℕ) → rowAt rows i .arises ≡ false
 unfolding firstArising
-passed-from n [] c h i = refl
-passed-from n (r ∷ rows) c h i = go (r .arises) refl h (λ z j. passed-from (suc n) rows (c .1) z j) i
+passed-all [] c h i = refl
+passed-all (r ∷ rows) c h i = go (r .arises) refl h (λ z j. passed-all rows (a .1 .1) z j) i
   where
+    a : (r .number ≡ 0 → ⊥) × ((absent (r .number) (numbersOf rows) ≡ true) × (apart (numbersOf rows) ≡ true))
+    a = apart-first r rows c
+
     go : (t : Bool) → r .arises ≡ t → cond t (refused (r .number) (r .values)) (firstArising rows) .number ≡ 0
         → (firstArising rows .number ≡ 0 → (j : ℕ) → rowAt rows j .arises ≡ false) → (i : ℕ) → rowAt (r ∷ rows) i .arises ≡ false
-    go true e h later i = absurd (omega (arith, c .0))
+    go true e h later i = absurd (a .0 h)
     go false e h later zero = e
     go false e h later (suc i) = later h i
 
-pub read-off : (rows : List Row) → CountFrom 1 rows → ReadOff rows (firstArising rows)
+pub read-off : (rows : List Row) → apart (numbersOf rows) ≡ true → ReadOff rows (firstArising rows)
 read-off rows c = record {
-  replied = replied-from 0 rows c;
-  arisen = arisen-from 0 rows c;
+  replied = replied-first rows;
+  arisen = arisen-first rows c;
   passes = passes-all rows;
-  passed = passed-from 0 rows c;
+  passed = passed-all rows c;
 }
 
--- the limiter's setup: seventeen rows, numbered from 1 on
+-- the limiter's setup: eighteen rows, in this order
 over-number : (number need : ℕ) (cap : Cap) → overCap number need cap .number ≡ number
 over-number number need Cap.Unlimited = refl
 over-number number need (Cap.Bytes cap) = refl
 
-setup-counts : (s : LimiterSettings) (spec : ProcessSpec) (stores : Stores) → CountFrom 1 (setupTable s spec stores)
+pub setup-numbers : (s : LimiterSettings) (spec : ProcessSpec) (stores : Stores) → numbersOf (setupTable s spec stores) ≡ setupNumbers
 unfolding parameterRows
-setup-counts s spec stores = (
-  refl,
-  (
-    refl,
-    (
-      refl,
-      (
-        refl,
-        (
-          refl,
-          (
-            refl,
-            (
-              over-number 7 _ (spec .cap),
-              (
-                refl,
-                (
-                  refl,
-                  (
-                    refl,
-                    (
-                      refl,
-                      (
-                        refl,
-                        (
-                          refl,
-                          (
-                            refl,
-                            (over-number 15 _ (rest (spec .cap)), (refl, (refl, tt))),
-                          ),
-                        ),
-                      ),
-                    ),
-                  ),
-                ),
-              ),
-            ),
-          ),
-        ),
-      ),
-    ),
-  ),
-)
+setup-numbers s spec stores = rw (over-number 7 bankNeeds (spec .cap), over-number 15 (limiterNeeds (spec .channels) (lookOf (s .«lookahead_ms») (spec .rate))) (rest (spec .cap))) refl
 
 -- any limiter whose setup replies by the table
 pub setup-read-off : (l : Limiting) → Claim l → (s : LimiterSettings) (spec : ProcessSpec) (stores : Stores) → ReadOff (setupTable s spec stores) (l .setups s spec stores .reply)
 setup-read-off l claim s spec stores =
-    subst (λ (r : Reply). ReadOff (setupTable s spec stores) r) (sym (claim .setup-answered s spec stores)) (read-off (setupTable s spec stores) (setup-counts s spec stores))
+    subst (λ (r : Reply). ReadOff (setupTable s spec stores) r) (sym (claim .setup-answered s spec stores)) (read-off (setupTable s spec stores) (ap apart (setup-numbers s spec stores)))

@@ -17,7 +17,7 @@ abbrev replyTo : LimiterSettings → ProcessSpec → Reply
 replyTo s spec = firstArising (setupTable s spec (storesAt [] [] [] [] [] []))
 
 abbrev setTo : LimiterSettings → Reply
-setTo s = replyTo s (processSpec 48000 2 512 Cap.Unlimited)
+setTo s = replyTo s (processSpec 48000 2 512 Cap.Unlimited false)
 
 abbrev minusZero : Float
 minusZero = bits 0x8000_0000_0000_0000
@@ -53,16 +53,16 @@ releases = refl
 
 -- 8, 13 and 14: rates 0, 7,999 and 192,001; channels 0 and 9, 1 and 8 pass; a largest block of 65,537, 0 and 65,536 pass
 specs : map (λ (spec : ProcessSpec). replyTo defaults spec)
-    (processSpec 0 2 512 Cap.Unlimited ∷ processSpec 7999 2 512 Cap.Unlimited ∷ processSpec 192001 2 512 Cap.Unlimited ∷ processSpec 192000 2 512 Cap.Unlimited
-    ∷ processSpec 48000 0 512 Cap.Unlimited ∷ processSpec 48000 9 512 Cap.Unlimited ∷ processSpec 48000 1 512 Cap.Unlimited ∷ processSpec 48000 8 512 Cap.Unlimited
-    ∷ processSpec 48000 2 65537 Cap.Unlimited ∷ processSpec 48000 2 0 Cap.Unlimited ∷ processSpec 48000 2 65536 Cap.Unlimited ∷ [])
+    (processSpec 0 2 512 Cap.Unlimited false ∷ processSpec 7999 2 512 Cap.Unlimited false ∷ processSpec 192001 2 512 Cap.Unlimited false ∷ processSpec 192000 2 512 Cap.Unlimited false
+    ∷ processSpec 48000 0 512 Cap.Unlimited false ∷ processSpec 48000 9 512 Cap.Unlimited false ∷ processSpec 48000 1 512 Cap.Unlimited false ∷ processSpec 48000 8 512 Cap.Unlimited false
+    ∷ processSpec 48000 2 65537 Cap.Unlimited false ∷ processSpec 48000 2 0 Cap.Unlimited false ∷ processSpec 48000 2 65536 Cap.Unlimited false ∷ [])
     ≡ numbered 8 ∷ numbered 8 ∷ numbered 8 ∷ numbered 16 ∷ numbered 13 ∷ numbered 13 ∷ numbered 16 ∷ numbered 16 ∷ numbered 14 ∷ numbered 16 ∷ numbered 16 ∷ []
 unfolding firstArising parameterRows ofBits lt mul ofInt
 specs = refl
 
 -- 7 before 8, with needed and cap: caps 0 and 79; a cap of 80 leaves 0: 15, after 8 to 14
 caps : map (λ (spec : ProcessSpec). replyTo defaults spec)
-    (processSpec 0 2 512 (Cap.Bytes 0) ∷ processSpec 48000 2 512 (Cap.Bytes 79) ∷ processSpec 48000 2 512 (Cap.Bytes 80) ∷ processSpec 48000 9 512 (Cap.Bytes 80) ∷ [])
+    (processSpec 0 2 512 (Cap.Bytes 0) false ∷ processSpec 48000 2 512 (Cap.Bytes 79) false ∷ processSpec 48000 2 512 (Cap.Bytes 80) false ∷ processSpec 48000 9 512 (Cap.Bytes 80) false ∷ [])
     ≡ refused 7 (count 80 ∷ count 0 ∷ []) ∷ refused 7 (count 80 ∷ count 79 ∷ []) ∷ refused 15 (count 4256 ∷ count 0 ∷ []) ∷ numbered 13 ∷ []
 unfolding firstArising parameterRows ofBits lt mul ofInt
 caps = refl

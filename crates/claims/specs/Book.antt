@@ -2,10 +2,10 @@
 -- how many entries a ring keeps it finds by plain scan (`keptIn`).
 --
 -- What it shares with the limiter are the rules of what was set up and of the call's sample type (`rulesOf`: taps, which channels count, output rule), formulas of document 01 and of its changes on plain arguments, and the table:
---   setup: lookOf, rowOf, coefficientOf, targetOf, thresholdParam
+--   setup: lookOf, rowOf, coefficientOf, targetOf, thresholdParam; weightsFor, by which the claim opens it (Change 6)
 --   a frame's peak and required gain: sumsOf and largestOf (the detector), heard, requiredGain, unitGain, finiteOrZero
 --   where a peak sat, Change 5: phaseOf (the detector), seatOf (among the channels), placeOf (among a block's frames), and placeReply, which tells it
---   mean and gain: meanOf (over the book's row and the lent weights; it looks at the row's floors, at no tally), followed
+--   mean and gain: meanOf (over the book's row and the weights that it opened with; it looks at the row's floors, at no tally), followed
 --   the threshold: smootherOf, targetSet, immediateSet, stepped, resetOne
 --   the table's refusals: eventsReply, reaches, the limits
 use Prim.Native.Nat.{ℕ, zero, suc, _+_}

@@ -17,10 +17,11 @@ use Rattle.audio.specs.declared.format.Format.{Format}
 use Rattle.audio.specs.declared.format.Format.the-variants.{F64}
 use Rattle.envelope.specs.Mean.{meanOf}
 use Rattle.settings.specs.Derived.{rowOf}
+use Rattle.settings.specs.House.{weightsFor}
 use Rattle.settings.specs.declared.LimiterSettings.{LimiterSettings}
 use Rattle.settings.specs.declared.ProcessSpec.{ProcessSpec}
 use Rattle.limiter.specs.State.{freshEnvelope, notSetUp, specOf}
-use Rattle.limiter.specs.Stores.{Stores, filled, cleared}
+use Rattle.limiter.specs.Stores.{Stores, filled, withWeights, cleared}
 use Rattle.limiter.specs.Run.{movingOf}
 use Rattle.frame.specs.Rules.{Rules, rulesOf}
 use Rattle.frame.specs.Frame.{Moving, Framed}
@@ -162,15 +163,15 @@ judgedFirst m reset = resetRefusal m
 
 -- ---- the claim
 pub record Claim (l : Limiting) : Type 0 where
-  -- every list after a finished setup
+  -- every list after a finished setup, on the host's weights or the house's
   pub after-setup : (s : LimiterSettings) (spec : ProcessSpec) (stores : Stores)
       → (let start = l .setups s spec stores in
-      start .reply .number ≡ 0 → (calls : List Call) → Holds l 0 (openedNew s spec (stores .weights)) (start .machine) calls)
-  -- setup replies by the table's rows 1 to 17: the first that arises, with its values, and finished work where none does
+      start .reply .number ≡ 0 → (calls : List Call) → Holds l 0 (openedNew s spec (weightsFor s spec (stores .weights))) (start .machine) calls)
+  -- setup replies by the table's rows, 1 to 15, 29, 16 and 17: the first that arises, with its values, and finished work where none does
   pub setup-answered : (s : LimiterSettings) (spec : ProcessSpec) (stores : Stores) → l .setups s spec stores .reply ≡ firstArising (setupTable s spec stores)
-  -- "Success fills delay, marks, minima and detector with 0, the row with 1.0, and only reads the weights"
+  -- "Success fills delay, marks, minima and detector with 0, the row with 1.0, and only reads the weights"; asked for a house table, "the weights store is then filled from it"
   pub setup-fills : (s : LimiterSettings) (spec : ProcessSpec) (stores : Stores)
-      → (let start = l .setups s spec stores in start .reply .number ≡ 0 → start .machine .stores ≡ filled stores)
+      → (let start = l .setups s spec stores in start .reply .number ≡ 0 → start .machine .stores ≡ withWeights (weightsFor s spec (stores .weights)) (filled stores))
   -- "a refused setup leaves the limiter not set up", and the stores alone
   pub setup-refused : (s : LimiterSettings) (spec : ProcessSpec) (stores : Stores)
       → (let start = l .setups s spec stores in (start .reply .number ≡ 0 → ⊥) → start .machine ≡ machineOf notSetUp unset stores)

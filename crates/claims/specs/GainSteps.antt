@@ -13,6 +13,7 @@ use Rattle.keeper.specs.Floor.{floorOf}
 use Rattle.keeper.specs.History.{dropsIn}
 use Rattle.envelope.specs.Mean.{meanOf}
 use Rattle.settings.specs.Derived.{lookOf, coefficientOf}
+use Rattle.settings.specs.House.{weightsFor}
 use Rattle.settings.specs.declared.LimiterSettings.{LimiterSettings}
 use Rattle.settings.specs.declared.ProcessSpec.{ProcessSpec}
 use Rattle.limiter.specs.Stores.{Stores, storesAt}
@@ -75,7 +76,7 @@ pub record GainClaim (step : GainStepping) : Type 0 where
   pub after-setup : (s : LimiterSettings) (spec : ProcessSpec) (stores : Stores)
       → (let start = setupOf s spec stores in
       start .reply .number ≡ 0 → (xs : List Float)
-      → GainsHold step (lookOf (s .«lookahead_ms») (spec .rate)) (stores .weights) (coefficientOf (s .«release_ms») (spec .rate)) 0 [] (start .machine) xs)
+      → GainsHold step (lookOf (s .«lookahead_ms») (spec .rate)) (weightsFor s spec (stores .weights)) (coefficientOf (s .«release_ms») (spec .rate)) 0 [] (start .machine) xs)
   -- every list after a finished reset, of any state and stores at all
   pub after-reset : (m : Machine)
       → (let start = resetOf m in

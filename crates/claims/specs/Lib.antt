@@ -8,6 +8,6 @@ pub mod Claim
 pub mod GainSteps
 pub mod Controls
 pub mod SetupControls
-pub mod RustWeights
 pub mod Tent
 pub mod Rows
+pub mod HouseRows

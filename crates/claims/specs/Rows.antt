@@ -14,6 +14,7 @@ use Rattle.keeper.specs.History.{repliesAfter}
 use Rattle.settings.specs.Settings.{settingsOf, processSpec, defaults}
 use Rattle.settings.specs.Derived.{lookOf, rowOf}
 use Rattle.settings.specs.Memory.{needed}
+use Rattle.settings.specs.House.{houseOf}
 use Rattle.settings.specs.declared.memory.Cap.{Cap}
 use Rattle.settings.specs.declared.ProcessSpec.{ProcessSpec}
 use Rattle.limiter.specs.Stores.{Stores, storesAt, lengthsOf}
@@ -26,7 +27,6 @@ use Rattle.turns.specs.Drain.{drainOf}
 use Rattle.driver.specs.Calls
 use Rattle.floors_text.specs.Print.{ascii}
 use Rattle.floors_text.specs.Text.{textOf}
-use Rattle.claims.specs.RustWeights.{rustWeights}
 use Rattle.claims.specs.Tent.{tent}
 
 abbrev pub half : Float
@@ -38,7 +38,7 @@ tells floor dropped kept = finished (float floor ∷ count dropped ∷ count kep
 
 -- 48,000, stereo, a largest block of 512
 abbrev pub stereo : Cap → ProcessSpec
-stereo cap = processSpec 48000 2 512 cap
+stereo cap = processSpec 48000 2 512 cap false
 
 -- what setup replies there: by default, with a cap; and with another lookahead
 abbrev pub cappedAt : ℕ → Stores → Reply
@@ -52,9 +52,9 @@ abbrev pub lent : ℕ → ℕ → List Float → Float → ℕ → Stores
 lent channels look weights x mark =
     storesAt (replicate (channels * look) x) (replicate (look + 1) mark) (replicate (look + 1) x) weights (replicate (rowOf look) x) (replicate (channels * 12) x)
 
--- for look 72 those with the Rust's weights; for look 11 the one weight 1.0, the Rust's too; for look 4,096 the 4,085 of Tent.antt
+-- for look 72 those with the Rust's weights, which are the house's; for look 11 the one weight 1.0, the Rust's too; for look 4,096 the 4,085 of Tent.antt
 abbrev pub lent72 : Float → ℕ → Stores
-lent72 x mark = lent 2 72 rustWeights x mark
+lent72 x mark = lent 2 72 (houseOf 48000 72) x mark
 
 abbrev pub lent11 : Float → ℕ → Stores
 lent11 x mark = lent 2 11 (one ∷ []) x mark
@@ -114,14 +114,14 @@ pub record Starred : Type 0 where
   pub default-bytes : needed 2 72 ≡ 4256
   -- * Cap 4,336 passes (on stores that fit, with the Rust's own weights; on any stores, what is left to judge are these: 16 and 17); 4,335 gives 15 (4,256, 4,255); 79 gives 7 (80, 79).
   pub cap-passes : (x : Float) (mark : ℕ) → cappedAt 4336 (lent72 x mark) ≡ finished []
-  pub cap-judges : (stores : Stores) → cappedAt 4336 stores ≡ numbered (storesRefusal 2 72 (lengthsOf stores) (stores .weights))
+  pub cap-judges : (stores : Stores) → cappedAt 4336 stores ≡ numbered (storesRefusal (stereo Cap.Unlimited) 72 (lengthsOf stores) (stores .weights))
   pub cap-15 : (stores : Stores) → cappedAt 4335 stores ≡ refused 15 (count 4256 ∷ count 4255 ∷ [])
   pub cap-7 : (stores : Stores) → cappedAt 79 stores ≡ refused 7 (count 80 ∷ count 79 ∷ [])
   -- * At 48,000: 0.22 ms gives look 11, 85.34 gives 4,096; 0.21 (10) and 85.36 (4,097) are refused.
   pub looks : map (λ (ms : Float). lookOf ms 48000) (ms0·22 ∷ ms85·34 ∷ ms0·21 ∷ ms85·36 ∷ []) ≡ 11 ∷ 4096 ∷ 10 ∷ 4097 ∷ []
   pub looks-pass : (x : Float) (mark : ℕ) → (lookingAt ms0·22 (lent11 x mark) ≡ finished []) × (lookingAt ms85·34 (lent4096 x mark) ≡ finished [])
   pub looks-judge : (stores : Stores)
-      → (lookingAt ms0·22 stores ≡ numbered (storesRefusal 2 11 (lengthsOf stores) (stores .weights))) × (lookingAt ms85·34 stores ≡ numbered (storesRefusal 2 4096 (lengthsOf stores) (stores .weights)))
+      → (lookingAt ms0·22 stores ≡ numbered (storesRefusal (stereo Cap.Unlimited) 11 (lengthsOf stores) (stores .weights))) × (lookingAt ms85·34 stores ≡ numbered (storesRefusal (stereo Cap.Unlimited) 4096 (lengthsOf stores) (stores .weights)))
   pub looks-12 : (stores : Stores) → (lookingAt ms0·21 stores ≡ refused 12 []) × (lookingAt ms85·36 stores ≡ refused 12 [])
   -- * Position 0, 64 frames: runs 32, 32, two bank steps. Position 33, 40 frames: runs 31, 9, one step.
   pub runs-0 : runsOf 0 64 ≡ 32 ∷ 32 ∷ []

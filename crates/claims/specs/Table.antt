@@ -1,12 +1,12 @@
--- DOCUMENT 01's TABLE FOR SETUP, read off it: rows 1 to 17 in its order ("Bank setup", then "Limiter setup, after that"), each with the condition under which it arises, in the table's own words,
--- and the values that go with its number. `Claim.setup-answered` holds setup to it.
+-- DOCUMENT 01's TABLE FOR SETUP, read off it: rows 1 to 17 in its order ("Bank setup", then "Limiter setup, after that"), and document 02's 29 just before 16, each with the condition under which it
+-- arises, in the documents' own words, and the values that go with its number. `Claim.setup-answered` holds setup to it.
 --
 -- It is a definition of its own: it shares no test, count or constant with those that setup is defined by, but for what the table only names, look (`lookOf`), L (`rowOf`) and the weights rule (`accepted`,
 -- document 01's sentence over a list), and IEEE's comparisons (`finite`, `lt`): neither a NaN nor an infinity is finite, and −0.0 is neither negative nor above 0.
 use Prim.Native.Nat.{ℕ, suc, _+_, _-_, _*_, _<_}
 use mathlib.Core.Path.{_≡_}
 use mathlib.Core.Bool.{Bool, true, false, cond, not, _&&_, _||_}
-use mathlib.Core.List.{List, [], _∷_, _++_}
+use mathlib.Core.List.{List, [], _∷_, _++_, map}
 use lib.Dec.{eqb, ltb}
 use lib.ListN.{length, take, getD}
 use lib.Ieee.{Float, lt}
@@ -107,6 +107,11 @@ rest (Cap.Bytes cap) = Cap.Bytes (cap - bankNeeds)
 abbrev pub outside : ℕ → ℕ → ℕ → Bool
 outside lo hi n = ltb n lo || ltb hi n
 
+-- "the rate and look fit none of the four": 1.5 ms at 44,100, 48,000, 96,000 and 192,000
+abbrev pub fitsNone : ℕ → ℕ → Bool
+fitsNone rate look =
+    not (eqb rate 44100 && eqb look 66 || eqb rate 48000 && eqb look 72 || eqb rate 96000 && eqb look 144 || eqb rate 192000 && eqb look 288)
+
 -- a store does not have the length that is due
 abbrev pub otherLength : {A : Type 0} → List A → ℕ → Bool
 otherLength store due = not (eqb (length store) due)
@@ -136,22 +141,32 @@ limiterRows s spec stores =
     ∷ row (ltb 65536 (spec .«max_block»)) 14 []
     -- "15 over the cap left, with needed and that cap"
     ∷ overCap 15 (limiterNeeds channels look) (rest (spec .cap))
+    -- Change 6: "29 when a house table is asked for and the rate and look fit none of the four, checked just before 16"
+    ∷ row (spec .house && fitsNone (spec .rate) look) 29 []
     -- "16 a store's length": "delay channels × look; marks (u64) look + 1; minima look + 1; weights L; attack row L; detector channels × 12"
     ∷ row
     (otherLength (stores .delay) (channels * look) || otherLength (stores .marks) (look + 1) || otherLength (stores .minima) (look + 1) || otherLength (stores .weights) (rowOf look)
     || otherLength (stores .row) (rowOf look) || otherLength (stores .detector) (channels * 12)) 16 []
-    -- "17 weights not accepted"
-    ∷ row (not (accepted (stores .weights))) 17 []
+    -- "17 weights not accepted"; Change 6: where a house table is asked for, "17 doesn't judge what it held"
+    ∷ row (not (spec .house) && not (accepted (stores .weights))) 17 []
     ∷ []
 
--- ---- the whole, seventeen rows
+-- ---- the whole, eighteen rows
 abbrev pub setupTable : LimiterSettings → ProcessSpec → Stores → List Row
 setupTable s spec stores = bankRows 1 (thresholdDeclared s ∷ []) ++ limiterRows s spec stores
 
 -- ---- how a table is read (laws: proofs/Table.antt)
--- the row at a place from 0 on; in a table whose numbers count from 1, that of number i + 1
+-- the row at a place from 0 on
 abbrev pub rowAt : List Row → ℕ → Row
 rowAt rows i = getD rows i (row false 0 [])
+
+-- the numbers, in the table's order
+abbrev pub numbersOf : List Row → List ℕ
+numbersOf rows = map (λ (r : Row). r .number) rows
+
+-- those of setup
+abbrev pub setupNumbers : List ℕ
+setupNumbers = 1 ∷ 2 ∷ 3 ∷ 4 ∷ 5 ∷ 6 ∷ 7 ∷ 8 ∷ 9 ∷ 10 ∷ 11 ∷ 12 ∷ 13 ∷ 14 ∷ 15 ∷ 29 ∷ 16 ∷ 17 ∷ []
 
 -- it arises, and none before it does
 pub record ArisesFirst (rows : List Row) (i : ℕ) : Type 0 where
@@ -160,8 +175,8 @@ pub record ArisesFirst (rows : List Row) (i : ℕ) : Type 0 where
 
 pub record ReadOff (rows : List Row) (reply : Reply) : Type 0 where
   -- a number is replied exactly where its row is the first that arises, and then with that row's values
-  pub replied : (i : ℕ) → ArisesFirst rows i → reply ≡ refused (i + 1) (rowAt rows i .values)
-  pub arisen : (i : ℕ) → reply .number ≡ i + 1 → ArisesFirst rows i
+  pub replied : (i : ℕ) → ArisesFirst rows i → reply ≡ refused (rowAt rows i .number) (rowAt rows i .values)
+  pub arisen : (i : ℕ) → i < length rows → reply .number ≡ rowAt rows i .number → ArisesFirst rows i
   -- the work is finished exactly where none arises
   pub passes : ((i : ℕ) → rowAt rows i .arises ≡ false) → reply ≡ finished []
   pub passed : reply .number ≡ 0 → (i : ℕ) → rowAt rows i .arises ≡ false

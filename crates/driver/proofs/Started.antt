@@ -11,9 +11,9 @@ use Rattle.settings.specs.declared.LimiterSettings.{LimiterSettings}
 use Rattle.settings.specs.declared.memory.CapJudged.{CapJudged}
 use Rattle.settings.specs.declared.ProcessSpec.{ProcessSpec}
 use Rattle.limiter.specs.State.{notSetUp, started}
-use Rattle.limiter.specs.Stores.{Stores, lengthsOf, filled}
+use Rattle.limiter.specs.Stores.{Stores, lengthsOf}
 use Rattle.limiter.specs.Prepare
-use Rattle.limiter.specs.Prepare.{prepareRefusal, limiterLeft, prepareOf}
+use Rattle.limiter.specs.Prepare.{prepareRefusal, limiterLeft, filledFor, prepareOf}
 use Rattle.limiter.specs.declared.state.Limiter.{Limiter}
 use Rattle.bank.specs.Answers.{refusalReply}
 use Rattle.bank.specs.Bank
@@ -64,4 +64,4 @@ module _ (s : LimiterSettings) (spec : ProcessSpec) (stores : Stores) (set : Ban
     unfolding prepareOf
     limiter-told h rest c o e b j =
         rw (j, e, c, whole, k, h)
-        (carried (prepareRefusal s (withRest spec) (lengthsOf stores) (stores .weights)) (started s (withRest spec)) (filled stores) stores (set .bank))
+        (carried (prepareRefusal s (withRest spec) (lengthsOf stores) (stores .weights)) (started s (withRest spec)) (filledFor s (withRest spec) stores) stores (set .bank))

@@ -50,7 +50,7 @@ budgetReply cap = capReply 7 (capJudged bankBytes cap)
 
 -- "The bank's bytes are taken first; the limiter's cap is the rest"
 abbrev pub withRest : ProcessSpec → ProcessSpec
-withRest spec = record { rate = spec .rate; channels = spec .channels; «max_block» = spec .«max_block»; cap = leftOf bankBytes (spec .cap) }
+withRest spec = record { rate = spec .rate; channels = spec .channels; «max_block» = spec .«max_block»; cap = leftOf bankBytes (spec .cap); house = spec .house }
 
 -- the bank of one parameter (of eight declarations it takes the first), then 7, then the limiter's own setup; a refused setup leaves the limiter not set up
 unfoldable pub setupOf : LimiterSettings → ProcessSpec → Stores → Left

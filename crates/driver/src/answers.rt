@@ -8,7 +8,7 @@ use bank::smoother_bank::ParamSet;
 use frame::highest::Seat;
 use limiter::prepare::PrepareAnswer;
 
-// Setup: the bank's refusal (1 to 6), the bank over the cap (7), or what the limiter answers (0, 8 to 17).
+// Setup: the bank's refusal (1 to 6), the bank over the cap (7), or what the limiter answers (0, 8 to 17, 29).
 pub enum SetupAnswer {
     Bank(BankRefusal),
     OverBudget { needed: u64, cap: u64 },

@@ -78,6 +78,7 @@ fn with_rest(spec: ProcessSpec) -> ProcessSpec
         channels: spec.channels,
         max_block: spec.max_block,
         cap: left_of(80, cap),
+        house: spec.house,
     }
 }
 
@@ -98,7 +99,7 @@ impl KernelProcessor {
         delay: &mut [f64],
         marks: &mut [u64],
         minima: &mut [f64],
-        weights: &[f64],
+        weights: &mut [f64],
         row: &mut [f64],
         detector: &mut [f64],
     ) -> SetUp

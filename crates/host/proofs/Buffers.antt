@@ -1,27 +1,28 @@
--- A setup whose state's buffer has another length: the refusals before 16 as they are, then 16; nothing is written but the answer.
+-- A setup whose state's buffer has another length: the refusals before 16 as they are, 29 among them, then 16; nothing is written but the answer.
 use mathlib.Core.Path.{_≡_, refl}
-use mathlib.Core.Bool.{Bool, true, false, cond, _&&_}
+use mathlib.Core.Bool.{Bool, true, false, cond, not, _&&_, _||_}
 use mathlib.Core.List.{List, []}
 use Prim.Native.Nat.{ℕ}
 use native.Mathlib.Omega.{arith}
 use lib.Dec.{eqb}
 use lib.ListN.{length, replicate}
 use borrow.Author.Tests.{ne-eqb}
-use Rattle.arithmetic.specs.Reply.{Reply, numbered, andThen}
+use Rattle.arithmetic.specs.Reply.{Reply, numbered, unless, andThen}
 use Rattle.settings.specs.Accepted.{refusalOf}
 use Rattle.settings.specs.Derived.{lookOf, rowOf}
 use Rattle.settings.specs.Memory.{needed, capJudged, capReply}
+use Rattle.settings.specs.House.{houseFits}
 use Rattle.settings.specs.declared.LimiterSettings.{LimiterSettings}
 use Rattle.settings.specs.declared.ProcessSpec.{ProcessSpec}
 use Rattle.limiter.specs.State.{notSetUp}
-use Rattle.limiter.specs.Stores.{Stores, lengthsOf}
+use Rattle.limiter.specs.Stores.{Stores, lengthsOf, withWeights}
 use Rattle.limiter.specs.Prepare.{storesRefusal, limiterLeft, prepareOf}
 use Rattle.bank.specs.Bank.{unset, setUpOf}
 use Rattle.turns.specs.Machine.{machineOf, thresholdParam}
 use Rattle.driver.specs.Calls.{left, withRest, budgetReply, setupOf}
 use Rattle.state_bytes.specs.State.{stateBytes}
 use Rattle.host.specs.Answer.{answeredBy}
-use Rattle.host.specs.Host.{returnedAt, withWeights, setupBy}
+use Rattle.host.specs.Host.{returnedAt, setupBy}
 
 -- no look has a row of no weights
 no-row : (look : ℕ) → eqb 0 (rowOf look) ≡ false
@@ -45,24 +46,35 @@ module _ (s : LimiterSettings) (spec : ProcessSpec) (stores : Stores) where
   abbrev look : ℕ
   look = lookOf (s .«lookahead_ms») (spec .rate)
 
-  no-weights : storesRefusal (spec .channels) look (lengthsOf none) [] ≡ 16
+  -- 29, else 16
+  abbrev houseless : ℕ
+  houseless = unless (not (spec .house) || houseFits (spec .rate) look) 29 16
+
+  no-weights : storesRefusal spec look (lengthsOf none) [] ≡ houseless
   no-weights = rw (no-row look, inside _ _ _) refl
+
+  houseless-not : eqb houseless 0 ≡ false
+  houseless-not = go (not (spec .house) || houseFits (spec .rate) look)
+    where
+      go : (b : Bool) → eqb (unless b 29 16) 0 ≡ false
+      go true = refl
+      go false = refl
 
   abbrev capped : Reply
   capped = capReply 15 (capJudged (needed (spec .channels) look) (withRest spec .cap))
 
-  -- 8 to 15, then 16
+  -- 8 to 15, 29, then 16
   abbrev pub kernelReply : Reply
-  kernelReply = andThen (numbered (refusalOf s (withRest spec))) (andThen capped (numbered 16))
+  kernelReply = andThen (numbered (refusalOf s (withRest spec))) (andThen capped (numbered houseless))
 
   kernel-not : eqb (kernelReply .number) 0 ≡ false
-  kernel-not = not-finished (numbered (refusalOf s (withRest spec))) (andThen capped (numbered 16)) (not-finished capped (numbered 16) refl)
+  kernel-not = not-finished (numbered (refusalOf s (withRest spec))) (andThen capped (numbered houseless)) (not-finished capped (numbered houseless) houseless-not)
 
   kernel-none : prepareOf s (withRest spec) none ≡ limiterLeft kernelReply notSetUp none
   unfolding prepareOf
   kernel-none = rw (no-weights, kernel-not) refl
 
-  -- 1 to 15, then 16
+  -- 1 to 15, 29, then 16
   abbrev pub bufferReply : Reply
   bufferReply = andThen (setUpOf (replicate 8 (thresholdParam s)) 1 (spec .rate) .reply) (andThen (budgetReply (spec .cap)) kernelReply)
 
@@ -72,7 +84,7 @@ module _ (s : LimiterSettings) (spec : ProcessSpec) (stores : Stores) where
       let b = setUpOf (replicate 8 (thresholdParam s)) 1 (spec .rate) .reply in
       not-finished b (andThen (budgetReply (spec .cap)) kernelReply) (not-finished (budgetReply (spec .cap)) kernelReply kernel-not)
 
-  setup-none : setupOf s spec none ≡ left bufferReply (machineOf notSetUp unset none)
+  pub setup-none : setupOf s spec none ≡ left bufferReply (machineOf notSetUp unset none)
   unfolding setupOf
   setup-none = rw (kernel-none, buffer-refused) refl
 

@@ -29,6 +29,7 @@ prepare-few : (a : PrepareAnswer) → length (prepareReply a .values) ≤ 6
 prepare-few PrepareAnswer.Finished = omega arith
 prepare-few (PrepareAnswer.Settings why) = omega arith
 prepare-few (PrepareAnswer.OverCap need cap) = omega arith
+prepare-few PrepareAnswer.NoHouse = omega arith
 prepare-few PrepareAnswer.StoreLength = omega arith
 prepare-few PrepareAnswer.Weights = omega arith
 

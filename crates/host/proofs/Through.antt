@@ -1,18 +1,18 @@
 -- A call of the driver through bytes, whatever the call is.
 use mathlib.Core.Path.{_≡_, refl, sym, ap, _∙_}
 use mathlib.Core.Bool.{Bool, true, false, cond}
-use mathlib.Core.List.{List, [], _∷_}
+use mathlib.Core.List.{List, [], _∷_, _++_, append-nil}
 use Prim.Native.Nat.{ℕ, _-_, _≤_}
 use native.Mathlib.Omega.{arith}
 use lib.Dec.{eqb}
-use lib.ListN.{length, take}
-use lib.Seq.{take-all}
+use lib.ListN.{length, take, drop}
+use lib.Seq.{take-all, drop-length}
 use lib.Ieee.{Float}
 use Rattle.arithmetic.specs.Number.{bits}
 use Rattle.arithmetic.specs.Reply.{Reply, refused, count}
 use Rattle.settings.specs.declared.LimiterSettings.{LimiterSettings}
 use Rattle.settings.specs.declared.ProcessSpec.{ProcessSpec}
-use Rattle.limiter.specs.Stores.{Stores}
+use Rattle.limiter.specs.Stores.{Stores, withWeights}
 use Rattle.turns.specs.Machine.{Machine, prepared}
 use Rattle.turns.specs.Block.{Outcome}
 use Rattle.driver.specs.Calls.{Left, left, parameterOf, readOf, setupOf}
@@ -21,8 +21,9 @@ use Rattle.driver.specs.declared.state.KernelProcessor.{KernelProcessor}
 use Rattle.state_bytes.specs.State.{stateBytes, processorOf, processorIn, stateOut}
 use Rattle.state_bytes.proofs.Finished.{parameter-set-up, set-up-long}
 use Rattle.host.specs.Answer.{replyWords, wordsOf, answered, answeredBy}
-use Rattle.host.specs.Host.{Returned, returnedAt, returned, calledBy, returnedWith, audioBy, parameterBy, readAt, valueBy, withWeights, setupBy}
+use Rattle.host.specs.Host.{Returned, returnedAt, returned, calledBy, returnedWith, audioBy, parameterBy, readAt, valueBy, leftIn, setupBy}
 use Rattle.host.specs.declared.answer.ReplyWords.{ReplyWords}
+use Rattle.host.proofs.Buffers.{setup-none}
 
 module _ (answer state : List ℕ) (q : KernelProcessor) (e : q ≡ processorIn state) where
   -- a finished reply means set up, and that a state of 512 bytes
@@ -89,14 +90,29 @@ lent-part true n ws e = take-all (n - 0) ws (omega (arith, e))
 lent-part false n ws e = rw e refl
 
 module _ (s : LimiterSettings) (spec : ProcessSpec) (answer state : List ℕ) (stores : Stores) where
-  pub set-up : (reply : Reply) (p : KernelProcessor) (later : Stores) (part : List Float) (t : ReplyWords) (after next : List ℕ) → part ≡ cond (eqb (length state) stateBytes) (stores .weights) []
-      → left reply (machineAt p later) ≡ setupOf s spec (withWeights part stores) → t ≡ replyWords reply → after ≡ answered answer (wordsOf t) → next ≡ cond (eqb (length state) stateBytes) (stateOut p) state
-      → returnedAt (t .number) after next (withWeights (stores .weights) later) ≡ setupBy s spec answer state stores
-  unfolding setupBy
-  set-up reply p later part t after next l o u v w = whole ∙ ap done (o ∙ ap (λ (x : List Float). setupOf s spec (withWeights x stores)) l)
-    where
-      done : Left → Returned
-      done x = returnedAt (x .reply .number) (answeredBy answer (x .reply)) (cond (eqb (length state) stateBytes) (stateOut (processorOf (x .machine))) state) (withWeights (stores .weights) (x .machine .stores))
+  abbrev fits : Bool
+  fits = eqb (length state) stateBytes
 
-      whole : returnedAt (t .number) after next (withWeights (stores .weights) later) ≡ done (left reply (machineAt p later))
-      whole = rw (v, w, u) refl
+  module _ (reply : Reply) (p : KernelProcessor) (later : Stores) (part : List Float) (l : part ≡ cond fits (stores .weights) []) (o : left reply (machineAt p later) ≡ setupOf s spec (withWeights part stores)) where
+    own : left reply (machineAt p later) ≡ setupOf s spec (withWeights (cond fits (stores .weights) []) stores)
+    own = o ∙ ap (λ (x : List Float). setupOf s spec (withWeights x stores)) l
+
+    -- the weights as they come back: the lent part, and what is behind it
+    pub came-back : (n : ℕ) → n ≡ cond fits (length (stores .weights)) 0 → later .weights ++ drop n (stores .weights) ≡ cond fits (later .weights) (stores .weights)
+    came-back n e = go fits n e own
+      where
+        go : (b : Bool) (n : ℕ) → n ≡ cond b (length (stores .weights)) 0 → left reply (machineAt p later) ≡ setupOf s spec (withWeights (cond b (stores .weights) []) stores)
+            → later .weights ++ drop n (stores .weights) ≡ cond b (later .weights) (stores .weights)
+        go true n e h = rw (e, drop-length (stores .weights)) (append-nil (later .weights))
+        go false n e h = rw (e, ap (λ (x : Left). x .machine .stores .weights) (h ∙ setup-none s spec stores)) refl
+
+    pub set-up : (ws : List Float) (t : ReplyWords) (after next : List ℕ) → ws ≡ cond fits (later .weights) (stores .weights) → t ≡ replyWords reply → after ≡ answered answer (wordsOf t)
+        → next ≡ cond fits (stateOut p) state → returnedAt (t .number) after next (withWeights ws later) ≡ setupBy s spec answer state stores
+    unfolding setupBy
+    set-up ws t after next b u v w = whole ∙ ap done own
+      where
+        done : Left → Returned
+        done x = returnedAt (x .reply .number) (answeredBy answer (x .reply)) (cond fits (stateOut (processorOf (x .machine))) state) (leftIn state stores (x .machine .stores))
+
+        whole : returnedAt (t .number) after next (withWeights ws later) ≡ done (left reply (machineAt p later))
+        whole = rw (b, v, w, u) refl

@@ -1,12 +1,14 @@
 -- Inputs at which the wrong programs of ARCHITECTURE.md's table would answer otherwise: each row computes what the definition answers there, and its comment names the wrong program.
 use Prim.Native.Nat.{ℕ}
 use mathlib.Core.Path.{_≡_, refl}
+use mathlib.Core.Bool.{true, false}
 use mathlib.Core.List.{List, [], _∷_, _++_}
 use lib.ListN.{replicate}
 use lib.Ieee.{Float}
 use Rattle.arithmetic.specs.Number.{largest}
 use Rattle.arithmetic.specs.Reply.{Value, finished, refused, numbered, count}
 use Rattle.settings.specs.declared.memory.Cap.{Cap}
+use Rattle.limiter.specs.Stores.{Stores}
 use Rattle.turns.specs.Machine.{Machine}
 use Rattle.turns.specs.Block.{placed}
 use Rattle.frame.specs.declared.highest.Seat.{Seat}
@@ -14,7 +16,7 @@ use Rattle.driver.proofs.Wrong.{machine, judging}
 use Rattle.driver.specs.Calls.{parameterOf, gainOf, gainTold}
 use Rattle.state_bytes.specs.State.{stateOut, processorOf}
 use Rattle.host.specs.Answer.{replyWords, answered, wordsOf, answeredBy}
-use Rattle.host.specs.Host.{returned, parameterBy, capOf, wholeNeeded}
+use Rattle.host.specs.Host.{returned, parameterBy, capOf, askedOf, leftIn, wholeNeeded}
 
 -- ---- the state, of every call
 module _ (answer state : List ℕ) (m : Machine) where
@@ -56,3 +58,11 @@ cap-of-nothing = (refl, refl)
 -- the bank's 80 bytes left out, and a sum that wraps where the bytes are not counted: 79
 pub whole-bytes : (wholeNeeded 2 72 ≡ 4336) × (wholeNeeded 9 72 ≡ largest)
 whole-bytes = (refl, refl)
+
+-- ---- a house table
+-- a `house` of 2 read as not asked; and weights lent to a buffer that holds no state left to setup: they stay
+pub asked-by-any : (askedOf 2 ≡ true) × (askedOf 0 ≡ false)
+asked-by-any = (refl, refl)
+
+pub weights-stay : (stores later : Stores) → leftIn [] stores later .weights ≡ stores .weights
+weights-stay stores later = refl

@@ -1,6 +1,6 @@
 -- The C functions: each call of the driver through bytes. A buffer that is no state holds the limiter that was never set up, which every call but setup answers with 18.
 use Prim.Native.Nat.{ℕ, _+_}
-use mathlib.Core.Bool.{cond}
+use mathlib.Core.Bool.{Bool, cond, not}
 use mathlib.Core.List.{List, [], _∷_}
 use lib.Dec.{eqb, leb}
 use lib.ListN.{length}
@@ -12,7 +12,7 @@ use Rattle.settings.specs.Memory.{needed}
 use Rattle.settings.specs.declared.LimiterSettings.{LimiterSettings}
 use Rattle.settings.specs.declared.ProcessSpec.{ProcessSpec}
 use Rattle.settings.specs.declared.memory.Cap.{Cap}
-use Rattle.limiter.specs.Stores.{Stores, storesAt}
+use Rattle.limiter.specs.Stores.{Stores, withWeights}
 use Rattle.turns.specs.Machine.{Machine}
 use Rattle.driver.specs.Answers.{machineAt}
 use Rattle.driver.specs.Calls.{Left, left, bankBytes, parameterOf, setupOf, readOf}
@@ -90,18 +90,23 @@ valueBy id answer state =
 abbrev pub capOf : ℕ → ℕ → Cap
 capOf capped cap = cond (eqb capped 0) Cap.Unlimited (Cap.Bytes cap)
 
-abbrev pub withWeights : List Float → Stores → Stores
-withWeights weights s = storesAt (s .delay) (s .marks) (s .minima) weights (s .row) (s .detector)
+-- a flag: any number but 0 asks for a house table
+abbrev pub askedOf : ℕ → Bool
+askedOf house = not (eqb house 0)
 
--- where the state's buffer has another length, setup goes as if no weights were lent: 16 in its place, and neither state nor store is written
+-- where the state's buffer has another length, setup goes as if no weights were lent: 16 in its place, after 29, and neither state nor store is written
 abbrev pub lentTo : List ℕ → Stores → Stores
 lentTo state stores = withWeights (cond (eqb (length state) stateBytes) (stores .weights) []) stores
+
+-- the stores afterwards: the weights as setup left them, or as they were where it was lent none of them
+abbrev pub leftIn : List ℕ → Stores → Stores → Stores
+leftIn state stores later = withWeights (cond (eqb (length state) stateBytes) (later .weights) (stores .weights)) later
 
 -- else the state is written, refused or not: a refused setup leaves the limiter that was never set up
 unfoldable pub setupBy : LimiterSettings → ProcessSpec → List ℕ → List ℕ → Stores → Returned
 setupBy s spec answer state stores =
     let o = setupOf s spec (lentTo state stores) in
-    returnedAt (o .reply .number) (answeredBy answer (o .reply)) (cond (eqb (length state) stateBytes) (stateOut (processorOf (o .machine))) state) (withWeights (stores .weights) (o .machine .stores))
+    returnedAt (o .reply .number) (answeredBy answer (o .reply)) (cond (eqb (length state) stateBytes) (stateOut (processorOf (o .machine))) state) (leftIn state stores (o .machine .stores))
 
 -- ---- the limiter's bytes and the bank's; the largest number where they are not counted
 abbrev pub wholeNeeded : ℕ → ℕ → ℕ

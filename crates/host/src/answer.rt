@@ -88,6 +88,7 @@ fn of_prepare(answer: PrepareAnswer) -> ReplyWords
         PrepareAnswer::Finished => bare(0),
         PrepareAnswer::Settings(why) => bare(refusal_number(why)),
         PrepareAnswer::OverCap { needed, cap } => pair(15, needed, cap),
+        PrepareAnswer::NoHouse => bare(29),
         PrepareAnswer::StoreLength => bare(16),
         PrepareAnswer::Weights => bare(17),
     }

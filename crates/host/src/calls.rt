@@ -1,4 +1,4 @@
-// The C functions. Each answers document 01's number, 0 where the work is finished.
+// The C functions. Each that can refuse answers document 01's number, 0 where the work is finished.
 ghost use mathlib.Core.Path.{_≡_};
 ghost use mathlib.Core.Bool.{cond};
 ghost use mathlib.Core.List.{List, [], _∷_};
@@ -10,6 +10,7 @@ ghost use Rattle.arithmetic.specs.Number.{bits};
 ghost use Rattle.arithmetic.specs.Reply.{refused, count};
 ghost use Rattle.settings.specs.Settings.{settingsOf, processSpec};
 ghost use Rattle.settings.specs.Derived.{lookOf};
+ghost use Rattle.settings.specs.House.{houseFits};
 ghost use Rattle.limiter.specs.Stores.{Stores, atEntry, atExit};
 ghost use Rattle.turns.specs.Machine.{Machine};
 ghost use Rattle.turns.specs.Block.{placed};
@@ -19,7 +20,7 @@ ghost use Rattle.driver.specs.Parts.{shownOf};
 ghost use Rattle.driver.specs.Calls.{resetOf, gainStep, fourAtEntry, fourAtExit};
 ghost use Rattle.state_bytes.specs.State.{stateBytes, stateOut};
 ghost use Rattle.host.specs.Answer.{replyWords, wordsOf, answered, answeredBy};
-ghost use Rattle.host.specs.Host.{returnedAt, calledBy, returnedWith, processBy, flushBy, parameterBy, readAt, valueBy, capOf, setupBy, wholeNeeded};
+ghost use Rattle.host.specs.Host.{returnedAt, calledBy, returnedWith, processBy, flushBy, parameterBy, readAt, valueBy, capOf, askedOf, setupBy, wholeNeeded};
 use crate::answer::ReplyWords;
 use crate::answer::of_answer;
 use crate::answer::of_flush;
@@ -67,6 +68,18 @@ pub extern "C" fn daggeryuzu_bytes_needed(channels: usize, look: usize) -> u64
         n + 80
     } else {
         18446744073709551615
+    }
+}
+
+// Whether there are house weights of a rate and look: 1 or 0.
+#[no_mangle]
+pub extern "C" fn daggeryuzu_has_house_weights(rate: u32, look: usize) -> u32
+    ensures { λ r. ⌜ r ≡ cond (houseFits rate look) 1 0 ⌝ }
+{
+    if settings::house::fits(rate, look) {
+        1
+    } else {
+        0
     }
 }
 
@@ -453,7 +466,7 @@ fn keep(state: &mut [u8], p: KernelProcessor)
     }
 }
 
-// Sets a limiter up on lent stores; the settings' floats as their bits.
+// Sets a limiter up on lent stores; the settings' floats as their bits. A `house` other than 0 asks for a house table.
 #[no_mangle]
 pub extern "C" fn daggeryuzu_setup(
     state: &mut [u8],
@@ -467,16 +480,17 @@ pub extern "C" fn daggeryuzu_setup(
     max_block: usize,
     capped: u32,
     cap: u64,
+    house: u32,
     delay: &mut [f64],
     marks: &mut [u64],
     minima: &mut [f64],
-    weights: &[f64],
+    weights: &mut [f64],
     row: &mut [f64],
     detector: &mut [f64],
 ) -> u32
     ensures { λ r. ⌜ returnedAt r (now (answer .exit)) (now (state .exit)) (atExit delay marks minima weights row detector)
         ≡ setupBy (settingsOf (bits «threshold_db») (bits «true_peak_margin_db») (bits «lookahead_ms») (bits «release_ms»))
-        (processSpec rate channels «max_block» (capOf capped cap))
+        (processSpec rate channels «max_block» (capOf capped cap) (askedOf house))
         (now (answer .entry)) (now (state .entry)) (atEntry delay marks minima weights row detector) ⌝ }
 {
     let s = LimiterSettings {
@@ -491,6 +505,7 @@ pub extern "C" fn daggeryuzu_setup(
         channels,
         max_block,
         cap: most,
+        house: house != 0,
     };
     let n = lent(state.len() == 512, weights.len());
     let done = KernelProcessor::prepare(
@@ -499,7 +514,7 @@ pub extern "C" fn daggeryuzu_setup(
         delay,
         marks,
         minima,
-        &weights[0..n],
+        &mut weights[0..n],
         row,
         detector,
     );

@@ -10,6 +10,7 @@ use borrow.Author.Tests.{eqb-true, eqb-false, eq-eqb}
 use Rattle.arithmetic.specs.Number.{bits}
 use Rattle.arithmetic.specs.Reply.{Reply, numbered}
 use Rattle.settings.specs.Settings.{settingsOf}
+use Rattle.settings.specs.House.{weightsFor}
 use Rattle.settings.specs.declared.LimiterSettings.{LimiterSettings}
 use Rattle.settings.specs.declared.ProcessSpec.{ProcessSpec}
 use Rattle.limiter.specs.State.{notSetUp, specOf}
@@ -26,7 +27,7 @@ use Rattle.state_bytes.proofs.Inverse.{read-written}
 use Rattle.state_bytes.proofs.Floats.{bits-fit}
 use Rattle.state_bytes.proofs.Kept.{SettingsFit, never-storable, setup-storable, read-storable}
 use Rattle.host.specs.Answer.{answeredBy}
-use Rattle.host.specs.Host.{Returned, returnedAt, returned, ReturnedAudio, returnedWith, machineIn, valueBy, withWeights, lentTo, setupBy}
+use Rattle.host.specs.Host.{Returned, returnedAt, returned, ReturnedAudio, returnedWith, machineIn, valueBy, lentTo, setupBy}
 use Rattle.host.proofs.Buffers.{bufferReply, buffer-refused, wrong-buffer}
 use Rattle.claims.specs.Session.{bytesIn, limiting, called}
 use Rattle.claims.specs.Book.{Book}
@@ -85,7 +86,7 @@ module _ (s : LimiterSettings) (spec : ProcessSpec) (answer state : List ℕ) (s
   own = setupOf s spec stores
 
   -- in a buffer of a state's length
-  setup-whole : length state ≡ stateBytes → set ≡ returnedAt (own .reply .number) (answeredBy answer (own .reply)) (stateOut (processorOf (own .machine))) (withWeights (stores .weights) (own .machine .stores))
+  setup-whole : length state ≡ stateBytes → set ≡ returnedAt (own .reply .number) (answeredBy answer (own .reply)) (stateOut (processorOf (own .machine))) (own .machine .stores)
   unfolding setupBy
   setup-whole l = rw (eq-eqb (length state) stateBytes l) refl
 
@@ -98,23 +99,22 @@ module _ (s : LimiterSettings) (spec : ProcessSpec) (answer state : List ℕ) (s
 
   -- finished: the bytes hold the machine that setup left
   module _ (f : SettingsFit s) (z : set .number ≡ 0) where
-    whole : set ≡ returnedAt (own .reply .number) (answeredBy answer (own .reply)) (stateOut (processorOf (own .machine))) (withWeights (stores .weights) (own .machine .stores))
+    whole : set ≡ returnedAt (own .reply .number) (answeredBy answer (own .reply)) (stateOut (processorOf (own .machine))) (own .machine .stores)
     whole = setup-whole (setup-long z)
 
     finished-own : own .reply .number ≡ 0
     finished-own = sym (ap (λ (r : Returned). r .number) whole) ∙ z
 
-    start-tied : Tied (openedNew s spec (stores .weights)) (own .machine)
+    start-tied : Tied (openedNew s spec (weightsFor s spec (stores .weights))) (own .machine)
     start-tied = setup-tied s spec stores finished-own
 
     start-read : machineIn (set .state) (set .stores) ≡ own .machine
     start-read =
         ap (λ (r : Returned). machineIn (r .state) (r .stores)) whole
-        ∙ ap (λ (p : KernelProcessor). machineAt p (withWeights (stores .weights) (own .machine .stores))) (read-written (processorOf (own .machine)) (setup-storable s spec stores f))
-        ∙ ap (λ (w : List Float). machineAt (processorOf (own .machine)) (withWeights w (own .machine .stores))) (sym (start-tied .weights))
+        ∙ ap (λ (p : KernelProcessor). machineAt p (own .machine .stores)) (read-written (processorOf (own .machine)) (setup-storable s spec stores f))
 
-    setup-holds : (made : List Made) → HostHolds limiting hosting 0 (openedNew s spec (stores .weights)) (set .state) (set .stores) made
-    setup-holds made = opened-hold (openedNew s spec (stores .weights)) (own .machine) (set .state) (set .stores) refl start-tied (setup-storable s spec stores f) start-read made
+    setup-holds : (made : List Made) → HostHolds limiting hosting 0 (openedNew s spec (weightsFor s spec (stores .weights))) (set .state) (set .stores) made
+    setup-holds made = opened-hold (openedNew s spec (weightsFor s spec (stores .weights))) (own .machine) (set .state) (set .stores) refl start-tied (setup-storable s spec stores f) start-read made
 
   -- refused: the buffer holds no limiter, or what it held
   module _ (some : set .number ≡ 0 → ⊥) where
@@ -127,7 +127,7 @@ module _ (s : LimiterSettings) (spec : ProcessSpec) (answer state : List ℕ) (s
         go : (b : Bool) → eqb (length state) stateBytes ≡ b → set .stores ≡ stores
         go true e =
             let l = eqb-true (length state) stateBytes e in
-            ap (λ (r : Returned). r .stores) (setup-whole l) ∙ ap (λ (m : Machine). withWeights (stores .weights) (m .stores)) (alone l)
+            ap (λ (r : Returned). r .stores) (setup-whole l) ∙ ap (λ (m : Machine). m .stores) (alone l)
         go false e = ap (λ (r : Returned). r .stores) (wrong-buffer s spec stores answer state e)
 
     refused-read : length state ≡ stateBytes → processorIn (set .state) ≡ never

@@ -1,4 +1,5 @@
 -- The claim over the C functions is false of each of the four hosts of specs/HostControls.antt, and of a setup that finishes it says something: there is one.
+use mathlib.Core.Bool.{false}
 use mathlib.Core.Path.{_≡_, refl, ap}
 use mathlib.Core.List.{List, []}
 use Prim.Native.Nat.{ℕ}
@@ -34,7 +35,7 @@ abbrev settings : LimiterSettings
 settings = settingsOf nan Number.zero Number.zero Number.zero
 
 abbrev spec : ProcessSpec
-spec = processSpec 48000 1 64 Cap.Unlimited
+spec = processSpec 48000 1 64 Cap.Unlimited false
 
 abbrev stores : Stores
 stores = storesAt [] [] [] [] [] []

@@ -14,6 +14,7 @@ use lib.ListN.{length, getD}
 use Rattle.arithmetic.specs.Number.{bits}
 use Rattle.arithmetic.specs.Reply.{Reply, numbered}
 use Rattle.settings.specs.Settings.{settingsOf}
+use Rattle.settings.specs.House.{weightsFor}
 use Rattle.settings.specs.declared.LimiterSettings.{LimiterSettings}
 use Rattle.settings.specs.declared.ProcessSpec.{ProcessSpec}
 use Rattle.limiter.specs.State.{specOf}
@@ -24,7 +25,7 @@ use Rattle.turns.specs.Block.{Outcome}
 use Rattle.driver.specs.Calls.{Left}
 use Rattle.state_bytes.specs.State.{stateBytes, processorOf, processorIn, stateOut}
 use Rattle.host.specs.Answer.{answeredBy}
-use Rattle.host.specs.Host.{Returned, ReturnedAudio, Read, machineIn, withWeights, lentTo}
+use Rattle.host.specs.Host.{Returned, ReturnedAudio, Read, machineIn, lentTo, leftIn}
 use Rattle.claims.specs.Session.{bytesIn, Limiting, called}
 use Rattle.claims.specs.Book.{Book}
 use Rattle.claims.specs.BookCalls.{opened, openedNew, enter, valueIn}
@@ -54,12 +55,12 @@ pub record Reads (answer : List ℕ) (value : Reply) (r : Read) : Type 0 where
   pub number : r .number ≡ value .number
   pub words : r .answer ≡ answeredBy answer value
 
--- setup: in a buffer of a state's length the state is written, finished or refused; any other buffer stays as it was
+-- setup: in a buffer of a state's length the state is written, finished or refused; any other buffer stays as it was, and the weights with it
 pub record SetupReturns (answer state : List ℕ) (stores : Stores) (o : Left) (r : Returned) : Type 0 where
   pub number : r .number ≡ o .reply .number
   pub words : r .answer ≡ answeredBy answer (o .reply)
   pub written : r .state ≡ cond (eqb (length state) stateBytes) (stateOut (processorOf (o .machine))) state
-  pub left : r .stores ≡ withWeights (stores .weights) (o .machine .stores)
+  pub left : r .stores ≡ leftIn state stores (o .machine .stores)
 
 -- ---- a list of calls: each on the state's bytes and the stores as the last one left them; drops are those shown since the start
 module _ (l : Limiting) (host : Hosting) where
@@ -114,11 +115,11 @@ pub record HostClaim (l : Limiting) (step : GainStepping) (host : Hosting) : Typ
   pub call-handed-on : (call : HostCall) (answer state : List ℕ) (stores : Stores) → Bytes state → HandedOn l host call answer state stores
   pub gain-handed-on : (gain : ℕ) (answer state : List ℕ) (stores : Stores) → Bytes state
       → (let r = host .gains gain answer state stores in machineIn (r .state) (r .stores) ≡ step (machineIn state stores) (bits gain) .machine)
-  -- every list after a finished setup, whatever the bits of its settings
+  -- every list after a finished setup, whatever the bits of its settings, on the host's weights or the house's
   pub after-setup : (threshold margin lookahead release : ℕ) (spec : ProcessSpec) (answer state : List ℕ) (stores : Stores)
       → (let s = settingsOf (bits threshold) (bits margin) (bits lookahead) (bits release) in
       let r = host .setups s spec answer state stores in
-      r .number ≡ 0 → (made : List Made) → HostHolds l host 0 (openedNew s spec (stores .weights)) (r .state) (r .stores) made)
+      r .number ≡ 0 → (made : List Made) → HostHolds l host 0 (openedNew s spec (weightsFor s spec (stores .weights))) (r .state) (r .stores) made)
   -- a refused setup leaves the stores alone; in a buffer of a state's length it leaves a limiter that is not set up: 18 to every list after it, and to the lone gain step
   pub after-refused : (s : LimiterSettings) (spec : ProcessSpec) (answer state : List ℕ) (stores : Stores)
       → (let r = host .setups s spec answer state stores in

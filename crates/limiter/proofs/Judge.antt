@@ -1,6 +1,6 @@
 -- What the tests of setup come to, on plain values.
 use mathlib.Core.Path.{_≡_, refl, sym, ap, _∙_}
-use mathlib.Core.Bool.{Bool, true, false, _&&_}
+use mathlib.Core.Bool.{Bool, true, false, cond, not, _&&_, _||_}
 use mathlib.Core.List.{List, [], _∷_, map}
 use mathlib.Core.Logic.{inl, inr}
 use Prim.Native.Nat.{ℕ, suc, _+_, _*_, _≤_}
@@ -8,24 +8,28 @@ use native.Mathlib.Omega.{arith}
 use types.Run.{OneOf}
 use denote.Enum.Declared.{tagOf}
 use lib.Dec.{eqb, leb}
+use lib.ListN.{length}
 use lib.Ieee.{Float}
 use borrow.Author.Tests.{eqb-true, leb-true}
 use Rattle.arithmetic.proofs.Order.{and-true}
-use Rattle.arithmetic.proofs.Passed.{passed-then}
-use Rattle.arithmetic.specs.Reply.{Reply, numbered, andThen}
+use Rattle.arithmetic.proofs.Passed.{passed-unless, passed-then}
+use Rattle.arithmetic.specs.Reply.{Reply, numbered, unless, andThen}
 use Rattle.settings.specs.Derived.{lookOf, rowOf}
 use Rattle.settings.specs.Memory.{needed, capJudged, capReply}
+use Rattle.settings.specs.Weights.{accepted}
+use Rattle.settings.specs.House.{houseFits, houseOf, weightsFor}
 use Rattle.settings.specs.Accepted.{refusalOf, refusalNumber}
 use Rattle.settings.specs.declared.LimiterSettings.{LimiterSettings}
 use Rattle.settings.specs.declared.ProcessSpec.{ProcessSpec}
 use Rattle.settings.specs.declared.accepted.SettingsRefusal.{SettingsRefusal}
 use Rattle.settings.specs.declared.memory.CapJudged.{CapJudged}
 use Rattle.settings.proofs.Taken.{taken, refused-number}
-use Rattle.limiter.specs.Prepare.{prepareReply, storesRefusal, prepareRefusal, limiterLeft, prepareOf}
+use Rattle.settings.proofs.Stretches.{house-accepted, house-length}
+use Rattle.limiter.specs.Prepare.{prepareReply, storesRefusal, prepareRefusal, limiterLeft, filledFor, prepareOf}
 use Rattle.limiter.specs.State.{notSetUp, started}
-use Rattle.limiter.specs.Stores.{Stores, lengthsOf, lengthsFit, filled}
+use Rattle.limiter.specs.Stores.{Stores, lengthsOf, lengthsFit}
 use Rattle.limiter.specs.declared.prepare.PrepareAnswer.{PrepareAnswer}
-use Rattle.limiter.specs.declared.prepare.PrepareAnswer.the-variants.{Finished, Settings, OverCap, StoreLength, Weights}
+use Rattle.limiter.specs.declared.prepare.PrepareAnswer.the-variants.{Finished, Settings, OverCap, NoHouse, StoreLength, Weights}
 use Rattle.limiter.specs.declared.stores.StoreLengths.{StoreLengths}
 use Rattle.limiter.proofs.prepare.PrepareAnswer.{the-type}
 
@@ -79,15 +83,30 @@ module _ (s : LimiterSettings) (spec : ProcessSpec) (l : StoreLengths) (weights 
   pub at-settings : (why : SettingsRefusal) → refusalOf s spec ≡ refusalNumber why → numbered (refusalNumber why) ≡ prepareRefusal s spec l weights
   at-settings why n = rw (n, refused-number why) refl
 
-  -- none of these: 15, then 16 and 17
+  -- none of these: 15, then 29, 16 and 17
   pub past-settings : (look need : ℕ) (told : CapJudged) → refusalOf s spec ≡ 0 → look ≡ lookOf (s .«lookahead_ms») (spec .rate) → need ≡ needed (spec .channels) look → told ≡ capJudged need (spec .cap)
-      → andThen (capReply 15 told) (numbered (storesRefusal (spec .channels) look l weights)) ≡ prepareRefusal s spec l weights
+      → andThen (capReply 15 told) (numbered (storesRefusal spec look l weights)) ≡ prepareRefusal s spec l weights
   past-settings look need told z L N C = rw (z, C, N, L) refl
+
+-- ---- 29, 16 and 17, the first that arises
+module _ (spec : ProcessSpec) (look : ℕ) (l : StoreLengths) (weights : List Float) where
+  abbrev housed : Bool
+  housed = not (spec .house) || houseFits (spec .rate) look
+
+  pub house-first : housed ≡ false → numbered 29 ≡ numbered (storesRefusal spec look l weights)
+  house-first h = rw h refl
+
+  module _ (h : housed ≡ true) where
+    pub lengths-next : lengthsFit (spec .channels) look l ≡ false → numbered 16 ≡ numbered (storesRefusal spec look l weights)
+    lengths-next f = rw (h, f) refl
+
+    pub weights-last : lengthsFit (spec .channels) look l ≡ true → (b : Bool) → (spec .house || accepted weights) ≡ b → numbered (unless b 17 0) ≡ numbered (storesRefusal spec look l weights)
+    weights-last f b e = rw (h, f, e) refl
 
 -- ---- finished answers
 -- the tags after that of `Finished`, each less one
 abbrev others : List ℕ
-others = 0 ∷ 1 ∷ 2 ∷ 3 ∷ []
+others = 0 ∷ 1 ∷ 2 ∷ 3 ∷ 4 ∷ []
 
 past-zero : (ks : List ℕ) → OneOf (map suc ks) 0 → ⊥
 past-zero [] o = o
@@ -100,8 +119,42 @@ pub other-case : (a : PrepareAnswer) → OneOf (map suc others) (tagOf the-type 
 other-case Finished o = absurd (past-zero others o)
 other-case (Settings why) o = sym (refused-number why)
 other-case (OverCap need cap) o = refl
+other-case NoHouse o = refl
 other-case StoreLength o = refl
 other-case Weights o = refl
+
+-- ---- what a setup that nothing refuses has passed
+pub record Passed (s : LimiterSettings) (spec : ProcessSpec) (stores : Stores) : Type 0 where
+  pub none : refusalOf s spec ≡ 0
+  pub housed : (not (spec .house) || houseFits (spec .rate) (lookOf (s .«lookahead_ms») (spec .rate))) ≡ true
+  pub fitting : lengthsFit (spec .channels) (lookOf (s .«lookahead_ms») (spec .rate)) (lengthsOf stores) ≡ true
+  pub weighed : (spec .house || accepted (stores .weights)) ≡ true
+
+pub passed : (s : LimiterSettings) (spec : ProcessSpec) (stores : Stores) → prepareRefusal s spec (lengthsOf stores) (stores .weights) .number ≡ 0 → Passed s spec stores
+passed s spec stores z =
+    let look = lookOf (s .«lookahead_ms») (spec .rate) in
+    let p = passed-then (numbered (refusalOf s spec)) _ z in
+    let q = passed-then (capReply 15 (capJudged (needed (spec .channels) look) (spec .cap))) _ (p .1) in
+    let h = passed-unless (not (spec .house) || houseFits (spec .rate) look) 28 _ (q .1) in
+    let f = passed-unless (lengthsFit (spec .channels) look (lengthsOf stores)) 15 (unless (spec .house || accepted (stores .weights)) 17 0) (h .1) in
+    record { none = p .0; housed = h .0; fitting = f .0; weighed = passed-unless (spec .house || accepted (stores .weights)) 16 0 (f .1) .0 }
+
+-- asked for a house table, it has one, and a store of its length
+pub house-ready : (s : LimiterSettings) (spec : ProcessSpec) (stores : Stores) → Passed s spec stores → spec .house ≡ true
+    → (let look = lookOf (s .«lookahead_ms») (spec .rate) in (houseFits (spec .rate) look ≡ true) × (length (stores .weights) ≡ rowOf look))
+house-ready s spec stores p h = (rw h at (p .housed), fit (spec .channels) (lookOf (s .«lookahead_ms») (spec .rate)) (lengthsOf stores) (p .fitting) .weights-is)
+
+-- the weights that a finished setup goes by: as many as are due, and accepted, the host's or the house's
+pub weights-ready : (s : LimiterSettings) (spec : ProcessSpec) (stores : Stores) → Passed s spec stores
+    → (let ws = weightsFor s spec (stores .weights) in (length ws ≡ rowOf (lookOf (s .«lookahead_ms») (spec .rate))) × (accepted ws ≡ true))
+weights-ready s spec stores p = go (spec .house) (p .housed) (p .weighed)
+  where
+    go : (b : Bool) → (not b || houseFits (spec .rate) (lookOf (s .«lookahead_ms») (spec .rate))) ≡ true → (b || accepted (stores .weights)) ≡ true
+        → (let look = lookOf (s .«lookahead_ms») (spec .rate) in
+        let ws = cond b (houseOf (spec .rate) look) (stores .weights) in
+        (length ws ≡ rowOf look) × (accepted ws ≡ true))
+    go true h a = (house-length (spec .rate) _ h, house-accepted (spec .rate) _ h)
+    go false h a = (fit (spec .channels) (lookOf (s .«lookahead_ms») (spec .rate)) (lengthsOf stores) (p .fitting) .weights-is, a)
 
 -- ---- what setup leaves
 module _ (s : LimiterSettings) (spec : ProcessSpec) (stores : Stores) (r : Reply) (J : r ≡ prepareRefusal s spec (lengthsOf stores) (stores .weights)) (b : Bool) (B : b ≡ eqb (r .number) 0) where
@@ -112,10 +165,9 @@ module _ (s : LimiterSettings) (spec : ProcessSpec) (stores : Stores) (r : Reply
   unfolding prepareOf
   refused-prepare e = rw (test ∙ e) (ap (λ (z : Reply). limiterLeft z notSetUp stores) J)
 
-  pub finished-prepare : b ≡ true → limiterLeft r (started s spec) (filled stores) ≡ prepareOf s spec stores
+  pub finished-prepare : b ≡ true → limiterLeft r (started s spec) (filledFor s spec stores) ≡ prepareOf s spec stores
   unfolding prepareOf
-  finished-prepare e = rw (test ∙ e) (ap (λ (z : Reply). limiterLeft z (started s spec) (filled stores)) J)
+  finished-prepare e = rw (test ∙ e) (ap (λ (z : Reply). limiterLeft z (started s spec) (filledFor s spec stores)) J)
 
-  -- nothing of 8 to 14 arose where setup is finished
-  pub none-arose : b ≡ true → refusalOf s spec ≡ 0
-  none-arose e = passed-then (numbered (refusalOf s spec)) _ (eqb-true _ 0 (test ∙ e)) .0
+  pub all-passed : b ≡ true → Passed s spec stores
+  all-passed e = passed s spec stores (eqb-true _ 0 (test ∙ e))

@@ -34,7 +34,7 @@ settings11 release = settingsOf Number.zero Number.zero (bits 0x3ff6_0000_0000_0
 
 -- with a cap
 abbrev pub spec11 : Cap → ProcessSpec
-spec11 cap = processSpec 8000 1 64 cap
+spec11 cap = processSpec 8000 1 64 cap false
 
 -- with a release, its coefficient, a delay position and a drained count; no frame taken
 abbrev pub limiter11 : Float → Float → ℕ → ℕ → Limiter

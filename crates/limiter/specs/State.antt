@@ -1,4 +1,5 @@
 -- The limiter's state, and what a setup leaves.
+use mathlib.Core.Bool.{false}
 use Prim.Native.Nat.{ℕ}
 use Rattle.arithmetic.specs.Number
 use Rattle.arithmetic.specs.Number.{one}
@@ -30,9 +31,9 @@ notSetUp = record {
   drained = 0;
 }
 
--- what setup was told; the cap is spent at setup and not kept
+-- what setup was told; the cap is spent at setup and not kept, nor is it kept whether a house table was asked for
 abbrev pub specOf : Limiter → ProcessSpec
-specOf l = processSpec (l .rate) (l .channels) (l .«max_block») Cap.Unlimited
+specOf l = processSpec (l .rate) (l .channels) (l .«max_block») Cap.Unlimited false
 
 -- the starting values, with what the settings derive and the default threshold's target
 abbrev pub started : LimiterSettings → ProcessSpec → Limiter

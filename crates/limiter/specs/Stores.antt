@@ -47,11 +47,15 @@ lengthsFit channels look l =
     eqb (l .delay) (channels * look) && eqb (l .marks) (look + 1) && eqb (l .minima) (look + 1) && eqb (l .weights) (rowOf look) && eqb (l .row) (rowOf look)
     && eqb (l .detector) (channels * 12)
 
--- success fills delay, marks, minima and detector with 0, the row with 1.0, and only reads the weights
+-- success fills delay, marks, minima and detector with 0 and the row with 1.0; the weights as they are (which ones a finished setup leaves: `filledFor`, Prepare.antt)
 abbrev pub filled : Stores → Stores
 filled s =
     storesAt (replicate (length (s .delay)) Number.zero) (replicate (length (s .marks)) 0) (replicate (length (s .minima)) Number.zero) (s .weights)
     (replicate (length (s .row)) one) (replicate (length (s .detector)) Number.zero)
+
+-- the same stores with other weights
+abbrev pub withWeights : List Float → Stores → Stores
+withWeights weights s = storesAt (s .delay) (s .marks) (s .minima) weights (s .row) (s .detector)
 
 -- reset leaves marks and minima as they are
 abbrev pub cleared : Stores → Stores

@@ -1,9 +1,15 @@
 // Setup of the limiter alone (`prepare` of limiter.rs).
 ghost use mathlib.Core.Path.{_≡_};
+ghost use mathlib.Core.Bool.{true, not, _||_};
+ghost use Prim.Native.Nat.{_≤_};
 ghost use lib.Dec.{eqb};
 ghost use lib.ListN.{length};
+ghost use Rattle.arithmetic.specs.Reply.{numbered};
+ghost use Rattle.settings.specs.Derived.{lookOf, rowOf};
+ghost use Rattle.settings.specs.Weights.{accepted};
+ghost use Rattle.settings.specs.House.{houseFits, weightsFor};
 ghost use Rattle.limiter.specs.Stores.{atEntry, atExit};
-ghost use Rattle.limiter.specs.Prepare.{prepareReply, prepareRefusal, preparedAt, prepareOf};
+ghost use Rattle.limiter.specs.Prepare.{prepareReply, storesRefusal, prepareRefusal, preparedAt, prepareOf};
 use crate::state::Limiter;
 use crate::stores::StoreLengths;
 use crate::stores::fill;
@@ -17,12 +23,13 @@ use settings::memory::CapJudged;
 use settings::memory::bytes_needed;
 use settings::memory::judge_cap;
 
-// What setup answers: finished, or the refusals 8 to 17 in the table's order, 15 with the bytes
+// What setup answers: finished, or the refusals 8 to 15, 29, 16 and 17 in this order, 15 with the bytes
 // needed and the cap that was left.
 pub enum PrepareAnswer {
     Finished,
     Settings(SettingsRefusal),
     OverCap { needed: u64, cap: u64 },
+    NoHouse,
     StoreLength,
     Weights,
 }
@@ -42,6 +49,45 @@ fn is_finished(answer: PrepareAnswer) -> bool
     }
 }
 
+// 29: whether there is a house table, where one is asked for.
+fn has_house(spec: ProcessSpec, look: usize) -> bool
+    ensures { λ r. ⌜ r ≡ (not (spec .house) || houseFits (spec .rate) look) ⌝ }
+{
+    !spec.house | settings::house::fits(spec.rate, look)
+}
+
+// 17: what the store holds is judged where no house table is asked for.
+fn weights_taken(house: bool, weights: &[f64]) -> bool
+    requires { ⌜ length (now weights) ≤ 4096 ⌝ }
+    ensures { λ r. ⌜ r ≡ (house || accepted (now (weights .entry))) ⌝ }
+{
+    if house {
+        return true;
+    }
+    settings::weights::accepted(weights)
+}
+
+// 29, 16 and 17, of a look that is taken.
+fn judge_stores(spec: ProcessSpec, look: usize, l: StoreLengths, weights: &[f64]) -> PrepareAnswer
+    requires { ⌜ (spec .channels ≤ 8) × (look ≤ 4096) ⌝ }
+    requires { ⌜ l .weights ≡ length (now weights) ⌝ }
+    ensures { λ r. ⌜ prepareReply r ≡ numbered (storesRefusal spec look l (now (weights .entry))) ⌝ }
+{
+    let housed = has_house(spec, look);
+    let fitting = lengths_fit(spec.channels, look, l);
+    if !housed {
+        return PrepareAnswer::NoHouse;
+    }
+    if !fitting {
+        return PrepareAnswer::StoreLength;
+    }
+    if weights_taken(spec.house, weights) {
+        PrepareAnswer::Finished
+    } else {
+        PrepareAnswer::Weights
+    }
+}
+
 // What setup answers, before anything is written.
 fn judge(s: LimiterSettings, spec: ProcessSpec, l: StoreLengths, weights: &[f64]) -> PrepareAnswer
     requires { ⌜ l .weights ≡ length (now weights) ⌝ }
@@ -57,13 +103,18 @@ fn judge(s: LimiterSettings, spec: ProcessSpec, l: StoreLengths, weights: &[f64]
     if let CapJudged::Over { needed, cap } = judge_cap(needed, cap) {
         return PrepareAnswer::OverCap { needed, cap };
     }
-    if !lengths_fit(spec.channels, look, l) {
-        return PrepareAnswer::StoreLength;
-    }
-    if settings::weights::accepted(weights) {
-        PrepareAnswer::Finished
-    } else {
-        PrepareAnswer::Weights
+    judge_stores(spec, look, l, weights)
+}
+
+// The weights store of a finished setup.
+fn lay_weights(s: LimiterSettings, spec: ProcessSpec, weights: &mut [f64])
+    requires { ⌜ (spec .house ≡ true → houseFits (spec .rate) (lookOf (s .«lookahead_ms») (spec .rate)) ≡ true) ⌝ }
+    requires { ⌜ (spec .house ≡ true → length (now weights) ≡ rowOf (lookOf (s .«lookahead_ms») (spec .rate))) ⌝ }
+    ensures { λ _. ⌜ now (weights .exit) ≡ weightsFor s spec (now (weights .entry)) ⌝ }
+{
+    if spec.house {
+        let look = settings::derived::look(s.lookahead_ms, spec.rate) as usize;
+        settings::house::fill(spec.rate, look, weights);
     }
 }
 
@@ -75,7 +126,7 @@ impl Limiter {
         delay: &mut [f64],
         marks: &mut [u64],
         minima: &mut [f64],
-        weights: &[f64],
+        weights: &mut [f64],
         row: &mut [f64],
         detector: &mut [f64],
     ) -> Prepared
@@ -95,6 +146,7 @@ impl Limiter {
         fill(delay, 0.0);
         fill(row, 1.0);
         fill(detector, 0.0);
+        lay_weights(s, spec, weights);
         Prepared {
             answer,
             limiter: Limiter::started(s, spec),

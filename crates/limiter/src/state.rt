@@ -59,7 +59,7 @@ impl Limiter {
         }
     }
 
-    // What setup was told, but for the cap, which is spent there.
+    // What setup was told, but for the cap and the house table, which are done with there.
     pub fn spec(self) -> ProcessSpec
         ensures { λ r. ⌜ r ≡ specOf self ⌝ }
     {
@@ -68,6 +68,7 @@ impl Limiter {
             channels: self.channels,
             max_block: self.max_block,
             cap: Cap::Unlimited,
+            house: false,
         }
     }
 

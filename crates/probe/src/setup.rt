@@ -1,12 +1,13 @@
 // What setup derives and judges.
 ghost use mathlib.Core.Path.{_≡_};
-ghost use mathlib.Core.Bool.{_&&_};
+ghost use mathlib.Core.Bool.{false, cond, _&&_};
+ghost use lib.ListN.{length};
 ghost use Rattle.settings.specs.Settings.{settingsOf, processSpec};
 ghost use Rattle.settings.specs.Derived.{lookOf};
 ghost use Rattle.settings.specs.Target.{targetOf};
 ghost use Rattle.settings.specs.Accepted.{rateTaken, releaseTaken, refusalOf};
 ghost use Rattle.settings.specs.declared.memory.Cap.{Cap};
-ghost use Rattle.probe.specs.Setup.{weightsTaken, coeffOr};
+ghost use Rattle.probe.specs.Setup.{weightsTaken, coeffOr, houseTaken, houseOr};
 use settings::LimiterSettings;
 use settings::ProcessSpec;
 use settings::accepted::SettingsJudged;
@@ -57,7 +58,7 @@ pub extern "C" fn probe_refusal(
     max_block: usize,
 ) -> u32
     ensures { λ r. ⌜ r
-        ≡ refusalOf (settingsOf threshold margin lookahead release) (processSpec rate channels «max_block» Cap.Unlimited) ⌝ }
+        ≡ refusalOf (settingsOf threshold margin lookahead release) (processSpec rate channels «max_block» Cap.Unlimited false) ⌝ }
 {
     let s = LimiterSettings {
         threshold_db: threshold,
@@ -70,6 +71,7 @@ pub extern "C" fn probe_refusal(
         channels,
         max_block,
         cap: Cap::Unlimited,
+        house: false,
     };
     match settings::accepted::refusal(s, spec) {
         SettingsJudged::Passed => 0,
@@ -87,4 +89,24 @@ pub extern "C" fn probe_weights(weights: &[f64]) -> bool
     } else {
         false
     }
+}
+
+// Whether there are house weights of a rate and look, as many as a store has.
+fn has_house(rate: u32, look: usize, places: usize) -> bool
+    ensures { λ r. ⌜ r ≡ houseTaken rate look places ⌝ }
+{
+    settings::house::fits(rate, look) & (places == settings::memory::row_len(look))
+}
+
+// The house weights of a rate and look into a store that has their number: 1, or 0 and nothing is written.
+#[no_mangle]
+pub extern "C" fn probe_house(rate: u32, look: usize, weights: &mut [f64]) -> u32
+    ensures { λ r. ⌜ r ≡ cond (houseTaken rate look (length (now (weights .entry)))) 1 0 ⌝ }
+    ensures { λ _. ⌜ now (weights .exit) ≡ houseOr rate look (now (weights .entry)) ⌝ }
+{
+    if !has_house(rate, look, weights.len()) {
+        return 0;
+    }
+    settings::house::fill(rate, look, weights);
+    1
 }

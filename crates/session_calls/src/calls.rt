@@ -283,7 +283,7 @@ pub fn setup(
     delay: &mut [f64],
     marks: &mut [u64],
     minima: &mut [f64],
-    weights: &[f64],
+    weights: &mut [f64],
     row: &mut [f64],
     detector: &mut [f64],
 ) -> Played {

@@ -71,11 +71,13 @@ pub fn read(fd: i32, first: u64) -> Head
     let seed = next(fd).word;
     let kind = next(fd).word;
     let max_block = count(fd, 65536) as usize;
+    let house = count(fd, 1) == 1;
     let spec = ProcessSpec {
         rate,
         channels,
         max_block,
         cap: Cap::Unlimited,
+        house,
     };
     Head {
         format: format(first),
@@ -95,4 +97,19 @@ pub fn weights(fd: i32, into: &mut [f64]) {
         into[i] = float(fd);
         i += 1;
     }
+}
+
+// Whether two stores hold the same weights; a NaN is the same as nothing.
+pub fn same(a: &[f64], b: &[f64]) -> bool {
+    if a.len() != b.len() {
+        return false;
+    }
+    let mut i: usize = 0;
+    while i < a.len() {
+        if a[i] != b[i] {
+            return false;
+        }
+        i += 1;
+    }
+    true
 }

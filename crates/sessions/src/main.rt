@@ -1,5 +1,5 @@
-// Replays the recorded sessions of the Rust's whole limiter and prints how many calls were replayed and
-// how many differ. `oracle/run record-whole` writes data/sessions.
+// Replays the recorded sessions of the Rust's whole limiter and prints how many calls were replayed, with
+// the weights that each session leaves, and how many of them differ. `oracle/run record-whole` writes data/sessions.
 ghost use mathlib.Core.Path.{_≡_};
 ghost use Prim.Native.Nat.{_≤_};
 ghost use lib.ListN.{length};
@@ -32,6 +32,24 @@ fn delay_room() -> [f64; 32768]
     [1.0; 32768]
 }
 
+// A weights store that the house is to fill: what it holds is no number.
+fn unfilled() -> [f64; 4097]
+    ensures { λ r. ⌜ length r ≡ 4097 ⌝ }
+{
+    let nothing = 0.0 / 0.0;
+    [nothing; 4097]
+}
+
+// The weights store before setup: the host's weights, or none, where setup is to fill in the house's.
+fn lent(house: bool, weights: [f64; 4097]) -> [f64; 4097]
+    ensures { λ r. ⌜ length r ≡ 4097 ⌝ }
+{
+    if house {
+        return unfilled();
+    }
+    weights
+}
+
 // The weights, in the first places.
 fn weights(fd: i32, rows: usize) -> [f64; 4097]
     requires { ⌜ rows ≤ 4096 ⌝ }
@@ -49,20 +67,22 @@ fn replayed(fd: i32, first: u64, before: Tally) -> Tally {
     let entries = h.look + 1;
     let lines = head::places(h.spec.channels, h.look, 4096);
     let heard = head::places(h.spec.channels, 12, 12);
-    let weights = weights(fd, rows);
+    let due = weights(fd, rows);
+    let mut weights = lent(h.spec.house, due);
     let mut delay = delay_room();
     let mut marks = marks_room();
     let mut minima = room();
     let mut row = room();
     let mut detector = [1.0; 96];
-    session::each(
+    session::whole(
         fd,
         h,
         before,
+        &due[0..rows],
         &mut delay[0..lines],
         &mut marks[0..entries],
         &mut minima[0..entries],
-        &weights[0..rows],
+        &mut weights[0..rows],
         &mut row[0..rows],
         &mut detector[0..heard],
     )
@@ -92,5 +112,5 @@ fn main() {
     }
     let replayed = each(fd);
     libc::close(fd);
-    replayed.print(b"calls of the limiter");
+    replayed.print(b"calls and weights of the limiter");
 }

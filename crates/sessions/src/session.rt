@@ -6,9 +6,10 @@ use records::words::Read;
 use records::words::next;
 use session_calls::calls;
 use session_calls::calls::Played;
+use session_calls::head;
 use session_calls::head::Head;
 
-// The tally with a call.
+// The tally with a call, or with the weights that a session leaves.
 fn counted(tally: Tally, same: bool) -> Tally {
     tally.with(Step {
         counted: true,
@@ -39,7 +40,7 @@ fn play(
     delay: &mut [f64],
     marks: &mut [u64],
     minima: &mut [f64],
-    weights: &[f64],
+    weights: &mut [f64],
     row: &mut [f64],
     detector: &mut [f64],
 ) -> Played {
@@ -60,14 +61,14 @@ fn play(
 }
 
 // The setup (8), then the calls that the file has, up to the session's end.
-pub fn each(
+fn each(
     fd: i32,
     h: Head,
     before: Tally,
     delay: &mut [f64],
     marks: &mut [u64],
     minima: &mut [f64],
-    weights: &[f64],
+    weights: &mut [f64],
     row: &mut [f64],
     detector: &mut [f64],
 ) -> Tally {
@@ -103,4 +104,22 @@ pub fn each(
         op = next(fd);
     }
     tally
+}
+
+// A session's calls, and at its end the weights: those that the Rust computed, whoever laid them into
+// the store.
+pub fn whole(
+    fd: i32,
+    h: Head,
+    before: Tally,
+    due: &[f64],
+    delay: &mut [f64],
+    marks: &mut [u64],
+    minima: &mut [f64],
+    weights: &mut [f64],
+    row: &mut [f64],
+    detector: &mut [f64],
+) -> Tally {
+    let tally = each(fd, h, before, delay, marks, minima, weights, row, detector);
+    counted(tally, head::same(due, weights))
 }

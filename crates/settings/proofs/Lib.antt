@@ -5,6 +5,7 @@ pub mod WeightPart
 pub mod WeightSum
 pub mod WeightPairs
 pub mod WeightPlaces
+pub mod Stretches
 pub mod Rows
 pub mod Wrong
 pub mod Taken

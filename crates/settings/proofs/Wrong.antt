@@ -1,9 +1,10 @@
 -- Inputs at which the wrong programs of ARCHITECTURE.md's table would answer otherwise: each row computes what the definition answers there, and its comment names the wrong program.
 use Prim.Native.Nat.{ℕ, _+_, _-_, _/_, _^_}
 use mathlib.Core.Path.{_≡_, refl}
-use mathlib.Core.Bool.{true, false}
-use mathlib.Core.List.{List, [], _∷_, reverse}
-use lib.ListN.{replicate}
+use mathlib.Core.Bool.{true, false, cond}
+use mathlib.Core.List.{List, [], _∷_, reverse, map}
+use lib.Dec.{eqb}
+use lib.ListN.{length, getD, replicate}
 use lib.IntN.{pos}
 use lib.Ieee.{Float, nan, binary64, add, sub, mul, div, neg, lt, le, eq, ofInt, ofBits, toBits, toUnsigned}
 use Rattle.arithmetic.specs.Number
@@ -13,6 +14,8 @@ use Rattle.settings.specs.Settings.{settingsOf, defaults, processSpec}
 use Rattle.settings.specs.Derived.{lookOf, rowOf, coefficientAt, coefficientOf}
 use Rattle.settings.specs.Memory.{needed, capJudged, leftOf}
 use Rattle.settings.specs.Weights.{rising, firstHalf, accepted}
+use Rattle.settings.specs.HouseTable.{house, at44100, at48000, at96000, at192000}
+use Rattle.settings.specs.House.{Stretch, stretches, houseStart, houseFits, houseOf}
 use Rattle.settings.specs.Target.{targetOf}
 use Rattle.settings.specs.Accepted.{refusalOf}
 use Rattle.settings.specs.declared.memory.Cap.{Cap}
@@ -158,18 +161,40 @@ cap-to-the-byte = refl
 
 -- ---- the refusals
 -- 9 answered where 8 arises too: rate 0 and a margin of −1
-pub eight-first : refusalOf (settingsOf Number.zero minusOne one one) (processSpec 0 1 64 Cap.Unlimited) ≡ 8
+pub eight-first : refusalOf (settingsOf Number.zero minusOne one one) (processSpec 0 1 64 Cap.Unlimited false) ≡ 8
 unfolding lt mul ofInt ofBits
 eight-first = refl
 
 -- a margin of −0.0 refused; 1.5 ms at 8,000 are 12 frames
-pub minus-zero-margin : refusalOf (settingsOf Number.zero (bits 0x8000_0000_0000_0000) (bits 0x3ff8_0000_0000_0000) one) (processSpec 8000 1 64 Cap.Unlimited) ≡ 0
+pub minus-zero-margin : refusalOf (settingsOf Number.zero (bits 0x8000_0000_0000_0000) (bits 0x3ff8_0000_0000_0000) one) (processSpec 8000 1 64 Cap.Unlimited false) ≡ 0
 unfolding lt mul ofInt ofBits
 minus-zero-margin = refl
 
 -- a release between 0 and 0.01 ms taken, and a release of 0 refused
 pub shortest-release :
-    (refusalOf (settingsOf Number.zero Number.zero (bits 0x3ff8_0000_0000_0000) (bits 0x3f74_7ae1_47ae_147b)) (processSpec 8000 1 64 Cap.Unlimited) ≡ 11)
-    × (refusalOf (settingsOf Number.zero Number.zero (bits 0x3ff8_0000_0000_0000) Number.zero) (processSpec 8000 1 64 Cap.Unlimited) ≡ 0)
+    (refusalOf (settingsOf Number.zero Number.zero (bits 0x3ff8_0000_0000_0000) (bits 0x3f74_7ae1_47ae_147b)) (processSpec 8000 1 64 Cap.Unlimited false) ≡ 11)
+    × (refusalOf (settingsOf Number.zero Number.zero (bits 0x3ff8_0000_0000_0000) Number.zero) (processSpec 8000 1 64 Cap.Unlimited false) ≡ 0)
 unfolding lt mul ofInt ofBits
 shortest-release = (refl, refl)
+
+-- ---- the house weights
+-- the look alone judged, or the rate alone; a look or a rate beside one of the four taken
+pub rate-and-look : map (λ (p : ℕ × ℕ). houseFits (p .0) (p .1))
+    ((44100, 66) ∷ (48000, 72) ∷ (96000, 144) ∷ (192000, 288) ∷ (48000, 66) ∷ (44100, 72) ∷ (192000, 144) ∷ (48000, 73) ∷ (48000, 71) ∷ (47999, 72) ∷ (96001, 144) ∷ (88200, 132) ∷ (0, 0) ∷ [])
+    ≡ true ∷ true ∷ true ∷ true ∷ false ∷ false ∷ false ∷ false ∷ false ∷ false ∷ false ∷ false ∷ false ∷ []
+unfolding houseStart
+rate-and-look = refl
+
+-- a weight left out between two stretches, or in both of them: each begins where the one before it ends, and the last ends with the table
+abbrev endOf : ℕ → List Stretch → ℕ
+endOf from [] = from
+endOf from (s ∷ ss) = cond (eqb (s .start) from) (endOf (from + rowOf (s .look)) ss) 0
+
+pub end-to-end : endOf 0 stretches ≡ length house
+unfolding house at44100 at48000 at96000 at192000
+end-to-end = refl
+
+-- another place, or another stretch: of 61 weights the middle one is 1 / 31, as near as a float is
+pub middle-weight : (getD (houseOf 48000 72) 30 nan ≡ div binary64 one (bits 0x403f_0000_0000_0000)) × (length (houseOf 48000 72) ≡ 61)
+unfolding houseStart house at44100 at48000 at96000 at192000 ofBits div
+middle-weight = (refl, refl)

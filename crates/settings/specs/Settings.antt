@@ -1,5 +1,6 @@
 -- The settings: one record of four floats, by value; and what setup is told beside them.
 use Prim.Native.Nat.{ℕ}
+use mathlib.Core.Bool.{Bool}
 use lib.Ieee.{Float}
 use Rattle.arithmetic.specs.Number.{bits}
 use Rattle.settings.specs.declared.LimiterSettings.{LimiterSettings}
@@ -13,6 +14,6 @@ settingsOf threshold margin lookahead release = record { «threshold_db» = thre
 abbrev pub defaults : LimiterSettings
 defaults = settingsOf (bits 0xbff0_0000_0000_0000) (bits 0x3fb9_9999_9999_999a) (bits 0x3ff8_0000_0000_0000) (bits 0x4049_0000_0000_0000)
 
--- rate, channels, largest block, cap
-abbrev pub processSpec : ℕ → ℕ → ℕ → Cap → ProcessSpec
-processSpec rate channels block cap = record { rate = rate; channels = channels; «max_block» = block; cap = cap }
+-- rate, channels, largest block, cap, and whether a house table is asked for
+abbrev pub processSpec : ℕ → ℕ → ℕ → Cap → Bool → ProcessSpec
+processSpec rate channels block cap house = record { rate = rate; channels = channels; «max_block» = block; cap = cap; house = house }

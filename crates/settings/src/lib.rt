@@ -9,6 +9,9 @@ pub mod derived;
 pub mod memory;
 // Which weights are accepted.
 pub mod weights;
+// The house weights, and their table.
+pub mod house;
+mod house_table;
 // The level that no peak is to pass.
 pub mod target;
 // The refusals 8 to 14.
@@ -36,6 +39,8 @@ pub struct ProcessSpec {
     pub max_block: usize,
     // How many bytes setup may take.
     pub cap: Cap,
+    // Whether setup is to fill the weights store from a house table.
+    pub house: bool,
 }
 
 impl LimiterSettings {

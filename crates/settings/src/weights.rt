@@ -1,4 +1,4 @@
-// The weights rule. The host computes the weights; setup only judges them.
+// The weights rule, by which setup judges what a host lends; the house's weights pass it by law.
 ghost use mathlib.Core.Path.{_≡_};
 ghost use mathlib.Core.Bool.{true};
 ghost use Prim.Native.Nat.{_≤_, _^_};

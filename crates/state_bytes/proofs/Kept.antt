@@ -32,9 +32,9 @@ use Rattle.frame.specs.Frame.{Moving, frameOf}
 use Rattle.frame.specs.Run.{framesOf}
 use Rattle.frame.proofs.Keeps.{step-in-order}
 use Rattle.limiter.specs.State.{notSetUp, specOf, started}
-use Rattle.limiter.specs.Stores.{Stores, lengthsOf, filled}
+use Rattle.limiter.specs.Stores.{Stores, lengthsOf}
 use Rattle.limiter.specs.Order
-use Rattle.limiter.specs.Prepare.{prepareRefusal, LimiterLeft, limiterLeft, prepareOf}
+use Rattle.limiter.specs.Prepare.{prepareRefusal, LimiterLeft, limiterLeft, filledFor, prepareOf}
 use Rattle.limiter.specs.Reset
 use Rattle.limiter.specs.Run.{movingOf, movedOn}
 use Rattle.limiter.specs.declared.state.Limiter.{Limiter}
@@ -279,14 +279,14 @@ module _ (s : LimiterSettings) (spec : ProcessSpec) (stores : Stores) (h : Setti
   unfolding prepareOf
   own-fits =
       let r = prepareRefusal s (withRest spec) (lengthsOf stores) (stores .weights) in
-      chosen (λ (o : LimiterLeft). LimiterFits (o .limiter)) (eqb (r .number) 0) (limiterLeft r (started s (withRest spec)) (filled stores)) (limiterLeft r notSetUp stores) (λ _. started-fits s (withRest spec) h) never-fits
+      chosen (λ (o : LimiterLeft). LimiterFits (o .limiter)) (eqb (r .number) 0) (limiterLeft r (started s (withRest spec)) (filledFor s (withRest spec) stores)) (limiterLeft r notSetUp stores) (λ _. started-fits s (withRest spec) h) never-fits
 
   -- a finished setup's numbers, and its rate
   own-small : Order.prepared (own .limiter) ≡ true → LimiterSmall (own .limiter) × (spec .rate < 2 ^ 32)
   unfolding prepareOf
   own-small =
       let r = prepareRefusal s (withRest spec) (lengthsOf stores) (stores .weights) in
-      chosen (λ (o : LimiterLeft). Order.prepared (o .limiter) ≡ true → LimiterSmall (o .limiter) × (spec .rate < 2 ^ 32)) (eqb (r .number) 0) (limiterLeft r (started s (withRest spec)) (filled stores)) (limiterLeft r notSetUp stores)
+      chosen (λ (o : LimiterLeft). Order.prepared (o .limiter) ≡ true → LimiterSmall (o .limiter) × (spec .rate < 2 ^ 32)) (eqb (r .number) 0) (limiterLeft r (started s (withRest spec)) (filledFor s (withRest spec) stores)) (limiterLeft r notSetUp stores)
       (λ _ p. (started-small s (withRest spec) p, omega (arith, bounded-of (started s (withRest spec)) p .rate))) (λ p. clash (Order.prepared notSetUp) p not-prepared)
 
   pub setup-storable : Stored (setupOf s spec stores .machine)

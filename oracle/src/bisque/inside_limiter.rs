@@ -85,16 +85,29 @@ pub(crate) fn prepared(look: usize, release_ms: f64) -> Result<Limiter, String> 
     let settings = LimiterSettings::new()
         .lookahead_ms(look as f64 / 48.0)
         .release_ms(release_ms);
+    let limiter = mono(settings, 48_000)?;
+    assert_eq!(limiter.look, look, "the look is not the one asked for");
+    Ok(limiter)
+}
+
+fn mono(settings: LimiterSettings, rate: u32) -> Result<Limiter, String> {
     let mut limiter = Limiter::with_settings(settings);
     let spec = ProcessSpec {
-        sample_rate: 48_000,
+        sample_rate: rate,
         channels: 1,
         max_block: 1,
         max_memory: None,
     };
     <Limiter as Kernel<f64>>::prepare(&mut limiter, spec).map_err(|e| e.to_string())?;
-    assert_eq!(limiter.look, look, "the look is not the one asked for");
     Ok(limiter)
+}
+
+/// Look and weights that `prepare` derives for a lookahead at a rate; all else is
+/// as the Rust has it where nothing is asked.
+pub(crate) fn attack(lookahead_ms: f64, rate: u32) -> Result<(usize, Vec<f64>), String> {
+    let settings = LimiterSettings::new().lookahead_ms(lookahead_ms);
+    let limiter = mono(settings, rate)?;
+    Ok((limiter.look, limiter.hann))
 }
 
 /// The weights that the Rust computed.

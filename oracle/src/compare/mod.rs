@@ -2,6 +2,7 @@
 
 mod bank;
 mod floors;
+mod house;
 mod leaves;
 mod narrow;
 mod peak;
@@ -28,7 +29,7 @@ pub struct Difference {
 type Layer = fn(&Settings) -> Result<u64, Difference>;
 
 /// Every layer, leaves first.
-const LAYERS: [(&str, Layer); 11] = [
+const LAYERS: [(&str, Layer); 12] = [
     ("exp", leaves::exp),
     ("leaves", leaves::others),
     ("narrow", narrow::narrow),
@@ -37,6 +38,7 @@ const LAYERS: [(&str, Layer); 11] = [
     ("peak_phase", phase::run),
     ("peaks_abs", runs::run),
     ("weights", weights::run),
+    ("house", house::run),
     ("settings", setup::run),
     ("floors", floors::run),
     ("bank", bank::run),

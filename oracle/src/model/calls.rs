@@ -2,12 +2,13 @@
 //! answer's words, and state and stores afterwards.
 
 use super::frames::Machine;
+use super::house;
 use super::judge::{self, Told};
 use super::place::place;
 use super::setup::{look, Setup};
 use super::state::State;
 use crate::audio::Audio;
-use crate::calls::{Call, Lent, DETECTOR, ROW, STATE};
+use crate::calls::{Call, Lent, DETECTOR, ROW, STATE, WEIGHTS};
 
 pub use super::judge::{needed, BANK_BYTES};
 
@@ -36,8 +37,8 @@ pub fn accepts(lent: &Lent, call: &Call) -> bool {
 
 fn judged(lent: &Lent, call: &Call) -> Result<(), Told> {
     match call {
-        Call::Setup { setup, cap } => judge::setup(setup, *cap, lent),
-        Call::Look { .. } | Call::Bytes { .. } => Ok(()),
+        Call::Setup { setup, cap, house } => judge::setup(setup, *cap, *house, lent),
+        Call::Look { .. } | Call::Bytes { .. } | Call::House { .. } => Ok(()),
         _ => match State::read(&lent.state) {
             Some(state) => judged_state(&state, lent, call),
             None => Err(Told::number(18)),
@@ -48,7 +49,7 @@ fn judged(lent: &Lent, call: &Call) -> Result<(), Told> {
 /// A call of something that is a state.
 fn judged_state(state: &State, lent: &Lent, call: &Call) -> Result<(), Told> {
     match call {
-        Call::Setup { .. } | Call::Look { .. } | Call::Bytes { .. } => Ok(()),
+        Call::Setup { .. } | Call::Look { .. } | Call::Bytes { .. } | Call::House { .. } => Ok(()),
         Call::Process {
             position,
             frames,
@@ -66,9 +67,13 @@ fn judged_state(state: &State, lent: &Lent, call: &Call) -> Result<(), Told> {
 /// The work of a call that the table accepts.
 fn played(lent: &mut Lent, call: &mut Call) -> Told {
     match call {
-        Call::Setup { setup, .. } => set_up(lent, setup),
+        Call::Setup { setup, house, .. } => set_up(lent, setup, *house),
         Call::Look { lookahead, rate } => Told::with(0, &[look(*lookahead, *rate)]),
         Call::Bytes { channels, look } => Told::with(0, &[BANK_BYTES + needed(*channels, *look)]),
+        Call::House { rate, look } => {
+            let has = house::place(*rate, *look).is_some();
+            Told::with(0, &[u64::from(has)])
+        }
         _ => {
             let state = State::read(&lent.state).expect("judged to be a state");
             work(&state, lent, call)
@@ -76,9 +81,14 @@ fn played(lent: &mut Lent, call: &mut Call) -> Told {
     }
 }
 
-fn set_up(lent: &mut Lent, setup: &Setup) -> Told {
+fn set_up(lent: &mut Lent, setup: &Setup, house: bool) -> Told {
     leave_state(lent, &State::started(setup));
     fill(lent, &[0, 1, 2, DETECTOR]);
+    if house {
+        let look = look(setup.lookahead, setup.rate);
+        let table = house::table(setup.rate, look).expect("judged to be there");
+        lent.stores.0[WEIGHTS] = table.iter().map(|w| w.to_bits()).collect();
+    }
     Told::number(0)
 }
 
@@ -100,7 +110,7 @@ fn fill(lent: &mut Lent, zeroed: &[usize]) {
 /// The work on a state.
 fn work(state: &State, lent: &mut Lent, call: &mut Call) -> Told {
     match call {
-        Call::Setup { .. } | Call::Look { .. } | Call::Bytes { .. } => {
+        Call::Setup { .. } | Call::Look { .. } | Call::Bytes { .. } | Call::House { .. } => {
             unreachable!("these ask for no state")
         }
         Call::Process {
@@ -261,6 +271,12 @@ mod tests {
             .lent()
     }
 
+    /// A setup that asks for no house table.
+    fn setup(setup: Setup, cap: Option<u64>) -> Call {
+        let house = false;
+        Call::Setup { setup, cap, house }
+    }
+
     fn told(lent: &mut Lent, mut asked: Call) -> (u32, Vec<u64>) {
         let number = call(lent, &mut asked);
         (number, lent.answer.clone())
@@ -288,7 +304,7 @@ mod tests {
             (79, 7, [80, 79]),
         ] {
             let cap = Some(cap);
-            let (seen, answer) = told(&mut fresh(), Call::Setup { setup: STEREO, cap });
+            let (seen, answer) = told(&mut fresh(), setup(STEREO, cap));
             assert_eq!((seen, &answer[..2]), (number, &values[..]));
             let refused = Rust::new(&STEREO, cap, Format::F64).err();
             let expected = format!("needs {} bytes, cap is {}", values[0], values[1]);
@@ -401,11 +417,7 @@ mod tests {
             lent.answer = vec![7; length];
             let (number, answer) = told(&mut lent, Call::Set { id: 9, bits });
             assert_eq!((number, &answer[..]), (23, &told_words[..length]));
-            let setup = Call::Setup {
-                setup: STEREO,
-                cap: None,
-            };
-            assert_eq!(told(&mut lent, setup).0, 0);
+            assert_eq!(told(&mut lent, setup(STEREO, None)).0, 0);
         }
     }
 
@@ -418,7 +430,7 @@ mod tests {
             lent.state.resize(length, 1);
             let before = lent.state.clone();
             for (cap, number) in [(cap, 15), (None, 16)] {
-                let (seen, _) = told(&mut lent, Call::Setup { setup: STEREO, cap });
+                let (seen, _) = told(&mut lent, setup(STEREO, cap));
                 assert_eq!((seen, &lent.state), (number, &before));
             }
             assert_eq!(told(&mut lent, Call::Read { id: 0 }).0, 18);
@@ -428,14 +440,75 @@ mod tests {
     #[test]
     fn a_refused_setup_leaves_a_limiter_never_set_up() {
         let mut lent = fresh();
-        let setup = Setup {
+        let slow = Setup {
             rate: 7_999,
             ..STEREO
         };
-        let (number, _) = told(&mut lent, Call::Setup { setup, cap: None });
+        let (number, _) = told(&mut lent, setup(slow, None));
         assert_eq!(number, 8);
         assert_eq!(lent.state, State::NEVER.bytes());
         assert_eq!(told(&mut lent, Call::Reset).0, 18);
+    }
+
+    /// A setup of look 72 that asks for a house table, which 48,000 alone has.
+    fn asking(rate: u32, cap: Option<u64>) -> Call {
+        let lookahead = 72e3 / f64::from(rate);
+        Call::Setup {
+            setup: Setup {
+                rate,
+                lookahead,
+                ..STEREO
+            },
+            cap,
+            house: true,
+        }
+    }
+
+    /// Everything wrong at once, mended one after the other; what is refused leaves
+    /// the weights.
+    #[test]
+    fn a_house_table_is_refused_between_15_and_16() {
+        for length in [STATE, 511] {
+            let mut lent = fresh();
+            lent.state.resize(length, 1);
+            lent.stores.0[WEIGHTS] = vec![f64::NAN.to_bits(); 60];
+            let mut refused = |call, due| {
+                let before = lent.stores.clone();
+                assert_eq!((told(&mut lent, call).0, &lent.stores), (due, &before));
+            };
+            refused(asking(47_999, Some(4_335)), 15);
+            refused(asking(47_999, None), 29);
+            refused(asking(48_000, None), 16);
+        }
+        let mut lent = fresh();
+        lent.stores.0[WEIGHTS].fill(f64::NAN.to_bits());
+        assert_eq!(told(&mut lent, asking(48_001, None)).0, 29);
+        assert_eq!(told(&mut lent, setup(STEREO, None)).0, 17);
+        assert_eq!(told(&mut lent, asking(48_000, None)).0, 0);
+    }
+
+    /// A setup that asks leaves the weights that the Rust computes; one that does
+    /// not leaves those that it is lent.
+    #[test]
+    fn a_house_table_fills_the_weights() {
+        let mut lent = fresh();
+        let due = lent.stores.clone();
+        lent.stores.0[WEIGHTS][0] ^= 1;
+        let other = lent.stores.clone();
+        assert_eq!(told(&mut lent, setup(STEREO, None)).0, 0);
+        assert_eq!(lent.stores, other);
+        lent.stores.0[WEIGHTS].fill(f64::NAN.to_bits());
+        assert_eq!(told(&mut lent, asking(48_000, None)).0, 0);
+        assert_eq!(lent.stores, due);
+        assert_eq!(told(&mut lent, block(0, 50, &[])).0, 0);
+    }
+
+    #[test]
+    fn pairs_are_told() {
+        for (rate, look, has) in [(48_000, 72, 1), (48_000, 73, 0), (44_100, 72, 0)] {
+            let (number, answer) = told(&mut fresh(), Call::House { rate, look });
+            assert_eq!((number, &answer[..2]), (0, &[has, 0][..]));
+        }
     }
 
     /// In mono, MAX twice drives a sum of the detector to infinity.

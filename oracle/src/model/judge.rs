@@ -1,5 +1,6 @@
 //! What the calls refuse: document 01's table, row by row.
 
+use super::house;
 use super::keeper::{Keeping, MOST_FRAMES};
 use super::setup::{look, Setup};
 use super::state::State;
@@ -63,8 +64,9 @@ pub fn needed(channels: u64, look: u64) -> u64 {
     8 * (channels * look + 2 * (look + 1) + 2 * attack(look) + 60 * channels)
 }
 
-/// Setup: the bank's refusals, 7 to 17.
-pub fn setup(s: &Setup, cap: Option<u64>, lent: &Lent) -> Result<(), Told> {
+/// Setup: the bank's refusals, 7 to 15, 29, 16, 17. Weights that a house table
+/// replaces are not judged.
+pub fn setup(s: &Setup, cap: Option<u64>, house: bool, lent: &Lent) -> Result<(), Told> {
     let bank = judged(&[declared(s.threshold)]);
     if bank.number != 0 {
         return Err(Told::with(bank.number, &[bank.index as u64]));
@@ -76,10 +78,11 @@ pub fn setup(s: &Setup, cap: Option<u64>, lent: &Lent) -> Result<(), Told> {
     fits(15, needed(channels, look), left)?;
     let state_fits = lent.state.len() == STATE;
     first(&[
+        (29, &|| !house || house::place(s.rate, look).is_some()),
         (16, &|| {
             state_fits && stores_fit(channels, look, &lent.stores)
         }),
-        (17, &|| accepted(&floats(&lent.stores.0[WEIGHTS]))),
+        (17, &|| house || accepted(&floats(&lent.stores.0[WEIGHTS]))),
     ])
 }
 
@@ -90,7 +93,7 @@ fn fits(number: u32, needed: u64, cap: Option<u64>) -> Result<(), Told> {
     }
 }
 
-fn stores_fit(channels: u64, look: u64, stores: &Stores) -> bool {
+pub fn stores_fit(channels: u64, look: u64, stores: &Stores) -> bool {
     let due = lengths(channels, look);
     let mut pairs = stores.0.iter().zip(due);
     pairs.all(|(store, due)| store.len() as u64 == due)

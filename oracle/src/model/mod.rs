@@ -4,6 +4,7 @@
 pub mod calls;
 pub mod detector;
 mod frames;
+pub mod house;
 pub mod judge;
 pub mod keeper;
 pub mod place;

@@ -10,4 +10,4 @@ pub use bank::Bank;
 pub use detector::{peak_abs, peak_phase, peaks_abs};
 pub use keeper::{floors_setup, floors_step};
 pub use leaves::leaf;
-pub use setup::{coeff, look, refusal, target, weights};
+pub use setup::{coeff, house, look, refusal, target, weights};

@@ -16,6 +16,7 @@ extern "C" {
         max_block: usize,
     ) -> u32;
     fn probe_weights(weights: *const f64, len: usize) -> bool;
+    fn probe_house(rate: u32, look: usize, weights: *mut f64, weights_len: usize) -> u32;
 }
 
 /// The lookahead in frames.
@@ -55,4 +56,10 @@ pub fn refusal(setup: &Setup) -> u32 {
 pub fn weights(weights: &[f64]) -> bool {
     // SAFETY: pointer and length are those of one live slice.
     unsafe { probe_weights(weights.as_ptr(), weights.len()) }
+}
+
+/// The house table of a rate and look into a slice of its length: 1, else 0.
+pub fn house(rate: u32, look: u64, weights: &mut [f64]) -> u32 {
+    // SAFETY: pointer and length are those of one live slice.
+    unsafe { probe_house(rate, look as usize, weights.as_mut_ptr(), weights.len()) }
 }

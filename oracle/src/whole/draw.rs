@@ -2,6 +2,7 @@
 
 mod bends;
 mod events;
+mod houses;
 mod settings;
 
 use super::faults::{careless, damage, weights, Fault};
@@ -16,6 +17,7 @@ use crate::setups;
 use crate::signals::{Signal, SIGNALS};
 use bends::{bend, remembered};
 use events::{events, gain, short_gain, spoil, value};
+use houses::{asking, settled, with_houses};
 use settings::{accepted, threshold};
 
 /// What sessions are for: every call as a host may make it; the same with more
@@ -57,16 +59,56 @@ pub const RECORDED: u64 = 512;
 /// The most frames in long sessions of a block or a drain that is slow to play.
 const SLOW: u64 = 512;
 
-/// A random session. `formats` decides what its sample types have a say in, `aims`
-/// what its blocks are bent to.
-pub fn session(
-    mode: Mode,
-    types: Types,
-    rng: &mut Rng,
-    mut formats: Rng,
-    mut aims: Rng,
-) -> Session {
-    let setup = accepted(mode, rng);
+/// What a session is drawn from: each thing apart, so that the others are what
+/// they were without it.
+pub struct Streams {
+    calls: Rng,
+    /// What sample types have a say in.
+    formats: Rng,
+    /// What blocks are bent to.
+    aims: Rng,
+    /// Who asks for a house table.
+    houses: Rng,
+}
+
+impl Streams {
+    pub fn new(seed: u64, number: u64) -> Self {
+        let mut start = Rng::new(seed ^ number.rotate_left(32));
+        let [calls, formats, aims, houses] = [(); 4].map(|()| Rng::new(start.word()));
+        Self {
+            calls,
+            formats,
+            aims,
+            houses,
+        }
+    }
+}
+
+/// A random session; a recorded one asks for no house table.
+pub fn session(mode: Mode, types: Types, mut streams: Streams) -> Session {
+    let setup = accepted(mode, &mut streams.calls);
+    let (setup, house) = match mode {
+        Mode::Recorded => (setup, false),
+        _ => settled(setup, &mut streams.houses),
+    };
+    planned(mode, types, setup, house, streams)
+}
+
+/// A random session to be recorded, with the house table of a rate and look.
+pub fn house_session(pair: (u32, u64), types: Types, mut streams: Streams) -> Session {
+    let setup = accepted(Mode::Recorded, &mut streams.calls);
+    let setup = houses::at(setup, pair, &mut streams.houses);
+    planned(Mode::Recorded, types, setup, true, streams)
+}
+
+fn planned(mode: Mode, types: Types, setup: Setup, house: bool, streams: Streams) -> Session {
+    let Streams {
+        calls: mut rng,
+        mut formats,
+        mut aims,
+        houses,
+    } = streams;
+    let rng = &mut rng;
     let look = look(setup.lookahead, setup.rate);
     let bytes = BANK_BYTES + needed(setup.channels as u64, look);
     // Huge samples lead to subnormal gains, which cost much over a long row.
@@ -81,6 +123,7 @@ pub fn session(
         // What is recorded stays as it is drawn, and so do some of the others.
         bends: mode != Mode::Recorded && aims.below(4) > 0,
         aims,
+        houses,
         setup,
         position: start(rng),
         palette: [0; 3].map(|_| rng.pick(kinds)),
@@ -88,21 +131,17 @@ pub fn session(
     };
     Session {
         setup,
-        cap: rng.pick(&[
-            None,
-            None,
-            None,
-            Some(bytes),
-            Some(2 * bytes),
-            Some(u64::MAX),
-        ]),
+        cap: cap(bytes, rng),
+        house,
         types,
-        turns: match mode {
-            Mode::Whole | Mode::Direct => planner.whole(rng),
-            Mode::Damage => planner.damaged(rng),
-            Mode::Recorded => planner.recorded(rng),
-        },
+        turns: planner.turns(rng),
     }
+}
+
+/// A cap that allows so many bytes, or none.
+fn cap(bytes: u64, rng: &mut Rng) -> Option<u64> {
+    let [least, twice, most] = [bytes, 2 * bytes, u64::MAX].map(Some);
+    rng.pick(&[None, None, None, least, twice, most])
 }
 
 /// A position to start or to jump to.
@@ -171,6 +210,7 @@ struct Planner {
     aims: Rng,
     /// Whether blocks are bent.
     bends: bool,
+    houses: Rng,
     setup: Setup,
     /// Where the next block starts if it is in sequence.
     position: u64,
@@ -180,6 +220,17 @@ struct Planner {
 }
 
 impl Planner {
+    fn turns(&mut self, rng: &mut Rng) -> Vec<Turn> {
+        match self.mode {
+            Mode::Whole | Mode::Direct => {
+                let turns = self.whole(rng);
+                with_houses(turns, &self.setup, &mut self.houses)
+            }
+            Mode::Damage => self.damaged(rng),
+            Mode::Recorded => self.recorded(rng),
+        }
+    }
+
     /// Turns of every kind; one in five is spoiled.
     fn whole(&mut self, rng: &mut Rng) -> Vec<Turn> {
         let turns = 5 + rng.below(50);
@@ -244,8 +295,12 @@ impl Planner {
             if rng.below(4) == 0 {
                 faults.push(damage(rng));
             }
-            if let Part::Block(block) = &mut part {
-                faults.extend(remembered(block, &mut self.aims));
+            match &mut part {
+                Part::Block(block) => faults.extend(remembered(block, &mut self.aims)),
+                Part::Setup { .. } if self.houses.below(2) == 0 => {
+                    (part, faults) = asking(&self.setup, &mut self.houses);
+                }
+                _ => {}
             }
             turns.push(Turn {
                 part,
@@ -262,6 +317,7 @@ impl Planner {
             0 => Part::Setup {
                 setup: self.setup,
                 cap: None,
+                house: false,
             },
             1 => Part::Reset,
             2 => Part::Set {
@@ -301,10 +357,12 @@ impl Planner {
             0 => Part::Setup {
                 setup: *s,
                 cap: Some(near),
+                house: false,
             },
             _ => Part::Setup {
                 setup: setups::setup(rng),
                 cap: rng.pick(&[None, None, Some(near), Some(rng.clone().word())]),
+                house: false,
             },
         }
     }

@@ -73,6 +73,10 @@ pub enum Fault {
     Weights {
         seed: u64,
     },
+    /// No weights but anything, as a setup finds them that fills them.
+    Unread {
+        seed: u64,
+    },
     /// Another floor in the row, with a tally that stays true.
     Floor {
         at: usize,
@@ -123,6 +127,7 @@ impl Fault {
             }
             Self::Late { .. } | Self::Ring { .. } | Self::Floor { .. } => self.forge(lent),
             Self::Weights { seed } => aim(&mut lent.stores.0[WEIGHTS], seed),
+            Self::Unread { seed } => unread(&mut lent.stores.0[WEIGHTS], seed),
             Self::Twelves { seed } => remember(&mut lent.stores.0[DETECTOR], seed),
             Self::StoreWord { which, .. }
             | Self::StoreAdd { which, .. }
@@ -202,6 +207,19 @@ fn aim(store: &mut [u64], seed: u64) {
     tables::aim(&mut table, &mut Rng::new(seed));
     let aimed = store.iter_mut().zip(table);
     aimed.for_each(|(word, weight)| *word = weight.to_bits());
+}
+
+/// What nobody reads: any words, many of them a NaN.
+pub fn unread(store: &mut [u64], seed: u64) {
+    let mut rng = Rng::new(seed);
+    for word in store {
+        *word = match rng.below(4) {
+            0 => rng.word(),
+            1 => any(&mut rng).to_bits(),
+            2 => not_finite(&mut rng).to_bits(),
+            _ => f64::NAN.to_bits(),
+        };
+    }
 }
 
 /// Other samples for each channel's detector, in half of the cases the same.

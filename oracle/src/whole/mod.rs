@@ -2,6 +2,7 @@
 //! where it is linked, the proved code behind its C functions.
 
 mod aims;
+mod asked;
 mod draw;
 mod faults;
 mod places;
@@ -23,7 +24,7 @@ use std::thread;
 
 use crate::audio::Types;
 use crate::calls::Side;
-use crate::rng::Rng;
+use draw::Streams;
 use plan::Session;
 use play::{play, Counts, Split};
 
@@ -60,13 +61,10 @@ pub fn run(settings: &Settings, proved: Option<Side>) -> (bool, String) {
     }
 }
 
-/// Session `number` of a run, whatever was played before it. Its sample types
-/// are drawn apart, so that those of f64 alone are what they were without types;
-/// so is what blocks are bent to.
+/// Session `number` of a run, whatever was played before it.
 fn drawn(settings: &Settings, number: u64) -> Session {
-    let mut start = Rng::new(settings.seed ^ number.rotate_left(32));
-    let [mut calls, formats, aims] = [(); 3].map(|()| Rng::new(start.word()));
-    draw::session(settings.mode, settings.types, &mut calls, formats, aims)
+    let streams = Streams::new(settings.seed, number);
+    draw::session(settings.mode, settings.types, streams)
 }
 
 /// All sessions, in turns of the threads.

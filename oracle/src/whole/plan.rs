@@ -17,6 +17,8 @@ pub const LARGEST: u64 = 65_536;
 pub struct Session {
     pub setup: Setup,
     pub cap: Option<u64>,
+    /// Whether the setup asks for a house table, its weights unfilled till then.
+    pub house: bool,
     pub types: Types,
     pub turns: Vec<Turn>,
 }
@@ -39,6 +41,7 @@ pub enum Part {
     Setup {
         setup: Setup,
         cap: Option<u64>,
+        house: bool,
     },
     Block(Block),
     Drain {
@@ -63,6 +66,10 @@ pub enum Part {
     },
     Bytes {
         channels: u64,
+        look: u64,
+    },
+    House {
+        rate: u32,
         look: u64,
     },
 }
@@ -98,8 +105,9 @@ impl Part {
             Self::Restart => Call::Setup {
                 setup: session.setup,
                 cap: session.cap,
+                house: session.house,
             },
-            Self::Setup { setup, cap } => Call::Setup { setup, cap },
+            Self::Setup { setup, cap, house } => Call::Setup { setup, cap, house },
             Self::Block(block) => Call::Process {
                 audio: block.audio(),
                 position: block.position,
@@ -123,6 +131,7 @@ impl Part {
             Self::GainStep { bits } => Call::GainStep { bits },
             Self::Look { lookahead, rate } => Call::Look { lookahead, rate },
             Self::Bytes { channels, look } => Call::Bytes { channels, look },
+            Self::House { rate, look } => Call::House { rate, look },
         }
     }
 }

@@ -3,7 +3,9 @@
 //! judges and says where a block's peak sat: what it accepts the Rust and the
 //! proved code play.
 
+use super::asked::{Asked, Houses};
 use super::draw::Mode;
+use super::faults::unread;
 use super::places::{Found, Places};
 use super::plan::{Part, Session, Turn};
 use super::rust::Rust;
@@ -24,9 +26,11 @@ pub struct Counts {
     /// Frames taken as f64 and as f32.
     pub frames: [u64; 2],
     /// Calls by their number; 0 is finished work.
-    pub numbers: [u64; 25],
+    pub numbers: [u64; 30],
     /// Blocks that told in full where their peak sat.
     pub places: Places,
+    /// Sessions and setups with a house table.
+    pub houses: Houses,
 }
 
 impl Counts {
@@ -40,6 +44,7 @@ impl Counts {
             .zip(theirs)
             .for_each(|(sum, n)| *sum += n);
         self.places.add(&other.places);
+        self.houses.add(&other.houses);
     }
 
     /// So many frames more, where a call took any.
@@ -80,6 +85,8 @@ struct Left {
     lent: Lent,
     call: Call,
     found: Option<Found>,
+    /// What it met, if it is a setup that asks for a house table.
+    asked: Option<Asked>,
 }
 
 /// A call that was tried by the model and, where it is given, the proved code.
@@ -99,6 +106,7 @@ pub fn play(session: &Session, mode: Mode, proved: Option<Side>) -> Result<Count
         faults: Vec::new(),
         answer: ANSWER,
     };
+    counts.houses.begin(session);
     let unready = |report| Split { turn: None, report };
     let mut stage = Stage::new(session, mode, proved).map_err(unready)?;
     let later = session.turns.iter().enumerate();
@@ -112,18 +120,24 @@ pub fn play(session: &Session, mode: Mode, proved: Option<Side>) -> Result<Count
         if let Some(found) = left.told() {
             counts.places.take(found, left.frames());
         }
+        if let Some(asked) = &left.asked {
+            counts.houses.take(left.number, asked);
+        }
     }
     Ok(counts)
 }
 
 impl Stage {
-    /// Rubbish in every store but the weights, which are the Rust's.
+    /// Rubbish in every store but the weights, which are the Rust's; in those too
+    /// where a house table is asked for.
     fn new(session: &Session, mode: Mode, proved: Option<Side>) -> Result<Self, String> {
         let rust = Rust::new(&session.setup, session.cap, session.types.first())?;
         let mut lent = rust.lent();
         for (which, store) in lent.stores.0.iter_mut().enumerate() {
             if which != WEIGHTS {
                 *store = words(&rubbish(8 * store.len(), which as u64));
+            } else if session.house {
+                unread(store, which as u64);
             }
         }
         lent.state = rubbish(STATE, 6);
@@ -272,18 +286,21 @@ impl Rust {
             lent,
             call,
             found: found.copied(),
+            asked: None,
         }
     }
 }
 
 impl Left {
     fn by(side: Side, (mut lent, mut call): (Lent, Call)) -> Self {
+        let asked = Asked::of(&lent, &call);
         let number = side(&mut lent, &mut call);
         Self {
             number,
             lent,
             call,
             found: None,
+            asked,
         }
     }
 

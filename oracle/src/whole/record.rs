@@ -6,7 +6,7 @@
 use std::fs;
 use std::path::Path;
 
-use super::draw::{Mode, RECORDED};
+use super::draw::{house_session, Mode, Streams, RECORDED};
 use super::drawn;
 use super::plan::{Part, Session};
 use super::play::Counts;
@@ -15,6 +15,7 @@ use super::Settings;
 use crate::audio::{Format, Types};
 use crate::calls::{Call, Lent, WEIGHTS};
 use crate::model::calls as model;
+use crate::model::house::PAIRS;
 use crate::samples::{digest, Source};
 
 /// Sessions kept to either sample type. The recorded file never depends on the
@@ -33,6 +34,11 @@ const SETTINGS: [Settings; 2] = [
         seed: 2,
     },
 ];
+
+/// The sample types of the sessions with a house table, one of each, and the seed
+/// that they are drawn from.
+const HOUSES: [Types; PAIRS.len()] = [Types::F64, Types::F32, Types::F64, Types::F32];
+const HOUSES_SEED: u64 = 8;
 
 /// Kinds of samples.
 const KINDS: u64 = 6;
@@ -92,6 +98,10 @@ fn recorded() -> Result<Record, String> {
             record.play(&drawn(settings, number), number)?;
         }
     }
+    for ((number, pair), types) in (1..).zip(PAIRS).zip(HOUSES) {
+        let streams = Streams::new(HOUSES_SEED, number);
+        record.play(&house_session(pair, types, streams), number)?;
+    }
     Ok(record)
 }
 
@@ -149,6 +159,7 @@ impl Recorder {
         words.extend(floats.map(f64::to_bits));
         words.extend([self.rust.look() as u64, weights.len() as u64]);
         words.extend([self.source.state, self.source.kind, setup.block as u64]);
+        words.push(u64::from(session.house));
         words.extend(weights);
         words
     }
@@ -214,7 +225,7 @@ impl Recorder {
             Call::Read { id } => vec![READ, u64::from(*id), number, told_first],
             Call::GainStep { bits } => [&[GAIN_STEP, *bits], told].concat(),
             Call::Setup { .. } => vec![SETUP],
-            Call::Look { .. } | Call::Bytes { .. } => Vec::new(),
+            Call::Look { .. } | Call::Bytes { .. } | Call::House { .. } => Vec::new(),
         }
     }
 }
@@ -223,6 +234,7 @@ impl Recorder {
 mod tests {
     use super::*;
     use crate::audio::Audio;
+    use crate::calls::Stores;
     use crate::model::setup::Setup;
     use crate::model::state::State;
 
@@ -251,7 +263,26 @@ mod tests {
     struct Replay {
         lent: Lent,
         setup: Setup,
+        house: bool,
         source: Source,
+    }
+
+    /// What a replay lends for channels, a look and its weights, which are none yet.
+    fn lent([channels, look, rows]: [u64; 3]) -> Lent {
+        let nan = f64::NAN.to_bits();
+        let stores = [
+            (channels * look, 1),
+            (look + 1, 1),
+            (look + 1, 1),
+            (rows, nan),
+            (rows, 1),
+            (12 * channels, 1),
+        ];
+        Lent {
+            state: vec![0; 512],
+            answer: vec![0; 8],
+            stores: Stores(stores.map(|(places, word)| vec![word; places as usize])),
+        }
     }
 
     impl Replay {
@@ -263,7 +294,7 @@ mod tests {
             };
             let (rate, channels) = (file.next() as u32, file.next() as usize);
             let [threshold, margin, lookahead, release] = [(); 4].map(|()| file.float());
-            let [look, rows, seed, kind, block] = [(); 5].map(|()| file.next());
+            let [look, rows, seed, kind, block, house] = [(); 6].map(|()| file.next());
             let setup = Setup {
                 threshold,
                 margin,
@@ -273,31 +304,33 @@ mod tests {
                 channels,
                 block: block as usize,
             };
-            let lent = Lent {
-                state: vec![0; 512],
-                answer: vec![0; 8],
-                stores: crate::calls::Stores::default(),
-            };
-            let source = Source {
-                format,
-                state: seed,
-                kind,
-            };
+            let weights = file.some(rows);
             let mut replay = Self {
-                lent,
+                lent: lent([channels as u64, look, rows]),
                 setup,
-                source,
+                house: house == 1,
+                source: Source {
+                    format,
+                    state: seed,
+                    kind,
+                },
             };
-            let places = [channels as u64 * look, look + 1, look + 1, 0, rows];
-            for (store, places) in replay.lent.stores.0.iter_mut().zip(places) {
-                *store = vec![1; places as usize];
+            if !replay.house {
+                replay.lent.stores.0[WEIGHTS].clone_from(&weights);
             }
-            replay.lent.stores.0[WEIGHTS] = file.some(rows);
-            replay.lent.stores.0[5] = vec![1; 12 * channels];
-            replay.told(Call::Setup { setup, cap: None }, &[0]);
+            replay.told(replay.set_up(), &[0]);
+            assert_eq!(replay.lent.stores.0[WEIGHTS], weights);
             let state = State::read(&replay.lent.state).expect("a state");
             assert_eq!(state.look, look);
             replay
+        }
+
+        fn set_up(&self) -> Call {
+            Call::Setup {
+                setup: self.setup,
+                cap: None,
+                house: self.house,
+            }
         }
 
         /// Play a call; its number and the words told are those of the file.
@@ -358,10 +391,7 @@ mod tests {
                     let due = [vec![0], file.some(6)].concat();
                     (Call::GainStep { bits }, due)
                 }
-                SETUP => {
-                    let setup = self.setup;
-                    (Call::Setup { setup, cap: None }, vec![0])
-                }
+                SETUP => (self.set_up(), vec![0]),
                 _ => unreachable!("no op {op}"),
             };
             self.told(call, &due);
@@ -374,9 +404,12 @@ mod tests {
         let mut file = Reader {
             rest: &record.words,
         };
-        let (mut ops, mut calls) = ([0; 9], 0);
+        let (mut ops, mut calls, mut houses) = ([0; 9], 0, Vec::new());
         while !file.rest.is_empty() {
             let mut replay = Replay::start(&mut file);
+            if replay.house {
+                houses.push((replay.setup.rate, replay.source.format));
+            }
             loop {
                 let op = file.next();
                 if op == END {
@@ -388,6 +421,13 @@ mod tests {
             }
         }
         assert_eq!(calls, record.counts.calls);
+        let due = [
+            (44_100, Format::F64),
+            (48_000, Format::F32),
+            (96_000, Format::F64),
+            (192_000, Format::F32),
+        ];
+        assert_eq!(houses, due);
         assert!(ops[2..].iter().all(|&n| n > 20), "{ops:?}");
     }
 

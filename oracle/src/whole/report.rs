@@ -21,7 +21,7 @@ pub fn passed(counts: &Counts, seed: u64) -> String {
         wide + narrow,
         counts.calls,
         by_number.join(", "),
-        counts.places.line()
+        counts.places.line() + &counts.houses.line()
     )
 }
 
@@ -115,7 +115,8 @@ fn without_aim(block: &Block) -> Vec<Block> {
 /// The lines of a run with a difference.
 pub fn differs(number: u64, seed: u64, small: &Session, split: &Split) -> String {
     let mut text = format!("1 difference, seed {seed}, session {number}; smallest form:\n");
-    let _ = writeln!(text, "  {:?}, cap {:?}", small.setup, small.cap);
+    let (setup, cap, house) = (small.setup, small.cap, small.house);
+    let _ = writeln!(text, "  {setup:?}, cap {cap:?}, house table: {house}");
     for turn in &small.turns {
         let _ = writeln!(text, "  {turn:?}");
     }

@@ -7,10 +7,10 @@ use crate::calls::{Call, Lent, Stores, ANSWER};
 use crate::context::ProcessContext;
 use crate::dsp::driver::{inside as driver, KernelProcessor, SmootherBank};
 use crate::mastering::limiter::{inside as kernel, Limiter, LimiterSettings};
-use crate::model::judge;
 use crate::model::setup::{look, Setup};
 use crate::model::state::State;
 use crate::model::threshold::{declared, Smoother};
+use crate::model::{house, judge};
 use crate::param::{ParamEvent, ParamId, ParamSetError};
 use crate::spec::ProcessSpec;
 use crate::traits::Processor;
@@ -154,6 +154,11 @@ impl Rust {
                 (0, vec![derived.unwrap_or(look(*lookahead, *rate))])
             }
             Call::Bytes { channels, look } => (0, vec![footprint(*channels, *look)]),
+            Call::House { rate, look } => {
+                // The Rust has no such function.
+                let has = house::place(*rate, *look).is_some();
+                (0, vec![u64::from(has)])
+            }
         }
     }
 

@@ -1,6 +1,7 @@
 //! The comparison itself: its sessions are what they should be, the model agrees
 //! with the Rust, and a side that is wrong is found.
 
+mod houses;
 mod places;
 
 use super::plan::Part;
@@ -45,14 +46,14 @@ fn common(settings: &Settings, rows: &[(u64, &[usize])]) {
 
 #[test]
 fn the_model_is_the_rust_and_every_answer_is_met() {
-    let often = [0, 15, 16, 18, 20, 21, 23, 24];
+    let often = [0, 15, 16, 18, 20, 21, 23, 24, 29];
     let seldom = [5, 7, 9, 11, 12, 22];
     common(&WHOLE, &[(20, &often), (2, &seldom)]);
 }
 
 #[test]
 fn damage_meets_every_answer_that_it_aims_at() {
-    common(&DAMAGE, &[(500, &[0, 18, 19]), (30, &[17, 22])]);
+    common(&DAMAGE, &[(500, &[0, 18, 19]), (30, &[17, 22, 29])]);
 }
 
 #[test]
@@ -390,7 +391,8 @@ fn damage_finds_what_sessions_do_not() {
 fn lopsided(lent: &mut Lent, call: &mut Call) -> u32 {
     let kept = lent.stores.0[WEIGHTS].clone();
     let table = floats(&kept);
-    if matches!(call, Call::Setup { .. }) && ranged(&table) && summed(&table) {
+    let asks = matches!(call, Call::Setup { house: true, .. });
+    if matches!(call, Call::Setup { .. }) && !asks && ranged(&table) && summed(&table) {
         let last = table.len() - 1;
         let spike = |i: usize| match i.abs_diff(last - i) {
             0 => 1.0f64.to_bits(),
@@ -400,7 +402,9 @@ fn lopsided(lent: &mut Lent, call: &mut Call) -> u32 {
         lent.stores.0[WEIGHTS] = (0..=last).map(spike).collect();
     }
     let number = model(lent, call);
-    lent.stores.0[WEIGHTS] = kept;
+    if !asks {
+        lent.stores.0[WEIGHTS] = kept;
+    }
     number
 }
 

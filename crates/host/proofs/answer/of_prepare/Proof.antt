@@ -37,6 +37,12 @@ enum-told-3 c = search needs
 bare-requires-4 : tie.Need-bare-requires-4
 bare-requires-4 c κs = search needs
 
+enum-told-4 : tie.Need-enum-told-4
+enum-told-4 c = search needs
+
+bare-requires-5 : tie.Need-bare-requires-5
+bare-requires-5 c κs = search needs
+
 returns : tie.Need-returns
 returns c = rw (c .bare .ensures, c .before .enum-told .given .1) refl
 
@@ -51,6 +57,9 @@ returns-4 c = rw (c .bare3 .ensures, c .before .enum-told2 .given .1) refl
 
 returns-5 : tie.Need-returns-5
 returns-5 c = rw (c .bare4 .ensures, c .before .enum-told3 .given .1) refl
+
+returns-6 : tie.Need-returns-6
+returns-6 c = rw (c .bare5 .ensures, c .before .enum-told4 .given .1) refl
 
 pub of-prepare-spec : {M : Type 1} → statement M
 of-prepare-spec =
@@ -67,8 +76,11 @@ of-prepare-spec =
     bare-requires-3
     enum-told-3
     bare-requires-4
+    enum-told-4
+    bare-requires-5
     returns
     returns-2
     returns-3
     returns-4
-    returns-5)
+    returns-5
+    returns-6)

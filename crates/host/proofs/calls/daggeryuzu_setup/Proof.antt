@@ -1,6 +1,7 @@
 -- `daggeryuzu_setup`: the driver's setup through bytes, on as many weights as are lent.
 use mathlib.Core.Path.{_≡_, refl, ap, _∙_}
 use Prim.Native.Nat.{_-_}
+use native.Mathlib.Omega.{arith}
 use lib.Dec.{eqb}
 use lib.ListN.{length, take}
 use denote.Ref.{now}
@@ -9,12 +10,12 @@ use Rattle.settings.specs.Settings.{settingsOf, processSpec}
 use Rattle.settings.specs.declared.LimiterSettings.{LimiterSettings}
 use Rattle.settings.specs.declared.ProcessSpec.{ProcessSpec}
 use Rattle.settings.specs.declared.memory.Cap.{Cap}
-use Rattle.limiter.specs.Stores.{Stores, storesAt}
-use Rattle.driver.specs.Calls.{setupOf}
-use Rattle.driver.specs.Answers.{setupReply}
+use Rattle.limiter.specs.Stores.{Stores, storesAt, withWeights}
+use Rattle.driver.specs.Calls.{left, setupOf}
+use Rattle.driver.specs.Answers.{machineAt, setupReply}
 use Rattle.state_bytes.specs.State.{stateBytes}
-use Rattle.host.specs.Host.{capOf, withWeights}
-use Rattle.host.proofs.Through.{lent-within, lent-part, set-up}
+use Rattle.host.specs.Host.{capOf, askedOf}
+use Rattle.host.proofs.Through.{lent-within, lent-part, came-back, set-up}
 use borrow.Author.Needs.{needs}
 use Rattle.host.proofs.calls.daggeryuzu_setup.Statement.{statement}
 use Rattle.host.proofs.calls.daggeryuzu_setup.Tie as tie
@@ -50,9 +51,9 @@ part-prepare-start c = search needs
 
 part-prepare-end : tie.Need-part-prepare-end
 part-prepare-end c =
-    let k1 = c .before .before .before in
-    let k2 = k1 .before .before .before .before .before .before .before .before .before .before .before .before .before .before in
-    lent-within (eqb (length (now (k2 .args .state))) stateBytes) (k1 .lent .result) (length (now (k2 .args .weights))) (k1 .lent .ensures)
+    let k = c .before .before .before in
+    let s = c .before .before .before .before .before .before .before .before .before .before .before .before .before .before .before .before .before in
+    lent-within (eqb (length (now (s .args .state))) stateBytes) (k .lent .result) (length (now (s .args .weights))) (k .lent .ensures)
 
 prepare-requires : tie.Need-prepare-requires
 prepare-requires c κs = search needs
@@ -87,31 +88,41 @@ same-length-6 c = search needs
 same-length-7 : tie.Need-same-length-7
 same-length-7 c = search needs
 
+same-length-8 : tie.Need-same-length-8
+same-length-8 c = search needs
+
 returns : tie.Need-returns
 returns c =
     let k1 = c .before .before in
-    let k2 = k1 .before .before .before .before in
-    let k3 = k2 .before .before in
-    let k4 = k3 .before .before .before .before .before .before .before .before .before .before .before .before in
-    let k5 = k4 .before .before .before .before .before .before .before in
-    let k6 = k5 .before in
-    let k7 = k6 .before in
-    let k8 = k7 .before in
-    let k9 = k8 .before in
-    let k10 = k9 .before in
-    let k11 = k10 .before .before .before .before .before .before .before .before .before in
+    let k2 = c .before .before .before .before .before .before in
+    let k3 = c .before .before .before .before .before .before .before .before in
+    let k4 = c .before .before .before .before .before .before .before .before .before .before .before .before .before .before .before .before .before .before .before .before .before .before in
+    let k5 = c .before .before .before .before .before .before .before .before .before .before .before .before .before .before .before .before .before .before .before .before .before .before .before .before .before .before .before .before .before in
+    let k6 = c .before .before .before .before .before .before .before .before .before .before .before .before .before .before .before .before .before .before .before .before .before .before .before .before .before .before .before .before .before .before in
+    let k7 = c .before .before .before .before .before .before .before .before .before .before .before .before .before .before .before .before .before .before .before .before .before .before .before .before .before .before .before .before .before .before .before in
+    let k8 = c .before .before .before .before .before .before .before .before .before .before .before .before .before .before .before .before .before .before .before .before .before .before .before .before .before .before .before .before .before .before .before .before in
+    let k9 = c .before .before .before .before .before .before .before .before .before .before .before .before .before .before .before .before .before .before .before .before .before .before .before .before .before .before .before .before .before .before .before .before .before in
+    let k10 = c .before .before .before .before .before .before .before .before .before .before .before .before .before .before .before .before .before .before .before .before .before .before .before .before .before .before .before .before .before .before .before .before .before .before in
+    let k11 = c .before .before .before .before .before .before .before .before .before .before .before .before .before .before .before .before .before .before .before .before .before .before .before .before .before .before .before .before .before .before .before .before .before .before .before .before .before .before .before .before .before .before .before in
     let s = stores (k11) in
+    let fits = eqb (length (now (k11 .args .state))) stateBytes in
     let part = take (k5 .lent .result - 0) (now (k11 .args .weights)) in
     let told = settingsOf (bits (k11 .args .threshold-db)) (bits (k11 .args .true-peak-margin-db)) (bits (k11 .args .lookahead-ms)) (bits (k11 .args .release-ms)) in
-    let spec : Cap → ProcessSpec = λ x. processSpec (k11 .args .rate) (k11 .args .channels) (k11 .args .max-block) x in
+    let spec : Cap → ProcessSpec = λ x. processSpec (k11 .args .rate) (k11 .args .channels) (k11 .args .max-block) x (askedOf (k11 .args .house)) in
     let given : settingsOf (k10 .from-bits .result) (k9 .from-bits2 .result) (k8 .from-bits3 .result) (k7 .from-bits4 .result) ≡ told =
     rw (k10 .from-bits .ensures, k9 .from-bits2 .ensures, k8 .from-bits3 .ensures, k7 .from-bits4 .ensures) refl
     in
-    set-up told (spec (capOf (k11 .args .capped) (k11 .args .cap))) (now (k11 .args .answer)) (now (k11 .args .state)) s (setupReply (k4 .prepare .result .answer)) (k4 .prepare .result .processor) _ part (k3 .of-setup .result) _ _
-    (lent-part (eqb (length (now (k11 .args .state))) stateBytes) (k5 .lent .result) (now (k11 .args .weights)) (k5 .lent .ensures))
-    (k4 .prepare .ensures
+    let asked = spec (capOf (k11 .args .capped) (k11 .args .cap)) in
+    let p = k4 .prepare in
+    let later = storesAt (p .last .1 .1 .0) (p .last .1 .1 .1 .0) (p .last .1 .1 .1 .1 .0) (p .last .1 .1 .1 .1 .1 .0) (p .last .1 .1 .1 .1 .1 .1 .0) (p .last .1 .1 .1 .1 .1 .1 .1 .0) in
+    let lent = lent-part fits (k5 .lent .result) (now (k11 .args .weights)) (k5 .lent .ensures) in
+    let own : left (setupReply (p .result .answer)) (machineAt (p .result .processor) later) ≡ setupOf told asked (withWeights part s) =
+    p .ensures
     ∙ ap (λ (x : LimiterSettings). setupOf x (spec (k6 .cap-of .result)) (withWeights part s)) given
-    ∙ ap (λ (x : Cap). setupOf told (spec x) (withWeights part s)) (k6 .cap-of .ensures))
+    ∙ ap (λ (x : Cap). setupOf told (spec x) (withWeights part s)) (k6 .cap-of .ensures)
+    in
+    set-up told asked (now (k11 .args .answer)) (now (k11 .args .state)) s (setupReply (p .result .answer)) (p .result .processor) later part lent own _ (k3 .of-setup .result) _ _
+    (came-back told asked (now (k11 .args .answer)) (now (k11 .args .state)) s (setupReply (p .result .answer)) (p .result .processor) later part lent own (k5 .lent .result - 0) (omega (arith, k5 .lent .ensures)))
     (k3 .of-setup .ensures) (k2 .write-answer .ensures) (k1 .keep .ensures)
 
 pub daggeryuzu-setup-spec : {M : Type 1} → statement M
@@ -138,4 +149,5 @@ daggeryuzu-setup-spec =
     same-length-5
     same-length-6
     same-length-7
+    same-length-8
     returns)

@@ -1,4 +1,5 @@
 -- `probe_refusal`: the number of what is judged.
+use mathlib.Core.Bool.{false}
 use mathlib.Core.Path.{sym, _∙_}
 use borrow.Author.Needs.{needs}
 use Rattle.settings.specs.Settings.{settingsOf, processSpec}
@@ -13,7 +14,7 @@ abbrev given : tie.Start → LimiterSettings
 given s = settingsOf (s .args .threshold) (s .args .margin) (s .args .lookahead) (s .args .release)
 
 abbrev told : tie.Start → ProcessSpec
-told s = processSpec (s .args .rate) (s .args .channels) (s .args .«max-block») Cap.Unlimited
+told s = processSpec (s .args .rate) (s .args .channels) (s .args .«max-block») Cap.Unlimited false
 
 refusal-requires : tie.Need-refusal-requires
 refusal-requires c κs = search needs
