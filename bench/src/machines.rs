@@ -20,6 +20,20 @@ pub struct Setup {
     pub block: usize,
 }
 
+impl Setup {
+    /// The same, as ours takes it.
+    pub fn of_ours(&self) -> (daggeryuzu::LimiterSettings, daggeryuzu::ProcessSpec) {
+        let settings = daggeryuzu::LimiterSettings::default().lookahead_ms(self.lookahead_ms);
+        let spec = daggeryuzu::ProcessSpec {
+            sample_rate: self.rate,
+            channels: self.channels,
+            max_block: self.block,
+            max_memory: None,
+        };
+        (settings, spec)
+    }
+}
+
 /// The proved limiter, through its safe wrapper.
 pub struct Ours {
     limiter: daggeryuzu::Limiter,
@@ -28,13 +42,7 @@ pub struct Ours {
 
 impl Ours {
     pub fn new(setup: &Setup) -> Result<Self, String> {
-        let settings = daggeryuzu::LimiterSettings::default().lookahead_ms(setup.lookahead_ms);
-        let spec = daggeryuzu::ProcessSpec {
-            sample_rate: setup.rate,
-            channels: setup.channels,
-            max_block: setup.block,
-            max_memory: None,
-        };
+        let (settings, spec) = setup.of_ours();
         let limiter = daggeryuzu::Limiter::prepare(settings, spec);
         Ok(Self {
             limiter: limiter.map_err(|e| format!("ours: {e}"))?,
@@ -84,20 +92,25 @@ impl<T: Sample> Theirs<T> {
     pub fn new(setup: &Setup) -> Result<Self, String> {
         let settings = rust::LimiterSettings::new().lookahead_ms(setup.lookahead_ms);
         let limiter = rust::Limiter::with_settings(settings);
-        let mut limiter = <rust::Limiter as Kernel<T>>::into_processor(limiter);
+        let mut theirs = Self {
+            limiter: <rust::Limiter as Kernel<T>>::into_processor(limiter),
+            position: 0,
+        };
+        theirs.prepare(setup)?;
+        Ok(theirs)
+    }
+
+    /// Its own setup: it computes weights and taps, and allocates; what it had before
+    /// is freed. The lookahead stays.
+    pub fn prepare(&mut self, setup: &Setup) -> Result<(), String> {
         let spec = ProcessSpec {
             sample_rate: setup.rate,
             channels: setup.channels,
             max_block: setup.block,
             max_memory: None,
         };
-        limiter
-            .prepare(spec)
-            .map_err(|e| format!("the Rust: {e}"))?;
-        Ok(Self {
-            limiter,
-            position: 0,
-        })
+        let done = self.limiter.prepare(spec);
+        done.map_err(|e| format!("the Rust: {e}"))
     }
 
     /// Limits the blocks in place: ns that it took. The tables of channels are

@@ -1,6 +1,7 @@
 //! Times the proved limiter, through its safe wrapper, beside the Rust it is a
 //! translation of: the same audio, the same calls, in one process; the proved
-//! rearrangement beside plain Rust; then the limiter beside FFmpeg's. See README.md.
+//! rearrangement beside plain Rust; its setup beside the Rust's; then the limiter
+//! beside FFmpeg's. See README.md.
 
 // `params!` of the Rust comes to our crate root through the generated tree,
 // and the Rust names it by its absolute path.
@@ -15,6 +16,7 @@ mod machines;
 mod measure;
 mod rearrange;
 mod sample_type;
+mod setups;
 mod table;
 mod tables;
 
@@ -32,7 +34,7 @@ use sample_type::SampleType;
 
 const USAGE: &str = "bench [--seconds S] [--rounds N] [--only WORD]..
            --seconds S   of audio a round, 4; 10 times as much where slices are rearranged,
-                         15 times beside FFmpeg, there at most 600
+                         15 times beside FFmpeg, there at most 600; 1,000 setups a second
            --rounds N    that are counted, 9
            --only WORD   the rows with WORD in TITLE: ROW, in letters of either case;
                          given again, the rows with any of the words

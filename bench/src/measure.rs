@@ -3,6 +3,7 @@
 use crate::audio::{blocks, Level};
 use crate::machines::{Ours, Setup, Theirs};
 use crate::sample_type::{Sample, SampleType};
+use crate::setups::Way;
 
 /// How much is measured.
 #[derive(Clone, Copy, Debug, PartialEq)]
@@ -30,6 +31,8 @@ pub struct Case {
     pub block: usize,
     /// Whether a block is asked where its highest peak sat, which the Rust does not tell.
     pub asked: bool,
+    /// How ours is set up.
+    pub way: Way,
 }
 
 impl Default for Case {
@@ -42,6 +45,7 @@ impl Default for Case {
             channels: 2,
             block: 512,
             asked: false,
+            way: Way::Wrapper,
         }
     }
 }
@@ -88,7 +92,7 @@ impl Spread {
 /// What the rounds come to.
 #[derive(Clone, Copy, Debug)]
 pub struct Measured {
-    /// ns a frame, the proved limiter; ns a sample, the proved rearrangement.
+    /// ns a frame, the proved limiter; ns a sample, the proved rearrangement; ns a setup.
     pub ours: Spread,
     /// The same of the Rust, FFmpeg or plain Rust.
     pub theirs: Spread,

@@ -5,6 +5,7 @@ use std::io::Write as _;
 use crate::ffmpeg;
 use crate::measure::{self, Case, Effort, Measured, Spread};
 use crate::rearrange;
+use crate::setups::{self, Way};
 use crate::tables::{Beside, Table};
 
 /// What a time is of.
@@ -13,6 +14,8 @@ enum Unit {
     Frame,
     /// Rearranging one takes little: its time has a place more.
     Sample,
+    /// It takes much, and has no part in a frame.
+    Setup,
 }
 
 impl Unit {
@@ -20,6 +23,7 @@ impl Unit {
         match self {
             Self::Frame => "frame",
             Self::Sample => "sample",
+            Self::Setup => "setup",
         }
     }
 
@@ -27,14 +31,24 @@ impl Unit {
         match self {
             Self::Frame => 1,
             Self::Sample => 2,
+            Self::Setup => 0,
         }
     }
 
-    /// So many of them in a frame.
-    fn in_frame(self, case: &Case) -> f64 {
+    /// So many of them in a frame, where that is what is timed.
+    fn in_frame(self, case: &Case) -> Option<f64> {
         match self {
-            Self::Frame => 1.0,
-            Self::Sample => case.channels as f64,
+            Self::Frame => Some(1.0),
+            Self::Sample => Some(case.channels as f64),
+            Self::Setup => None,
+        }
+    }
+
+    /// The last column's heading.
+    fn speed(self) -> &'static str {
+        match self {
+            Self::Frame | Self::Sample => "real time",
+            Self::Setup => "",
         }
     }
 }
@@ -49,6 +63,12 @@ pub fn print(table: &Table, effort: &Effort) -> Result<(), String> {
         Beside::Plain(direction) => rows(table, "plain Rust", Unit::Sample, |case| {
             rearrange::measure(direction, case, effort).map(Some)
         }),
+        Beside::Prepare => {
+            let ways: Vec<Way> = table.rows.iter().map(|row| row.case.way).collect();
+            let seen = setups::measure(&ways, &table.rows[0].case, effort)?;
+            let mut seen = seen.into_iter();
+            rows(table, "the Rust", Unit::Setup, |_| Ok(seen.next()))
+        }
         Beside::Ffmpeg => match ffmpeg::version("ffmpeg")? {
             None => {
                 println!("skipped: no ffmpeg on PATH");
@@ -69,13 +89,16 @@ fn rows(
     table: &Table,
     theirs: &str,
     unit: Unit,
-    measure: impl Fn(&Case) -> Result<Option<Measured>, String>,
+    mut measure: impl FnMut(&Case) -> Result<Option<Measured>, String>,
 ) -> Result<(), String> {
     let ours = format!("ours, ns a {}", unit.name());
-    println!(
+    let heading = format!(
         "{:>14}  {ours:>26}  {theirs:>26}  {:>20}  {:>9}",
-        "", "ratio", "real time"
+        "",
+        "ratio",
+        unit.speed()
     );
+    println!("{}", heading.trim_end());
     for row in &table.rows {
         let seen = measure(&row.case)?;
         println!("{:>14}  {}", row.name, line(&row.case, unit, seen));
@@ -89,13 +112,17 @@ fn line(case: &Case, unit: Unit, seen: Option<Measured>) -> String {
     let Some(seen) = seen else {
         return "too short beside FFmpeg's own start: more --seconds".into();
     };
-    format!(
-        "{:>26}  {:>26}  {:>20}  {:>7.0} x",
+    let times = format!(
+        "{:>26}  {:>26}  {:>20}",
         spread(seen.ours, unit.places()),
         spread(seen.theirs, unit.places()),
-        spread(seen.ratio, 2),
-        1e9 / f64::from(case.rate) / (seen.ours.median * unit.in_frame(case))
-    )
+        spread(seen.ratio, 2)
+    );
+    let Some(count) = unit.in_frame(case) else {
+        return times;
+    };
+    let speed = 1e9 / f64::from(case.rate) / (seen.ours.median * count);
+    format!("{times}  {speed:>7.0} x")
 }
 
 /// The median, the lowest and the highest, to so many places.
@@ -143,6 +170,16 @@ mod tests {
             "4000 x",
         ];
         assert_eq!(columns(Unit::Sample, (2.5, 1.25)), expected);
+    }
+
+    #[test]
+    fn a_setup_has_no_speed() {
+        let expected = [
+            "100 (100 to 100)",
+            "400 (400 to 400)",
+            "0.25 (0.25 to 0.25)",
+        ];
+        assert_eq!(columns(Unit::Setup, (100.0, 400.0)), expected);
     }
 
     #[test]

@@ -4,6 +4,7 @@ use crate::audio::Level::{self, Loud, Quiet};
 use crate::measure::Case;
 use crate::rearrange::Direction;
 use crate::sample_type::SampleType::F32;
+use crate::setups::Way;
 
 /// Whom the proved code is timed beside.
 #[derive(Clone, Copy, Debug, PartialEq, Eq)]
@@ -12,6 +13,8 @@ pub enum Beside {
     Rust,
     /// Plain Rust that rearranges through a second buffer.
     Plain(Direction),
+    /// The Rust's own setup; the rows differ in the way of ours alone.
+    Prepare,
     /// FFmpeg's limiter at four times the rate.
     Ffmpeg,
 }
@@ -103,6 +106,7 @@ fn all() -> Vec<Table> {
             "interleave within a slice, channels x frames",
             Direction::Interleave,
         ),
+        beside_prepare(),
         beside_ffmpeg(),
     ]
 }
@@ -128,6 +132,24 @@ fn beside_plain(title: &'static str, direction: Direction) -> Table {
         title,
         beside: Beside::Plain(direction),
         rows: rows.collect(),
+    }
+}
+
+/// The defaults at the highest rate, whose 1.5 ms are 288 frames: 277 weights.
+fn beside_prepare() -> Table {
+    let rows = [Way::Lent, Way::House, Way::Wrapper].map(|way| {
+        let case = Case {
+            rate: 192_000,
+            look: 288,
+            way,
+            ..Case::default()
+        };
+        row(way.name(), case)
+    });
+    Table {
+        title: "setup of stereo at 192,000, default settings, blocks up to 512",
+        beside: Beside::Prepare,
+        rows: rows.into(),
     }
 }
 
@@ -292,6 +314,22 @@ mod tests {
     #[test]
     fn either_case_will_do() {
         assert_eq!(labels(&["ffmpeg"]).len(), 4);
+    }
+
+    #[test]
+    fn setups_are_found_alone_and_are_at_the_defaults() {
+        let tables = chosen(&["setup".into()]).expect("rows");
+        let [table] = tables.as_slice() else {
+            panic!("{tables:?}");
+        };
+        assert_eq!((table.beside, table.rows.len()), (Beside::Prepare, 3));
+        for row in &table.rows {
+            assert_eq!(row.name, row.case.way.name());
+            let (settings, spec) = row.case.setup().of_ours();
+            assert_eq!(settings, daggeryuzu::LimiterSettings::default());
+            assert_eq!((spec.sample_rate, spec.channels), (192_000, 2));
+            assert_eq!(spec.max_block, 512);
+        }
     }
 
     #[test]

@@ -27,6 +27,7 @@ pub mod UnitReduced
 pub mod Unit
 pub mod PowerExact
 pub mod InTurn
+pub mod Copy
 pub mod Exact32
 pub mod Closest
 pub mod Nearest

@@ -1,7 +1,6 @@
 -- Laws of the detector that belong to no one function.
 pub mod Store
 pub mod Peak
-pub mod Copy
 pub mod Turns
 pub mod Sums
 pub mod Pattern

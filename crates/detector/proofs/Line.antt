@@ -16,7 +16,7 @@ use Rattle.detector.specs.Run.{runLength, pushesAt, pushFirst, pushesOf,
 use Rattle.detector.specs.History.{latest}
 use Rattle.detector.specs.Sums.{factor, added, sumsOn, upTo, samplesAt, answersOf}
 use Rattle.detector.proofs.Store.{push-shifts, stores-length, latest-more}
-use Rattle.detector.proofs.Copy.{copied-more}
+use Rattle.arithmetic.proofs.Copy.{copied-more}
 use Rattle.detector.proofs.Turns.{joined, front-more}
 use Rattle.detector.proofs.Sums.{sums-more}
 

@@ -3,14 +3,14 @@ use Prim.Native.Nat.{ℕ, _+_, _-_, _≤_, _<_}
 use mathlib.Core.Path.{_≡_, refl, sym, ap, subst, _∙_}
 use mathlib.Core.Bool.{Bool, true, false, cond, not, _&&_}
 use mathlib.Core.List.{List, [], _∷_}
-use native.Mathlib.Numerals.{add-one}
 use native.Mathlib.Omega.{arith}
 use lib.Dec.{eqb, leb}
 use lib.ListN.{length, getD, set, take, drop, length-take, length-drop}
-use lib.Seq.{take-suc, take-suc-set, take-all, getD-drop}
+use lib.Seq.{take-all, getD-drop}
 use lib.Ieee.{Float, nan, ofBits, lt, le}
 use borrow.Author.Tests.{eqb-true, eqb-false, leb-true, not-true}
 use Rattle.arithmetic.proofs.Order.{and-true}
+use Rattle.arithmetic.proofs.Copy.{copied-more}
 use Rattle.settings.specs.Derived.{rowOf}
 use Rattle.settings.specs.Weights.{accepted}
 use Rattle.settings.specs.HouseTable.{house, at44100, at48000, at96000, at192000}
@@ -64,16 +64,13 @@ table-length = refl
 pub house-length : (rate look : ℕ) → houseFits rate look ≡ true → length (houseOf rate look) ≡ rowOf look
 house-length rate look f = rw (length-take (rowOf look) (drop (houseStart rate look) house), length-drop (houseStart rate look) house, table-length) (omega (arith, house-inside rate look f))
 
--- ---- a loop that copies a part of a list, an element a turn: the lists agree on the elements passed
-module _ (into table : List Float) (from i : ℕ) where
-  pub copied-more : i < length into → from + i < length table → take i into ≡ take i (drop from table) → take (i + 1) (set into i (getD table (from + i) nan)) ≡ take (i + 1) (drop from table)
-  copied-more p q h = rw (add-one i, take-suc-set into i (getD table (from + i) nan) p, take-suc (drop from table) i nan (within q), getD-drop from table i nan, h)
-    where
-      within : from + i < length table → i < length (drop from table)
-      within q = rw (length-drop from table) (omega arith)
+-- ---- a loop that copies a part of a list, an element a turn
+pub part-more : (into table : List Float) (from i : ℕ) → i < length into → from + i < length table → take i into ≡ take i (drop from table)
+    → take (i + 1) (set into i (getD table (from + i) nan)) ≡ take (i + 1) (drop from table)
+part-more into table from i p q h = rw (← getD-drop from table i nan) (copied-more into (drop from table) i nan p (rw (length-drop from table) (omega arith)) h)
 
 -- all passed
-pub copied-all : (into old table : List Float) (from i : ℕ) → length into ≡ length old → i ≤ length old → length into ≤ i → take i into ≡ take i (drop from table) → into ≡ take (length old) (drop from table)
-copied-all into old table from i e m p h =
+pub part-all : (into old table : List Float) (from i : ℕ) → length into ≡ length old → i ≤ length old → length into ≤ i → take i into ≡ take i (drop from table) → into ≡ take (length old) (drop from table)
+part-all into old table from i e m p h =
     let n : i ≡ length old = omega arith in
     sym (take-all i into p) ∙ h ∙ ap (λ (k : ℕ). take k (drop from table)) n

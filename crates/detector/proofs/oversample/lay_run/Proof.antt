@@ -7,7 +7,7 @@ use borrow.Author.Needs.{needs}
 use lib.ListN.{length, take, length-set, length-map}
 use denote.Ref.{now}
 use Rattle.arithmetic.specs.Sanitize.{finiteOrZero}
-use Rattle.detector.proofs.Copy.{copied-all}
+use Rattle.arithmetic.proofs.Copy.{copied-all}
 use Rattle.detector.proofs.Line.{laid-more}
 use Rattle.detector.proofs.oversample.lay_run.Statement.{statement}
 use Rattle.detector.proofs.oversample.lay_run.Tie as tie

@@ -1,6 +1,6 @@
 -- `answer_all`: at each turn the answers passed are those of the run.
 use Rattle.detector.proofs.Line.{answers-length, answer-more, first-answers}
-use Rattle.detector.proofs.Copy.{copied-all}
+use Rattle.arithmetic.proofs.Copy.{copied-all}
 use Rattle.detector.specs.Oversample.{largestOf}
 use Rattle.detector.specs.Sums.{sumsBy, answersOf}
 use denote.Ref.{now}

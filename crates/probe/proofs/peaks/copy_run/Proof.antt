@@ -6,7 +6,7 @@ use borrow.Author.Needs.{needs}
 use lib.ListN.{length, take, length-set}
 use lib.Ieee.{nan}
 use denote.Ref.{now}
-use Rattle.detector.proofs.Copy.{copied-more, copied-all}
+use Rattle.arithmetic.proofs.Copy.{copied-more, copied-all}
 use Rattle.probe.proofs.peaks.copy_run.Statement.{statement}
 use Rattle.probe.proofs.peaks.copy_run.Tie as tie
 

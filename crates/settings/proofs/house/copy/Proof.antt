@@ -3,7 +3,7 @@ use mathlib.Core.Path.{_≡_, refl, _∙_}
 use Prim.Native.Nat.{_-_, _≤_}
 use native.Mathlib.Omega.{arith}
 use lib.ListN.{length, take, drop, length-set}
-use Rattle.settings.proofs.Stretches.{copied-more, copied-all}
+use Rattle.settings.proofs.Stretches.{part-more, part-all}
 use Rattle.settings.proofs.house.copy.Statement.{statement}
 use Rattle.settings.proofs.house.copy.Tie as tie
 
@@ -41,7 +41,7 @@ loop-again : tie.Need-loop-again Inv-loop μ-loop
 loop-again c =
     let l = c .before .before .loop in
     let s = c .before .before .before in
-    (length-set (l .into) (l .i) _ ∙ l .inv .0, omega arith, copied-more (l .into) (s .args .table .now) (s .args .from) (l .i) (omega arith) (omega (arith, s .pre, l .inv .0)) (l .inv .2))
+    (length-set (l .into) (l .i) _ ∙ l .inv .0, omega arith, part-more (l .into) (s .args .table .now) (s .args .from) (l .i) (omega arith) (omega (arith, s .pre, l .inv .0)) (l .inv .2))
 
 same-length : tie.Need-same-length Inv-loop μ-loop
 same-length c = c .before .loop .inv .0
@@ -50,7 +50,7 @@ returns : tie.Need-returns Inv-loop μ-loop
 returns c =
     let l = c .before .loop in
     let s = c .before .before in
-    copied-all (l .into) (s .args .into .now) (s .args .table .now) (s .args .from) (l .i) (l .inv .0) (l .inv .1) (omega (arith, c .loop-test .left)) (l .inv .2)
+    part-all (l .into) (s .args .into .now) (s .args .table .now) (s .args .from) (l .i) (l .inv .0) (l .inv .1) (omega (arith, c .loop-test .left)) (l .inv .2)
 
 pub copy-spec : {M : Type 1} → statement M
 copy-spec =
