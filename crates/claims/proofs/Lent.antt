@@ -1,13 +1,14 @@
 -- The stores of the starred rows fit, and their weights are accepted.
 use Prim.Native.Nat.{ℕ, _+_, _*_}
 use mathlib.Core.Path.{_≡_, refl}
-use mathlib.Core.Bool.{Bool, true, false, _&&_}
+use mathlib.Core.Bool.{true}
 use mathlib.Core.List.{List, [], _∷_}
 use lib.Dec.{eqb}
 use lib.ListN.{length, length-replicate}
 use lib.Ieee.{Float, ofBits, lt, le}
 use borrow.Author.Tests.{eq-eqb}
 use Rattle.arithmetic.specs.Number.{one}
+use Rattle.arithmetic.proofs.Order.{and-yes}
 use Rattle.settings.specs.Derived.{rowOf}
 use Rattle.settings.specs.Weights.{accepted}
 use Rattle.settings.specs.House.{houseStart, houseFits, houseOf}
@@ -28,10 +29,6 @@ unfolding accepted tent ofBits lt le
 tent-accepted = refl
 
 -- ---- lengths: but for the weights they fit
-and-true-is : (b : Bool) → (b && true) ≡ b
-and-true-is true = refl
-and-true-is false = refl
-
 pub lent-lengths : (channels look : ℕ) (weights : List Float) (x : Float) (mark : ℕ) → lengthsFit channels look (lengthsOf (lent channels look weights x mark)) ≡ eqb (length weights) (rowOf look)
 lent-lengths channels look weights x mark =
     rw (
@@ -44,8 +41,8 @@ lent-lengths channels look weights x mark =
       eq-eqb (look + 1) (look + 1) refl,
       eq-eqb (rowOf look) (rowOf look) refl,
       eq-eqb (channels * 12) (channels * 12) refl,
-      and-true-is (eqb (length weights) (rowOf look)),
-    ) (and-true-is (eqb (length weights) (rowOf look)))
+      and-yes (eqb (length weights) (rowOf look)),
+    ) (and-yes (eqb (length weights) (rowOf look)))
 
 -- ---- neither 29, 16 nor 17: 48,000, stereo, no house table asked for
 none-refused : (look : ℕ) (weights : List Float) (x : Float) (mark : ℕ) → length weights ≡ rowOf look → accepted weights ≡ true

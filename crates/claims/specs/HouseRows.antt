@@ -1,33 +1,33 @@
 -- Rows on document 02's Change 6, as the starred rows of document 01 are written. That all of them hold is one claim: `housed`, proofs/HouseRows.antt.
 use Prim.Native.Nat.{ℕ, _+_}
 use mathlib.Core.Path.{_≡_}
-use mathlib.Core.Bool.{true, false}
+use mathlib.Core.Bool.{true}
 use mathlib.Core.List.{List, [], _∷_}
 use lib.ListN.{length, replicate}
 use lib.Ieee.{Float, nan}
 use Rattle.arithmetic.specs.Number.{bits}
 use Rattle.arithmetic.specs.Reply.{finished, numbered}
-use Rattle.settings.specs.Settings.{settingsOf, processSpec, defaults}
+use Rattle.settings.specs.Settings.{processSpec, defaults}
 use Rattle.settings.specs.Derived.{rowOf}
 use Rattle.settings.specs.Weights.{accepted}
 use Rattle.settings.specs.House.{Stretch, stretches, houseOf}
 use Rattle.settings.specs.declared.LimiterSettings.{LimiterSettings}
+use Rattle.settings.specs.declared.ProcessSpec.{ProcessSpec}
 use Rattle.settings.specs.declared.memory.Cap.{Cap}
 use Rattle.limiter.specs.Stores.{Stores}
 use Rattle.driver.specs.Calls.{Left, setupOf}
-use Rattle.claims.specs.Rows.{lent}
+use Rattle.claims.specs.Rows.{stereo, looking, lent}
 
 -- 1.52 ms: look 73 at 48,000
 abbrev pub ms1·52 : Float
 ms1·52 = bits 0x3ff8_51eb_851e_b852
 
--- the defaults, of another lookahead
-abbrev pub looking : Float → LimiterSettings
-looking ms = settingsOf (defaults .«threshold_db») (defaults .«true_peak_margin_db») ms (defaults .«release_ms»)
-
 -- a setup that asks for a house table, stereo, a largest block of 512
+abbrev pub asked : ℕ → ProcessSpec
+asked rate = processSpec rate 2 512 Cap.Unlimited true
+
 abbrev pub asking : LimiterSettings → ℕ → Stores → Left
-asking s rate stores = setupOf s (processSpec rate 2 512 Cap.Unlimited true) stores
+asking s rate stores = setupOf s (asked rate) stores
 
 -- of each stretch
 abbrev pub Each : (Stretch → Type 0) → List Stretch → Type 0
@@ -56,4 +56,4 @@ pub record HouseRows : Type 0 where
   -- a store one too short gives 16 where 29 does not arise; where it does, `none-fits`
   pub too-short : (x : Float) (mark : ℕ) → Each (TooShort x mark) stretches
   -- asked for nothing, a store full of NaN gives 17
-  pub not-asked : (x : Float) (mark : ℕ) → setupOf defaults (processSpec 48000 2 512 Cap.Unlimited false) (lent 2 72 (replicate 61 nan) x mark) .reply ≡ numbered 17
+  pub not-asked : (x : Float) (mark : ℕ) → setupOf defaults (stereo Cap.Unlimited) (lent 2 72 (replicate 61 nan) x mark) .reply ≡ numbered 17

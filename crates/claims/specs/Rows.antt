@@ -15,6 +15,7 @@ use Rattle.settings.specs.Settings.{settingsOf, processSpec, defaults}
 use Rattle.settings.specs.Derived.{lookOf, rowOf}
 use Rattle.settings.specs.Memory.{needed}
 use Rattle.settings.specs.House.{houseOf}
+use Rattle.settings.specs.declared.LimiterSettings.{LimiterSettings}
 use Rattle.settings.specs.declared.memory.Cap.{Cap}
 use Rattle.settings.specs.declared.ProcessSpec.{ProcessSpec}
 use Rattle.limiter.specs.Stores.{Stores, storesAt, lengthsOf}
@@ -44,8 +45,11 @@ stereo cap = processSpec 48000 2 512 cap false
 abbrev pub cappedAt : ℕ → Stores → Reply
 cappedAt cap stores = Calls.setupOf defaults (stereo (Cap.Bytes cap)) stores .reply
 
+abbrev pub looking : Float → LimiterSettings
+looking ms = settingsOf (defaults .«threshold_db») (defaults .«true_peak_margin_db») ms (defaults .«release_ms»)
+
 abbrev pub lookingAt : Float → Stores → Reply
-lookingAt ms stores = Calls.setupOf (settingsOf (defaults .«threshold_db») (defaults .«true_peak_margin_db») ms (defaults .«release_ms»)) (stereo Cap.Unlimited) stores .reply
+lookingAt ms stores = Calls.setupOf (looking ms) (stereo Cap.Unlimited) stores .reply
 
 -- stores of the right lengths with these weights, all else in them any one value and any one mark
 abbrev pub lent : ℕ → ℕ → List Float → Float → ℕ → Stores

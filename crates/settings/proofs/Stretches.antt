@@ -16,10 +16,14 @@ use Rattle.settings.specs.Weights.{accepted}
 use Rattle.settings.specs.HouseTable.{house, at44100, at48000, at96000, at192000}
 use Rattle.settings.specs.House.{Stretch, stretches, houseEnd, startIn, houseStart, houseFits, houseOf}
 
--- each stretch passes a test of where it begins and of its look
-abbrev all : (ℕ → ℕ → Bool) → List Stretch → Bool
+-- each stretch passes a test
+abbrev pub all : (Stretch → Bool) → List Stretch → Bool
 all test [] = true
-all test (s ∷ ss) = test (s .start) (s .look) && all test ss
+all test (s ∷ ss) = test s && all test ss
+
+-- of where it begins and of its look
+abbrev placed : (ℕ → ℕ → Bool) → Stretch → Bool
+placed test s = test (s .start) (s .look)
 
 -- the first stretch, or what the others have
 first-or : (test : ℕ → ℕ → Bool) (s : Stretch) (rate look rest : ℕ) → test (s .start) (s .look) ≡ true → ((rest ≡ houseEnd → ⊥) → test rest look ≡ true) → (b : Bool)
@@ -27,14 +31,14 @@ first-or : (test : ℕ → ℕ → Bool) (s : Stretch) (rate look rest : ℕ) �
 first-or test s rate look rest h later true e n = subst (λ (k : ℕ). test (s .start) k ≡ true) (sym (eqb-true look (s .look) (and-true (eqb rate (s .rate)) (eqb look (s .look)) e .1))) h
 first-or test s rate look rest h later false e n = later n
 
-carried : (test : ℕ → ℕ → Bool) (ss : List Stretch) → all test ss ≡ true → (rate look : ℕ) → (startIn ss rate look ≡ houseEnd → ⊥) → test (startIn ss rate look) look ≡ true
+carried : (test : ℕ → ℕ → Bool) (ss : List Stretch) → all (placed test) ss ≡ true → (rate look : ℕ) → (startIn ss rate look ≡ houseEnd → ⊥) → test (startIn ss rate look) look ≡ true
 carried test [] h rate look n = absurd (n refl)
 carried test (s ∷ ss) h rate look n =
-    let t = and-true (test (s .start) (s .look)) (all test ss) h in
+    let t = and-true (test (s .start) (s .look)) (all (placed test) ss) h in
     first-or test s rate look (startIn ss rate look) (t .0) (carried test ss (t .1) rate look) (eqb rate (s .rate) && eqb look (s .look)) refl n
 
 -- a test of the four, at a rate and look that fit one of them
-pub at-stretch : (test : ℕ → ℕ → Bool) → all test stretches ≡ true → (rate look : ℕ) → houseFits rate look ≡ true → test (houseStart rate look) look ≡ true
+pub at-stretch : (test : ℕ → ℕ → Bool) → all (placed test) stretches ≡ true → (rate look : ℕ) → houseFits rate look ≡ true → test (houseStart rate look) look ≡ true
 unfolding houseStart
 at-stretch test h rate look f = carried test stretches h rate look (eqb-false (houseStart rate look) houseEnd (not-true (eqb (houseStart rate look) houseEnd) f))
 
@@ -42,7 +46,7 @@ at-stretch test h rate look f = carried test stretches h rate look (eqb-false (h
 abbrev ruled : ℕ → ℕ → Bool
 ruled start look = accepted (take (rowOf look) (drop start house))
 
-all-ruled : all ruled stretches ≡ true
+all-ruled : all (placed ruled) stretches ≡ true
 unfolding accepted house at44100 at48000 at96000 at192000 ofBits lt le
 all-ruled = refl
 
