@@ -57,12 +57,13 @@ int main(int argc, char **argv) {
     double *row = calloc(l, 8), *detector = calloc(CHANNELS * 12, 8);
     uint64_t *marks = calloc(look + 1, 8);
 
-    /* -1 dB, 0.1 dB margin, 1.5 ms, release 50 ms; no cap; the house weights, since this rate and look have some: setup
-     * fills them in (for others daggeryuzu.h has a formula) */
-    const uint32_t capped = 0, house = 1;
+    /* -1 dB, 0.1 dB margin, 1.5 ms, release 50 ms; both channels count (with 5.1, 1 << 3 would leave the bass out); no
+     * cap; the house weights, since this rate and look have some: setup fills them in (for others daggeryuzu.h has a
+     * formula) */
+    const uint32_t left_out = 0, capped = 0, house = 1;
     uint32_t number = daggeryuzu_setup(state, sizeof state, answer, DAGGERYUZU_ANSWER, bits(-1.0), bits(0.1), bits(1.5),
-        bits(50.0), RATE, CHANNELS, BLOCK, capped, 0, house, delay, CHANNELS * look, marks, look + 1, minima, look + 1,
-        weights, l, row, l, detector, CHANNELS * 12);
+        bits(50.0), left_out, RATE, CHANNELS, BLOCK, capped, 0, house, delay, CHANNELS * look, marks, look + 1, minima,
+        look + 1, weights, l, row, l, detector, CHANNELS * 12);
     block audio;
     uint8_t *bytes = (uint8_t *)&audio;
     const size_t len = is_float ? sizeof audio.f32 : sizeof audio.f64;

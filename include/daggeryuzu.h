@@ -27,6 +27,13 @@
  * (i and L - 1 - i, from 0) are more than 4096 apart. The weights themselves rise strictly from place 0 to (L - 1) / 2,
  * rounded down. A refused setup leaves them as they were, and every other call only reads them.
  *
+ * Every channel counts in the peaks that the gain is made from, unless setup is told to leave it out: left_out is 0, or
+ * has the bit 2^c for each channel c that is left out. Such a channel is held back and scaled by the gain that the others
+ * ask for, in blocks and drains, and its detector's store goes on; its own peaks ask for nothing. IT IS NOT KEPT BELOW
+ * THE TARGET: a host that leaves one out tells whoever encodes or plays it. Where no channel counts nothing is limited.
+ * This is part of what is set up: the state carries it, and a reset keeps it. Bits at and past the number of channels
+ * mean nothing, and those from 2^8 on are not kept.
+ *
  * Audio is planar: channel c holds frames c * frames onward; a sample is 8 bytes, or 4 in the functions that end
  * in _float, low byte first. audio_len is channels * frames * 8 bytes, * 4 in _float; any other is refusal 20 of a block
  * or drain.
@@ -44,10 +51,10 @@
  *
  * Events are three words each: offset into the block, parameter id, bits of the value.
  *
- * A finished block tells where its highest peak sat. A frame's peak is the largest, over the channels, of the sample's
- * magnitude, 0.0 where it is not finite, and the detector's answer. The frame told, counted from 0 in the block, is the
- * first whose peak is the block's highest:
- *   DAGGERYUZU_PEAK_NONE                             no frames, or no peak above 0.0
+ * A finished block tells where its highest peak sat. A frame's peak is the largest, over the channels that count, of the
+ * sample's magnitude, 0.0 where it is not finite, and the detector's answer. The frame told, counted from 0 in the block,
+ * is the first whose peak is the block's highest; a channel that is left out is never told, however high it is:
+ *   DAGGERYUZU_PEAK_NONE                             no frames, no channel that counts, or no peak above 0.0
  *   DAGGERYUZU_PEAK_ON_SAMPLE, frame, channel        a sample is that high; the lowest channel that has one
  *   DAGGERYUZU_PEAK_BETWEEN, frame, channel, phase   no sample is; the lowest channel whose detector is, and the first
  *                                                    of its phases, 0 to 3, that is
@@ -83,13 +90,13 @@ uint64_t daggeryuzu_bytes_needed(size_t channels, size_t look);
 /* 1 where there is a house table of weights for this rate and look, else 0 */
 uint32_t daggeryuzu_has_house_weights(uint32_t rate, size_t look);
 
-/* refusals 1 to 15, 29, 16, 17, in this order; 16 for the state's length too; settings as bits of f64; capped 0: no
- * limit; house 0: the weights are read, any other: they are filled from the house table of the rate and look, and there
- * is no 17 */
+/* refusals 1 to 15, 29, 16, 17, in this order; 16 for the state's length too; settings as bits of f64, and left_out as
+ * above, which is never refused; capped 0: no limit; house 0: the weights are read, any other: they are filled from the
+ * house table of the rate and look, and there is no 17 */
 uint32_t daggeryuzu_setup(
     uint8_t *state, size_t state_len, uint64_t *answer, size_t answer_len,
     uint64_t threshold_db_bits, uint64_t true_peak_margin_db_bits, uint64_t lookahead_ms_bits, uint64_t release_ms_bits,
-    uint32_t rate, size_t channels, size_t max_block, uint32_t capped, uint64_t cap, uint32_t house,
+    uint32_t left_out, uint32_t rate, size_t channels, size_t max_block, uint32_t capped, uint64_t cap, uint32_t house,
     double *delay, size_t delay_len, uint64_t *marks, size_t marks_len, double *minima, size_t minima_len,
     double *weights, size_t weights_len, double *row, size_t row_len, double *detector, size_t detector_len);
 

@@ -16,6 +16,8 @@ pub struct Setup {
     pub lookahead_ms: f64,
     /// Channels.
     pub channels: usize,
+    /// So many of the last ones do not count in ours; the Rust counts all.
+    pub left_out: usize,
     /// Frames in a block.
     pub block: usize,
 }
@@ -24,6 +26,8 @@ impl Setup {
     /// The same, as ours takes it.
     pub fn of_ours(&self) -> (daggeryuzu::LimiterSettings, daggeryuzu::ProcessSpec) {
         let settings = daggeryuzu::LimiterSettings::default().lookahead_ms(self.lookahead_ms);
+        let left_out = self.channels - self.left_out..self.channels;
+        let settings = left_out.fold(settings, |s, channel| s.leave_out(channel));
         let spec = daggeryuzu::ProcessSpec {
             sample_rate: self.rate,
             channels: self.channels,

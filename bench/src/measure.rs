@@ -27,6 +27,9 @@ pub struct Case {
     pub look: usize,
     /// Channels.
     pub channels: usize,
+    /// So many of the last ones do not count in ours. The Rust, which counts all, is fed
+    /// silence there: the gain is the same.
+    pub left_out: usize,
     /// Frames in a block.
     pub block: usize,
     /// Whether a block is asked where its highest peak sat, which the Rust does not tell.
@@ -43,6 +46,7 @@ impl Default for Case {
             rate: 48_000,
             look: 72,
             channels: 2,
+            left_out: 0,
             block: 512,
             asked: false,
             way: Way::Wrapper,
@@ -62,8 +66,14 @@ impl Case {
             rate: self.rate,
             lookahead_ms: self.lookahead_ms(),
             channels: self.channels,
+            left_out: self.left_out,
             block: self.block,
         }
+    }
+
+    /// Samples of a block in the channels that count, which come first.
+    fn counted(&self) -> usize {
+        (self.channels - self.left_out) * self.block
     }
 }
 
@@ -130,15 +140,16 @@ pub fn measure(case: &Case, effort: &Effort) -> Result<Measured, String> {
 
 /// Times a case of one sample type. The first round warms both up and is not
 /// counted; every round starts with buffers that are filled, and ends with the
-/// outputs compared.
+/// outputs compared, those of the channels that count.
 fn measure_as<T: Sample>(case: &Case, effort: &Effort) -> Result<Measured, String> {
     let setup = case.setup();
     let source: Vec<Vec<T>> = blocks(case.level, case.channels, case.block, frames(case, effort));
+    let silenced = silenced(&source, case.counted());
     let frames = (source.len() * case.block) as f64;
     let (mut ours, mut theirs) = (Ours::new(&setup)?, Theirs::new(&setup)?);
     let mut rounds = Vec::new();
     for round in 0..=effort.rounds {
-        let (mut a, mut b) = (source.clone(), source.clone());
+        let (mut a, mut b) = (source.clone(), silenced.clone());
         let (mut our_time, mut their_time) = (0.0, 0.0);
         // By turns within a round, so that what disturbs one disturbs both.
         let turn = turn(case.block);
@@ -146,7 +157,7 @@ fn measure_as<T: Sample>(case: &Case, effort: &Effort) -> Result<Measured, Strin
             our_time += ours.run(x, case.channels, case.asked)?;
             their_time += theirs.run(y, case.channels);
         }
-        if !same(&a, &b) {
+        if !same(&counted(a, case), &counted(b, case)) {
             return Err(format!("the outputs differ in round {round} of {case:?}"));
         }
         if round > 0 {
@@ -154,6 +165,23 @@ fn measure_as<T: Sample>(case: &Case, effort: &Effort) -> Result<Measured, Strin
         }
     }
     Ok(Measured::of(&rounds))
+}
+
+/// Blocks with silence from the sample `counted` on.
+fn silenced<T: Sample>(blocks: &[Vec<T>], counted: usize) -> Vec<Vec<T>> {
+    let mut silenced = blocks.to_vec();
+    for block in &mut silenced {
+        block[counted..].fill(T::of_bits(0));
+    }
+    silenced
+}
+
+/// Blocks cut to the channels that count.
+fn counted<T: Sample>(mut blocks: Vec<Vec<T>>, case: &Case) -> Vec<Vec<T>> {
+    for block in &mut blocks {
+        block.truncate(case.counted());
+    }
+    blocks
 }
 
 /// Frames of a round. A long attack row costs much a frame while the gain moves:
@@ -218,6 +246,43 @@ mod tests {
     #[test]
     fn a_turn_has_a_block_at_least() {
         assert_eq!([1, 512, 65_536].map(turn), [4096, 8, 1]);
+    }
+
+    /// The Rust beside silence where ours leaves channels out.
+    #[test]
+    fn with_channels_left_out_the_others_are_the_same() {
+        let effort = Effort {
+            seconds: 0.05,
+            rounds: 1,
+        };
+        for sample in [SampleType::F64, SampleType::F32] {
+            for left_out in [0, 1, 5] {
+                let case = Case {
+                    sample,
+                    channels: 6,
+                    left_out,
+                    ..Case::default()
+                };
+                let (settings, _) = case.setup().of_ours();
+                assert_eq!(settings.left_out().count_ones() as usize, left_out);
+                assert_eq!(settings.counts[5], left_out == 0);
+                measure(&case, &effort).expect("measured");
+            }
+        }
+    }
+
+    #[test]
+    fn what_is_left_out_is_silenced_and_not_compared() {
+        let case = Case {
+            channels: 3,
+            left_out: 1,
+            block: 2,
+            ..Case::default()
+        };
+        let blocks = vec![vec![1.0, 2.0, 3.0, 4.0, 5.0, 6.0]];
+        let silenced = silenced(&blocks, case.counted());
+        assert_eq!(silenced, [[1.0, 2.0, 3.0, 4.0, 0.0, 0.0]]);
+        assert_eq!(counted(blocks, &case), [[1.0, 2.0, 3.0, 4.0]]);
     }
 
     #[test]

@@ -74,6 +74,10 @@ fn all() -> Vec<Table> {
             [1, 2, 4, 8].map(|channels| row(channels, Case { channels, ..usual })),
         ),
         beside_rust(
+            "channels left out of 6, loud, the Rust with silence there",
+            [0, 1, 5].map(|left_out| row(left_out, leaving_out(left_out))),
+        ),
+        beside_rust(
             "frames in a block, loud",
             LENGTHS.map(|block| row(block, Case { block, ..usual })),
         ),
@@ -191,6 +195,15 @@ fn at(level: Level, case: Case) -> Case {
     Case { level, ..case }
 }
 
+/// Six channels, of which so many of the last ones do not count.
+fn leaving_out(left_out: usize) -> Case {
+    Case {
+        channels: 6,
+        left_out,
+        ..Case::default()
+    }
+}
+
 /// The same, each block asked where its highest peak sat.
 fn asked(case: Case) -> Case {
     Case {
@@ -279,6 +292,21 @@ mod tests {
             let says = table.title.contains("asked");
             assert!(table.rows.iter().all(|row| row.case.asked == says));
         }
+    }
+
+    #[test]
+    fn channels_are_left_out_in_one_table_alone() {
+        let tables = chosen(&["left out".into()]).expect("rows");
+        let [table] = tables.as_slice() else {
+            panic!("{tables:?}");
+        };
+        for row in &table.rows {
+            assert_eq!((row.case.channels, row.case.level), (6, Loud));
+            assert_eq!(row.case.left_out.to_string(), row.name);
+        }
+        let elsewhere = all().into_iter().filter(|t| t.title != table.title);
+        let mut rows = elsewhere.flat_map(|table| table.rows);
+        assert!(rows.all(|row| row.case.left_out == 0));
     }
 
     #[test]

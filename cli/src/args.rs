@@ -6,6 +6,7 @@ use std::path::PathBuf;
 use daggeryuzu::LimiterSettings;
 
 use crate::failure::Failure;
+use crate::left_out::{self, Named};
 
 /// What `--help` prints.
 pub const HELP: &str = "\
@@ -19,6 +20,7 @@ daggeryuzu limits the peaks of a sound file, on its samples and between them.
   --margin DB       margin below it, 0 to 30 (0.1)
   --lookahead MS    how far it looks ahead, 11 to 4,096 frames (1.5)
   --release MS      release time, 0 or 0.01 to 10,000 (50)
+  --leave-out WHICH channels whose peaks do not count, as LFE or 4,5 (none)
   --block FRAMES    frames at a time, 1 to 65,536 (4096)
   --dry-run         write no sound
   --report FILE     write the report as JSON
@@ -27,6 +29,12 @@ daggeryuzu limits the peaks of a sound file, on its samples and between them.
 
 OUTPUT has INPUT's format, rate, sample type, length and alignment, and appears
 whole or not at all. INPUT is never changed.
+
+WHICH is one channel, or more with commas, and the option may be given again: by
+number, the first being 1, or by place, where INPUT tells the places: FL FR FC
+LFE BL BR FLC FRC BC SL SR TC TFL TFC TFR TBL TBC TBR. A channel that is left out
+gets the gain of the others, and nothing keeps it below the ceiling. One at least
+has to count.
 ";
 
 /// What is asked for.
@@ -51,6 +59,8 @@ pub struct Job {
     pub output: Option<PathBuf>,
     /// The limiter's settings.
     pub settings: LimiterSettings,
+    /// The channels that do not count.
+    pub leave_out: Vec<Named>,
     /// Frames at a time.
     pub block: usize,
     /// Where the JSON goes.
@@ -68,6 +78,7 @@ pub fn parse(words: impl IntoIterator<Item = OsString>) -> Result<Command, Failu
     let mut paths: Vec<PathBuf> = Vec::new();
     let mut settings = LimiterSettings::default();
     let (mut block, mut dry_run, mut report, mut plot) = (4096, false, None, None);
+    let mut leave_out = Vec::new();
     while let Some(word) = words.next() {
         let Some(option) = word.to_str().filter(|w| w.starts_with('-') && w.len() > 1) else {
             paths.push(word.into());
@@ -86,6 +97,7 @@ pub fn parse(words: impl IntoIterator<Item = OsString>) -> Result<Command, Failu
             "--margin" => settings.true_peak_margin_db = number(name, value()?)?,
             "--lookahead" => settings.lookahead_ms = number(name, value()?)?,
             "--release" => settings.release_ms = number(name, value()?)?,
+            "--leave-out" => leave_out.extend(channels(name, value()?)?),
             "--block" => block = frames(name, value()?)?,
             "--report" => report = Some(value()?.into()),
             "--plot" => plot = Some(value()?.into()),
@@ -116,10 +128,17 @@ pub fn parse(words: impl IntoIterator<Item = OsString>) -> Result<Command, Failu
         input,
         output: output.filter(|_| !dry_run),
         settings,
+        leave_out,
         block,
         report,
         plot,
     }))
+}
+
+fn channels(name: &str, value: OsString) -> Result<Vec<Named>, Failure> {
+    let words = value.to_string_lossy();
+    let read = left_out::named(&words);
+    read.map_err(|line| Failure::usage(format!("{name} needs {line}")))
 }
 
 fn number(name: &str, value: OsString) -> Result<f64, Failure> {
@@ -164,6 +183,23 @@ mod tests {
     }
 
     #[test]
+    fn channels_to_leave_out_add_up() {
+        let named = |words| left_out::named(words).expect(words);
+        for (line, due) in [
+            ("a b", vec![]),
+            ("--leave-out LFE a b", named("LFE")),
+            ("--leave-out=lfe,2 a b", named("LFE,2")),
+            ("--leave-out lfe a --leave-out 2 b", named("LFE,2")),
+        ] {
+            let Ok(Command::Limit(job)) = read(line) else {
+                panic!("not read: {line}");
+            };
+            assert_eq!(job.leave_out, due, "{line}");
+            assert_eq!(job.settings, LimiterSettings::default());
+        }
+    }
+
+    #[test]
     fn a_dry_run_has_no_output() {
         for line in ["--dry-run a.wav", "a.wav b.wav --dry-run"] {
             let Ok(Command::Limit(job)) = read(line) else {
@@ -183,6 +219,12 @@ mod tests {
             ("--threshold", "needs a value"),
             ("--threshold x a b", "needs a number"),
             ("--block 0 a b", "above 0"),
+            (
+                "--leave-out bass a b",
+                "--leave-out needs a number from 1 to 8",
+            ),
+            ("--leave-out 9 a b", "or a place (FL FR "),
+            ("--leave-out", "needs a value"),
             ("--dry-run=yes a", "no option"),
             ("demo", "one file"),
         ] {

@@ -5,8 +5,8 @@ use daggeryuzu::{Limiter, PeakPlace, Refusal, Sample};
 use crate::detector::TAIL;
 use crate::meter::{Measured, Meter};
 
-/// The highest peak of a stream: its place is what the limiter told, its height what the
-/// meter read, for the limiter tells none.
+/// The highest peak of a stream, in a channel that counts: its place is what the limiter
+/// told, its height what the meter read, for the limiter tells none.
 #[derive(Clone, Copy, Debug, PartialEq)]
 pub struct Highest {
     /// As a factor of full scale.
@@ -42,13 +42,13 @@ pub struct Input {
 }
 
 impl Input {
-    /// Before the first frame.
+    /// Before the first frame of these channels: whether each counts.
     #[must_use]
-    pub fn new(channels: usize) -> Self {
+    pub fn new(counts: &[bool]) -> Self {
         Self {
-            channels,
+            channels: counts.len(),
             position: 0,
-            meter: Meter::new(channels),
+            meter: Meter::new(counts),
             highest: None,
         }
     }
@@ -109,7 +109,7 @@ mod tests {
     use super::*;
 
     fn heard(peaks: &[(Option<PeakPlace>, f64)]) -> Option<Highest> {
-        let mut input = Input::new(1);
+        let mut input = Input::new(&[true]);
         for (place, height) in peaks {
             input.hear(*place, *height);
             input.position += 100;

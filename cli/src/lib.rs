@@ -8,6 +8,7 @@ pub mod failure;
 pub mod gains;
 pub mod input;
 pub mod interrupt;
+pub mod left_out;
 pub mod limit;
 pub mod meter;
 pub mod place;

@@ -17,7 +17,7 @@ use crate::sndfile::{Encoding, Reader, Sample};
 pub struct Outcome {
     /// What went in.
     pub input: Measured,
-    /// Its highest peak; silence has none.
+    /// Its highest peak in the channels that count; silence has none.
     pub highest: Option<Highest>,
     /// What came out, as the file holds it.
     pub output: Measured,
@@ -42,8 +42,8 @@ pub fn limit<T: Sample>(
 ) -> Result<Outcome, Failure> {
     let started = Instant::now();
     let (channels, silence) = (reader.format().channels, T::from_f64(0.0));
-    let mut input = Input::new(channels);
-    let mut out = Out::new(channels, limiter.latency(), reader.format().encoding);
+    let mut input = Input::new(limiter.counts());
+    let mut out = Out::new(limiter, reader.format().encoding);
     let mut samples = vec![silence; channels * block];
     loop {
         tick(input.position())?;
@@ -94,13 +94,13 @@ struct Out<T> {
 }
 
 impl<T: Sample> Out<T> {
-    fn new(channels: usize, late: usize, encoding: Encoding) -> Self {
+    fn new(limiter: &Limiter, encoding: Encoding) -> Self {
         Self {
-            channels,
-            late,
+            channels: limiter.counts().len(),
+            late: limiter.latency(),
             encoding,
             held: VecDeque::new(),
-            meter: Meter::new(channels),
+            meter: Meter::new(limiter.counts()),
             gains: Gains::default(),
         }
     }

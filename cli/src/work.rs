@@ -2,11 +2,12 @@
 
 use std::path::{Path, PathBuf};
 
-use daggeryuzu::{Limiter, ProcessSpec};
+use daggeryuzu::{Limiter, LimiterSettings, ProcessSpec};
 
 use crate::args::Job;
 use crate::failure::Failure;
 use crate::interrupt;
+use crate::left_out::{self, Channel};
 use crate::limit::{limit, refused, Outcome};
 use crate::place::{same, Pending};
 use crate::progress::Progress;
@@ -28,8 +29,9 @@ pub fn run(job: &Job) -> Result<Report, Failure> {
         max_block: job.block,
         max_memory: None,
     };
+    let (settings, left_out) = settled(job, &reader)?;
     let mut limiter =
-        Limiter::prepare(job.settings, spec).map_err(|e| Failure::at(&job.input, refused(e)))?;
+        Limiter::prepare(settings, spec).map_err(|e| Failure::at(&job.input, refused(e)))?;
     let (look, house_weights) = (limiter.latency(), limiter.has_house_weights());
     let mut sound = job.output.as_deref().map(|p| Sound::start(p, &reader));
     let mut sound = sound.take().transpose()?;
@@ -45,7 +47,8 @@ pub fn run(job: &Job) -> Result<Report, Failure> {
         input: job.input.clone(),
         output: job.output.clone(),
         format,
-        settings: job.settings,
+        settings,
+        left_out,
         look,
         house_weights,
         outcome,
@@ -68,6 +71,15 @@ pub fn run(job: &Job) -> Result<Report, Failure> {
     interrupt::check()?;
     files.into_iter().try_for_each(Pending::publish)?;
     Ok(report)
+}
+
+/// The limiter's settings for a file, and the channels that they leave out.
+fn settled(job: &Job, reader: &Reader) -> Result<(LimiterSettings, Vec<Channel>), Failure> {
+    let left_out = left_out::channels(&job.leave_out, &reader.places());
+    let left_out = left_out.map_err(|line| Failure::at(&job.input, line))?;
+    let channels = left_out.iter();
+    let settings = channels.fold(job.settings, |s, channel| s.leave_out(channel.index));
+    Ok((settings, left_out))
 }
 
 /// Limits the file as samples of one type, and shows how far it is.

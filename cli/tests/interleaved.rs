@@ -6,51 +6,8 @@ mod common;
 use std::fs;
 
 use common::*;
-use daggeryuzu::{Limiter, LimiterSettings, ProcessSpec};
+use daggeryuzu::LimiterSettings;
 use daggeryuzu_cli::sndfile::{Format, Sample};
-
-/// Frames that go through the limiter here at a time; the program has others.
-const BLOCK: usize = 1013;
-
-/// Channel after channel.
-fn planar<T: Copy>(samples: &[T], channels: usize) -> Vec<T> {
-    let frames = samples.len() / channels;
-    (0..samples.len())
-        .map(|at| samples[at % frames * channels + at / frames])
-        .collect()
-}
-
-/// Frame after frame.
-fn interleaved<T: Copy>(planes: &[T], channels: usize) -> Vec<T> {
-    let frames = planes.len() / channels;
-    (0..planes.len())
-        .map(|at| planes[at % channels * frames + at / channels])
-        .collect()
-}
-
-/// Through the limiter at its defaults: the latency cut off, the tail drained.
-fn limited<T: Sample>(samples: &[T], channels: usize) -> Vec<T> {
-    let spec = ProcessSpec {
-        sample_rate: 48_000,
-        channels,
-        max_block: BLOCK,
-        max_memory: None,
-    };
-    let mut limiter = Limiter::prepare(LimiterSettings::default(), spec).expect("set up");
-    let mut out = Vec::new();
-    for (n, block) in samples.chunks(channels * BLOCK).enumerate() {
-        let mut planes = planar(block, channels);
-        let position = (n * BLOCK) as u64;
-        limiter
-            .process(position, &mut planes, &[])
-            .expect("a block");
-        out.extend(interleaved(&planes, channels));
-    }
-    let mut tail = vec![T::from_f64(7.0); channels * limiter.latency()];
-    limiter.flush(&mut tail).expect("a drain");
-    out.extend(interleaved(&tail, channels));
-    out.split_off(channels * limiter.latency())
-}
 
 /// Noise, quiet and then too loud, with samples in it that the limiter takes for 0, and
 /// one that is just too high for that.
@@ -76,7 +33,8 @@ fn beside<T: Sample>(number: i32, channels: usize, frames: usize, block: usize) 
     write(&input, format, &audio(frames, channels));
     succeeds(&["--block", &block.to_string(), text(&input), text(&output)]);
     let (had, has) = (read_as::<T>(&input).1, read_as::<T>(&output).1);
-    let due = limited(&had, channels).into_iter().map(T::to_f64);
+    let due = limited(LimiterSettings::default(), &had, channels);
+    let due = due.into_iter().map(T::to_f64);
     let due = due.map(|x| format.encoding.round(x).to_bits());
     assert_eq!(had.len(), channels * frames);
     assert!(

@@ -30,6 +30,7 @@ fn limit<T: Sample>() -> Result<(), Refusal> {
         max_block: BLOCK,
         max_memory: None,
     };
+    // both channels count; with 5.1, `.leave_out(3)` would leave the bass out
     let mut limiter = Limiter::prepare(LimiterSettings::default(), spec)?;
     let (mut top_in, mut top_out, mut place) = (0.0_f64, 0.0_f64, None);
     for at in (0..u64::from(RATE)).step_by(BLOCK) {

@@ -21,6 +21,10 @@
 //! Files hold frame after frame: [`Limiter::deinterleave`] before a block and
 //! [`Limiter::interleave`] after it, and after a drain, rearrange the audio in place.
 //!
+//! Every channel counts in the peak that the gain is made from, unless the settings leave
+//! it out ([`LimiterSettings::leave_out`]), as for a bass channel under which voices are
+//! not to duck. It is then scaled like the others, and **not kept below the target**.
+//!
 //! The weights of the attack are the proved code's own, a house table, for 1.5 ms at
 //! 44,100, 48,000, 96,000 and 192,000; others the wrapper computes ([`Limiter::prepare`]).
 
@@ -38,7 +42,7 @@ pub use interleaving::{deinterleave, interleave};
 pub use peak_place::PeakPlace;
 pub use refusal::Refusal;
 pub use sample::Sample;
-pub use settings::{LimiterSettings, ProcessSpec};
+pub use settings::{LimiterSettings, ProcessSpec, MOST_CHANNELS};
 
 use stores::Stores;
 use sys::{ANSWER, STATE};
@@ -72,6 +76,7 @@ pub struct Limiter {
     state: [u8; STATE],
     stores: Stores,
     spec: ProcessSpec,
+    counts: [bool; MOST_CHANNELS],
     events: Vec<u64>,
 }
 
@@ -89,6 +94,7 @@ impl Limiter {
             state: [0; STATE],
             stores: Stores::new(spec.sample_rate, spec.channels, look),
             spec,
+            counts: settings.counts,
             events: Vec::new(),
         };
         let house = limiter.stores.house();
@@ -101,8 +107,9 @@ impl Limiter {
     /// Events are sorted by their offsets. A block of one sample type may
     /// follow one of the other.
     ///
-    /// The answer says where the highest linked peak sat; none where the block is
-    /// empty or has none above 0.0. The detector remembers eleven samples before it.
+    /// The answer says where the highest linked peak sat, in a channel that counts; none
+    /// where the block is empty or has none above 0.0. The detector remembers eleven
+    /// samples before it.
     /// [`process_audio`](Self::process_audio) does not ask for it.
     ///
     /// # Errors
@@ -206,7 +213,7 @@ impl Limiter {
         Ok(f64::from_bits(words[0]))
     }
 
-    /// Restores the starting values.
+    /// Restores the starting values; the settings stay, and so does which channels count.
     ///
     /// # Errors
     /// None arises here.
@@ -226,6 +233,13 @@ impl Limiter {
     #[must_use]
     pub fn has_house_weights(&self) -> bool {
         self.stores.house()
+    }
+
+    /// Whether each of its channels counts in the linked peak; one that does not is not kept
+    /// below the target.
+    #[must_use]
+    pub fn counts(&self) -> &[bool] {
+        &self.counts[..self.spec.channels]
     }
 
     /// Bytes of stores and bank, as document 01 counts them.

@@ -4,9 +4,9 @@ use crate::sys::{ANSWER, PEAK_BETWEEN, PEAK_ON_SAMPLE};
 
 /// Where the highest peak of a block sat.
 ///
-/// A frame's peak is the largest, over the channels, of the sample's magnitude (0.0
-/// where it is not finite) and the detector's answer. The place is in the first frame
-/// whose peak is the block's highest.
+/// A frame's peak is the largest, over the channels that count, of the sample's magnitude
+/// (0.0 where it is not finite) and the detector's answer. The place is in the first frame
+/// whose peak is the block's highest. A channel that is left out is never told.
 ///
 /// ```
 /// use daggeryuzu::{Limiter, LimiterSettings, PeakPlace, ProcessSpec};
@@ -44,7 +44,8 @@ pub enum PeakPlace {
 const LATE: f64 = 5.875;
 
 impl PeakPlace {
-    /// What a finished block told: none where it had no frames, or no peak above 0.0.
+    /// What a finished block told: none where it had no frames, no channel that counts, or
+    /// no peak above 0.0.
     pub(crate) fn told(words: [u64; ANSWER]) -> Option<Self> {
         let (frame, channel, phase) = (words[1] as usize, words[2] as usize, words[3] as usize);
         match words[0] {

@@ -1,5 +1,8 @@
 //! What a limiter is set up with.
 
+/// The most channels that a limiter has.
+pub const MOST_CHANNELS: usize = 8;
+
 /// The limiter's settings; each setter hands them back with one field changed.
 #[derive(Clone, Copy, Debug, PartialEq)]
 pub struct LimiterSettings {
@@ -11,6 +14,12 @@ pub struct LimiterSettings {
     pub lookahead_ms: f64,
     /// Release time in ms, 0 or 0.01 to 10,000.
     pub release_ms: f64,
+    /// Whether a channel counts in the linked peak, which the gain is made from; all do
+    /// by default. One that does not is left out: it is delayed and scaled by the gain of
+    /// the others, and **it is not kept below the target**, since nobody looks at its own
+    /// peaks. With none counted nothing is limited. Entries past the number of channels
+    /// mean nothing.
+    pub counts: [bool; MOST_CHANNELS],
 }
 
 impl Default for LimiterSettings {
@@ -20,6 +29,7 @@ impl Default for LimiterSettings {
             true_peak_margin_db: 0.1,
             lookahead_ms: 1.5,
             release_ms: 50.0,
+            counts: [true; MOST_CHANNELS],
         }
     }
 }
@@ -51,6 +61,40 @@ impl LimiterSettings {
     pub fn release_ms(mut self, ms: f64) -> Self {
         self.release_ms = ms;
         self
+    }
+
+    /// Sets which channels count.
+    #[must_use]
+    pub fn counts(mut self, counts: [bool; MOST_CHANNELS]) -> Self {
+        self.counts = counts;
+        self
+    }
+
+    /// Leaves one more channel out, counted from 0. It is not kept below the target: see
+    /// [`counts`](Self#structfield.counts). There is none past the eighth.
+    ///
+    /// ```
+    /// use daggeryuzu::LimiterSettings;
+    ///
+    /// // the bass channel of a 5.1 file: thunder does not duck the voices
+    /// let settings = LimiterSettings::default().leave_out(3);
+    /// let counts = [true, true, true, false, true, true, true, true];
+    /// assert_eq!(settings, LimiterSettings::default().counts(counts));
+    /// ```
+    #[must_use]
+    pub fn leave_out(mut self, channel: usize) -> Self {
+        if let Some(counts) = self.counts.get_mut(channel) {
+            *counts = false;
+        }
+        self
+    }
+
+    /// The channels that do not count, as the C function takes them: bit `c` for
+    /// channel `c`.
+    #[must_use]
+    pub fn left_out(&self) -> u32 {
+        let channels = self.counts.iter().enumerate();
+        channels.fold(0, |bits, (c, counts)| bits | u32::from(!counts) << c)
     }
 }
 

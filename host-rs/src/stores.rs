@@ -1,5 +1,6 @@
 //! The stores that are lent to each call.
 
+use crate::settings::MOST_CHANNELS;
 use crate::sys::{self, LentStores, SetupStores};
 
 /// Document 01's six stores.
@@ -15,16 +16,15 @@ pub(crate) struct Stores {
     house: bool,
 }
 
-/// The largest counts that setup takes: for others it refuses before it looks
-/// at a store, so none is made.
-const CHANNELS: usize = 8;
+/// The largest look that setup takes: for others, and for more than [`MOST_CHANNELS`],
+/// it refuses before it looks at a store, so none is made.
 const LOOK: u64 = 4096;
 
 impl Stores {
     /// Stores of exact lengths. The weights are computed as the Rust does, but for a rate
     /// and look with a house table, which setup is to fill in.
     pub(crate) fn new(rate: u32, channels: usize, look: u64) -> Self {
-        let channels = channels.min(CHANNELS);
+        let channels = channels.min(MOST_CHANNELS);
         let look = look.min(LOOK) as usize;
         let l = look.saturating_sub(11).max(1);
         let house = sys::has_house_weights(rate, look);

@@ -39,6 +39,7 @@ extern "C" {
         true_peak_margin_db: u64,
         lookahead_ms: u64,
         release_ms: u64,
+        left_out: u32,
         rate: u32,
         channels: usize,
         max_block: usize,
@@ -270,6 +271,22 @@ pub fn setup(
     house: bool,
     stores: SetupStores<'_>,
 ) -> u32 {
+    let left_out = settings.left_out();
+    setup_leaving_out(state, answer, settings, left_out, spec, house, stores)
+}
+
+/// [`setup`] with the channels that do not count told by bits, as the C function takes
+/// them, and not by the settings: bit `c` for channel `c`, and 0 where all count. Bits
+/// at and past the number of channels mean nothing.
+pub fn setup_leaving_out(
+    state: &mut [u8],
+    answer: &mut [u64],
+    settings: LimiterSettings,
+    left_out: u32,
+    spec: ProcessSpec,
+    house: bool,
+    stores: SetupStores<'_>,
+) -> u32 {
     // SAFETY: pointers and lengths are those of slices that are borrowed apart.
     unsafe {
         daggeryuzu_setup(
@@ -281,6 +298,7 @@ pub fn setup(
             settings.true_peak_margin_db.to_bits(),
             settings.lookahead_ms.to_bits(),
             settings.release_ms.to_bits(),
+            left_out,
             spec.sample_rate,
             spec.channels,
             spec.max_block,

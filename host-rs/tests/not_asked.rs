@@ -6,13 +6,17 @@ const CHANNELS: usize = 2;
 const FRAMES: usize = 200;
 
 fn limiter() -> Limiter {
+    set_up(LimiterSettings::default())
+}
+
+fn set_up(settings: LimiterSettings) -> Limiter {
     let spec = ProcessSpec {
         sample_rate: 48_000,
         channels: CHANNELS,
         max_block: FRAMES,
         max_memory: None,
     };
-    Limiter::prepare(LimiterSettings::default(), spec).expect("set up")
+    Limiter::prepare(settings, spec).expect("set up")
 }
 
 /// A block of noise, loud, quiet or silent by its number, with what is not finite in some.
@@ -60,8 +64,8 @@ fn whole(limiter: &Limiter) -> String {
 /// Sixteen blocks through a limiter that is asked and one that is not: after each the
 /// same audio, and the same state and stores. That the place is not looked for shows in
 /// nothing but the time (bench/README.md).
-fn the_same_audio<T: Sample>() {
-    let (mut asked, mut other) = (limiter(), limiter());
+fn the_same_audio<T: Sample>(settings: LimiterSettings) {
+    let (mut asked, mut other) = (set_up(settings), set_up(settings));
     let mut places = 0;
     for number in 0..16 {
         let position = (number * FRAMES) as u64;
@@ -79,8 +83,11 @@ fn the_same_audio<T: Sample>() {
 
 #[test]
 fn who_does_not_ask_gets_the_same_audio() {
-    the_same_audio::<f64>();
-    the_same_audio::<f32>();
+    let settings = LimiterSettings::default();
+    for settings in [settings, settings.leave_out(0), settings.leave_out(1)] {
+        the_same_audio::<f64>(settings);
+        the_same_audio::<f32>(settings);
+    }
 }
 
 /// A refused block tells its values to who does not ask for a place, and changes nothing.

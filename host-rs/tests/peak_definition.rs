@@ -1,5 +1,6 @@
 //! Where the highest peak sat, beside a plain reading of the definition: noise of many
-//! kinds, with few values so that peaks tie, in blocks, drains and resets by turns.
+//! kinds, with few values so that peaks tie, in blocks, drains and resets by turns. In
+//! half of the sessions all channels count, in the others some do.
 
 use daggeryuzu::{Limiter, LimiterSettings, PeakPlace, ProcessSpec, Sample};
 
@@ -22,13 +23,15 @@ fn taps() -> Vec<[f64; 12]> {
 struct Definition {
     taps: Vec<[f64; 12]>,
     remembered: Vec<[f64; 12]>,
+    counts: [bool; 8],
 }
 
 impl Definition {
-    fn new(channels: usize) -> Self {
+    fn new(channels: usize, counts: [bool; 8]) -> Self {
         Self {
             taps: taps(),
             remembered: vec![[0.0; 12]; channels],
+            counts,
         }
     }
 
@@ -52,10 +55,15 @@ impl Definition {
         for frame in 0..frames {
             let sample = |c: usize| Some(audio[c * frames + frame]).filter(|x| x.is_finite());
             let samples: Vec<f64> = (0..channels).map(|c| sample(c).unwrap_or(0.0)).collect();
-            let heard: Vec<Vec<f64>> = (0..channels).map(|c| self.push(c, samples[c])).collect();
-            let magnitudes: Vec<f64> = samples.iter().map(|x| x.abs()).collect();
-            let all = magnitudes.iter().chain(heard.iter().flatten());
+            let mut heard: Vec<Vec<f64>> =
+                (0..channels).map(|c| self.push(c, samples[c])).collect();
+            let mut magnitudes: Vec<f64> = samples.iter().map(|x| x.abs()).collect();
             // a NaN never wins
+            for left_out in (0..channels).filter(|c| !self.counts[*c]) {
+                magnitudes[left_out] = f64::NAN;
+                heard[left_out].fill(f64::NAN);
+            }
+            let all = magnitudes.iter().chain(heard.iter().flatten());
             let peak = all.fold(0.0, |most, x| x.max(most));
             if peak > highest.0 {
                 highest = (peak, place(frame, peak, &magnitudes, &heard));
@@ -122,7 +130,7 @@ struct Both {
 }
 
 impl Both {
-    fn new(channels: usize, position: u64) -> Self {
+    fn new(channels: usize, counts: [bool; 8], position: u64) -> Self {
         let spec = ProcessSpec {
             sample_rate: 48_000,
             channels,
@@ -130,8 +138,9 @@ impl Both {
             max_memory: None,
         };
         Self {
-            limiter: Limiter::prepare(LimiterSettings::default(), spec).expect("set up"),
-            definition: Definition::new(channels),
+            limiter: Limiter::prepare(LimiterSettings::default().counts(counts), spec)
+                .expect("set up"),
+            definition: Definition::new(channels, counts),
             channels,
             position,
         }
@@ -159,13 +168,17 @@ impl Both {
 
     fn reset(&mut self) {
         self.limiter.reset().expect("a reset");
-        self.definition = Definition::new(self.channels);
+        self.definition = Definition::new(self.channels, self.definition.counts);
     }
 }
 
 /// Calls by turns, mostly blocks: how many told a place on a sample, and between.
 fn beside<T: Sample>(channels: usize, dice: &mut Dice) -> [usize; 2] {
-    let mut both = Both::new(channels, dice.below(100) as u64);
+    let mut counts = [true; 8];
+    if dice.below(2) == 0 {
+        counts = counts.map(|_| dice.below(3) > 0);
+    }
+    let mut both = Both::new(channels, counts, dice.below(100) as u64);
     let mut places = [0; 2];
     for _ in 0..60 {
         let frames = [0, 1, 7, 32, BLOCK, dice.below(BLOCK)][dice.below(6)];

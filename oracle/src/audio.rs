@@ -1,5 +1,7 @@
 //! A call's audio: samples of one type, as the bytes that cross.
 
+use std::ops::Range;
+
 use crate::rng::Rng;
 use crate::sample::Sample;
 
@@ -144,6 +146,27 @@ impl Audio {
         }
     }
 
+    /// The sample of another audio's place, bit for bit.
+    pub fn copy(&mut self, at: usize, from: &Self, place: usize) {
+        assert_eq!(self.format, from.format, "audio of another type");
+        let size = self.format.size();
+        let bytes = &from.bytes[size * place..size * (place + 1)];
+        self.bytes[size * at..size * (at + 1)].copy_from_slice(bytes);
+    }
+
+    /// Some frames of planar audio.
+    pub fn part(&self, channels: usize, frames: Range<usize>) -> Self {
+        let (size, width) = (self.format.size(), self.len() / channels);
+        let plane = |channel: usize| {
+            let first = size * (channel * width + frames.start);
+            self.bytes[first..first + size * frames.len()].iter()
+        };
+        Self {
+            format: self.format,
+            bytes: (0..channels).flat_map(plane).copied().collect(),
+        }
+    }
+
     /// The bits of the sample at a place; a last one may be short of bytes.
     pub fn bits(&self, at: usize) -> u64 {
         let size = self.format.size();
@@ -179,6 +202,24 @@ mod tests {
         assert_eq!(wide.bytes, [0, 0, 0, 0, 0, 0, 0xf0, 0x3f]);
         assert_eq!(wide.planes::<f64>(1), [[1.0]]);
         assert_eq!(narrow.planes::<f32>(2), [[1.0], [-2.0]]);
+    }
+
+    #[test]
+    fn parts_are_planar_and_samples_keep_their_bits() {
+        let samples = [1.0, 2.0, 3.0, -0.0, f32::NAN, 6.0];
+        let audio = Audio::of(&samples);
+        let bits = |audio: &Audio| {
+            (0..audio.len())
+                .map(|at| audio.bits(at))
+                .collect::<Vec<_>>()
+        };
+        let due = |samples: &[f32]| bits(&Audio::of(samples));
+        assert_eq!(bits(&audio.part(2, 0..2)), due(&[1.0, 2.0, -0.0, f32::NAN]));
+        assert_eq!(bits(&audio.part(2, 2..3)), due(&[3.0, 6.0]));
+        assert_eq!(bits(&audio.part(2, 3..3)), due(&[]));
+        let mut other = Audio::of(&[7.0f32; 2]);
+        other.copy(1, &audio, 4);
+        assert_eq!(bits(&other), due(&[7.0, f32::NAN]));
     }
 
     /// 1 + 2^-24 lies between two f32, of which 1 is the even one.

@@ -27,7 +27,8 @@ pub fn call(lent: &mut Lent, call: &mut Call) -> u32 {
     match call {
         Call::Setup { setup, cap, house } => {
             let (settings, spec) = (settings(setup), spec(setup, *cap));
-            sys::setup(state, answer, settings, spec, *house, setup_stores(stores))
+            let (left_out, stores) = (setup.left_out, setup_stores(stores));
+            sys::setup_leaving_out(state, answer, settings, left_out, spec, *house, stores)
         }
         Call::Process {
             position,
@@ -73,12 +74,14 @@ fn number(lent: &mut Lent, number: u64) -> u32 {
     0
 }
 
+/// The settings but for the channels that count, which cross as any 32 bits.
 fn settings(setup: &Setup) -> LimiterSettings {
     LimiterSettings {
         threshold_db: setup.threshold,
         true_peak_margin_db: setup.margin,
         lookahead_ms: setup.lookahead,
         release_ms: setup.release,
+        ..LimiterSettings::default()
     }
 }
 

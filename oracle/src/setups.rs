@@ -28,7 +28,7 @@ const RATES: [u32; 16] = [
 /// Looks beside the ends of those that are taken.
 const LOOKS: [u64; 8] = [1, 9, 10, 11, 12, 4095, 4096, 4097];
 
-/// A random setup.
+/// A random setup in which all channels count.
 pub fn setup(rng: &mut Rng) -> Setup {
     let rate = rate(rng);
     Setup {
@@ -36,6 +36,7 @@ pub fn setup(rng: &mut Rng) -> Setup {
         margin: margin(rng),
         lookahead: lookahead(rate, rng),
         release: release(rng),
+        left_out: 0,
         rate,
         channels: count(8, rng),
         block: count(65_536, rng),

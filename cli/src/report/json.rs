@@ -5,10 +5,11 @@ use std::path::Path;
 
 use daggeryuzu::PeakPlace;
 
-use super::{peak, Report};
+use super::{left_out, peak, Report};
 use crate::gains::Least;
 use crate::input::Highest;
-use crate::meter::Measured;
+use crate::left_out::Channel;
+use crate::meter::Peaks;
 use crate::words::{clock, db};
 
 /// One object, one member to a line.
@@ -18,6 +19,7 @@ pub fn json(report: &Report) -> String {
     let settings = &report.settings;
     let least = outcome.gains.least().map(|l| least(report, l));
     let highest = outcome.highest.map(|p| highest(report, &p));
+    let left_out = report.left_out.iter().map(|c| left_out_one(report, *c));
     let members = [
         (
             "program",
@@ -41,8 +43,9 @@ pub fn json(report: &Report) -> String {
         ("look_frames", report.look.to_string()),
         ("weights", quoted(report.weights())),
         ("target_dbfs", number(Some(report.target_db()))),
-        ("in", peaks(&outcome.input)),
-        ("out", peaks(&outcome.output)),
+        ("in", peaks(outcome.input.peaks)),
+        ("out", peaks(outcome.output.peaks)),
+        ("left_out", list(left_out)),
         ("highest_peak", highest.unwrap_or("null".into())),
         ("least_gain", least.unwrap_or("null".into())),
         (
@@ -67,10 +70,24 @@ pub fn json(report: &Report) -> String {
     format!("{{\n{}\n}}\n", lines.join(",\n"))
 }
 
-fn peaks(measured: &Measured) -> String {
+fn peaks(peaks: Peaks) -> String {
     object(&[
-        ("sample_peak_dbfs", number(db(measured.peaks.sample))),
-        ("detector_peak_dbfs", number(db(measured.peaks.detector))),
+        ("sample_peak_dbfs", number(db(peaks.sample))),
+        ("detector_peak_dbfs", number(db(peaks.detector))),
+    ])
+}
+
+/// A channel that was left out, counted from 0, with its own peaks.
+fn left_out_one(report: &Report, channel: Channel) -> String {
+    let [input, output] = left_out::peaks(report, channel);
+    let place = channel.place.map(|place| quoted(place.name()));
+    let passes = left_out::above(report, channel).is_some();
+    object(&[
+        ("channel", channel.index.to_string()),
+        ("place", place.unwrap_or("null".into())),
+        ("in", peaks(input)),
+        ("out", peaks(output)),
+        ("passes_target", passes.to_string()),
     ])
 }
 
@@ -99,6 +116,10 @@ fn highest(report: &Report, highest: &Highest) -> String {
         ("where", quoted(peak::seat(highest.place))),
         ("phase", phase),
     ])
+}
+
+fn list(items: impl Iterator<Item = String>) -> String {
+    format!("[{}]", items.collect::<Vec<_>>().join(", "))
 }
 
 fn object(members: &[(&str, String)]) -> String {

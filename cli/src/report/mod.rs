@@ -1,6 +1,7 @@
 //! What is told at the end.
 
 mod json;
+mod left_out;
 mod peak;
 mod svg;
 mod text;
@@ -13,6 +14,7 @@ use std::path::PathBuf;
 
 use daggeryuzu::LimiterSettings;
 
+use crate::left_out::Channel;
 use crate::limit::Outcome;
 use crate::sndfile::Format;
 
@@ -27,6 +29,8 @@ pub struct Report {
     pub format: Format,
     /// The limiter's settings.
     pub settings: LimiterSettings,
+    /// The channels that it left out.
+    pub left_out: Vec<Channel>,
     /// Frames that it looks ahead.
     pub look: usize,
     /// Whether it ran on a house table of weights.

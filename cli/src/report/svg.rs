@@ -2,7 +2,7 @@
 
 use std::fmt::Write as _;
 
-use super::{peak, Report};
+use super::{left_out, peak, Report};
 use crate::input::Highest;
 use crate::series::Series;
 use crate::words::{clock, db, grouped, level};
@@ -93,7 +93,7 @@ impl Panel {
 pub fn svg(report: &Report) -> String {
     let outcome = &report.outcome;
     let frames = report.frames().max(1) as f64;
-    let loudest = db(outcome.input.peaks.detector.max(outcome.input.peaks.sample));
+    let loudest = db(outcome.input.peaks.higher());
     let least = outcome.gains.least().and_then(|l| db(l.gain));
     let levels = Panel {
         top: 92.0,
@@ -202,6 +202,7 @@ fn headings(svg: &mut String, report: &Report) {
         grouped(report.format.rate.into()),
         clock(report.frames(), report.format.rate)
     );
+    left_out_line(svg, report);
     for (i, (class, name)) in [("in", "peak in"), ("out", "peak out"), ("gain", "gain")]
         .iter()
         .enumerate()
@@ -214,6 +215,25 @@ fn headings(svg: &mut String, report: &Report) {
             x + 20.0
         );
     }
+}
+
+/// Which channels the panels do not show, since no target holds for them.
+fn left_out_line(svg: &mut String, report: &Report) {
+    if report.left_out.is_empty() {
+        return;
+    }
+    let most = report
+        .left_out
+        .iter()
+        .filter_map(|c| left_out::above(report, *c))
+        .reduce(f64::max);
+    let above = most.map(|db| format!("; up to {db:.2} dB above the target"));
+    let _ = writeln!(
+        svg,
+        "<text x='{LEFT}' y='85'>left out, peaks not drawn: {}{}</text>",
+        left_out::names(report),
+        above.unwrap_or_default()
+    );
 }
 
 /// Vertical lines through the panels, and the time below them.

@@ -2,7 +2,7 @@
 
 use std::fmt::Write as _;
 
-use super::{peak, Report};
+use super::{left_out, peak, Report};
 use crate::words::{clock, grouped, level};
 
 /// The lines for a reader.
@@ -44,11 +44,24 @@ pub fn text(report: &Report) -> String {
             report.weights()
         ),
     );
+    if !report.left_out.is_empty() {
+        let names = left_out::names(report);
+        line(
+            "left out",
+            format!("{names}; the next three lines are of the others"),
+        );
+    }
     let pair = |a, b| format!("{} dBFS in, {} dBFS out", level(a), level(b));
     line("sample peak", pair(input.sample, output.sample));
     line("detector peak", pair(input.detector, output.detector));
     let highest = outcome.highest.map(|p| peak::words(report, &p));
     line("highest peak", highest.unwrap_or("none".into()));
+    for channel in &report.left_out {
+        line(&channel.to_string(), left_out::words(report, *channel));
+    }
+    for told in left_out::passing(report) {
+        line("not limited", told);
+    }
     line(
         "least gain",
         match outcome.gains.least() {

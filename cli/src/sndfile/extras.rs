@@ -12,7 +12,7 @@ use super::handle::Handle;
 const TEXTS: [i32; 9] = [0x01, 0x02, 0x04, 0x05, 0x06, 0x07, 0x08, 0x09, 0x10];
 
 /// libsndfile's commands that read, with those that set the same.
-const CHANNEL_MAP: (i32, i32) = (0x1100, 0x1101);
+pub(super) const CHANNEL_MAP: (i32, i32) = (0x1100, 0x1101);
 const BROADCAST: (i32, i32) = (0x10F0, 0x10F1);
 const CUES: (i32, i32) = (0x10CE, 0x10CF);
 const CUE_COUNT: i32 = 0x10CD;

@@ -5,11 +5,13 @@ mod extras;
 mod format;
 mod handle;
 mod reader;
+mod speaker;
 mod whole;
 mod writer;
 
 pub use format::{Encoding, Format};
 pub use reader::Reader;
+pub use speaker::Speaker;
 pub use writer::Writer;
 
 /// A sample type that is read, limited and written.

@@ -3,9 +3,9 @@
 use std::fs::{self, File};
 use std::path::{Path, PathBuf};
 
-use super::extras::Extras;
+use super::extras::{Extras, CHANNEL_MAP};
 use super::handle::Handle;
-use super::{whole, Encoding, Format, Sample, STEP};
+use super::{whole, Encoding, Format, Sample, Speaker, STEP};
 use crate::failure::Failure;
 
 /// libsndfile's number of frames where a header does not say it.
@@ -70,6 +70,16 @@ impl Reader {
     #[must_use]
     pub fn path(&self) -> &Path {
         &self.path
+    }
+
+    /// The place of each channel, where the file tells it.
+    #[must_use]
+    pub fn places(&self) -> Vec<Option<Speaker>> {
+        let channels = self.format.channels;
+        match self.handle.get(CHANNEL_MAP.0, channels) {
+            Some(numbers) => numbers.into_iter().map(Speaker::numbered).collect(),
+            None => vec![None; channels],
+        }
     }
 
     /// Fills `to` with interleaved samples as far as there are any: the frames

@@ -7,6 +7,7 @@ use std::path::{Path, PathBuf};
 use std::process::{self, Command, Output};
 use std::sync::atomic::{AtomicU32, Ordering};
 
+use daggeryuzu::{Limiter, LimiterSettings, ProcessSpec};
 use daggeryuzu_cli::sndfile::{Format, Reader, Sample, Writer};
 
 pub const WAV: i32 = 0x01_0000;
@@ -157,4 +158,47 @@ pub fn swelling(frames: usize, channels: usize) -> Vec<f64> {
         .enumerate()
         .map(|(i, x)| loud(i) * x)
         .collect()
+}
+
+/// Frames that go through the limiter here at a time; the program has others.
+const BLOCK: usize = 1013;
+
+/// Channel after channel.
+pub fn planar<T: Copy>(samples: &[T], channels: usize) -> Vec<T> {
+    let frames = samples.len() / channels;
+    (0..samples.len())
+        .map(|at| samples[at % frames * channels + at / frames])
+        .collect()
+}
+
+/// Frame after frame.
+pub fn interleaved<T: Copy>(planes: &[T], channels: usize) -> Vec<T> {
+    let frames = planes.len() / channels;
+    (0..planes.len())
+        .map(|at| planes[at % channels * frames + at / channels])
+        .collect()
+}
+
+/// Interleaved audio through the limiter: the latency cut off, the tail drained.
+pub fn limited<T: Sample>(settings: LimiterSettings, samples: &[T], channels: usize) -> Vec<T> {
+    let spec = ProcessSpec {
+        sample_rate: 48_000,
+        channels,
+        max_block: BLOCK,
+        max_memory: None,
+    };
+    let mut limiter = Limiter::prepare(settings, spec).expect("set up");
+    let mut out = Vec::new();
+    for (n, block) in samples.chunks(channels * BLOCK).enumerate() {
+        let mut planes = planar(block, channels);
+        let position = (n * BLOCK) as u64;
+        limiter
+            .process(position, &mut planes, &[])
+            .expect("a block");
+        out.extend(interleaved(&planes, channels));
+    }
+    let mut tail = vec![T::from_f64(7.0); channels * limiter.latency()];
+    limiter.flush(&mut tail).expect("a drain");
+    out.extend(interleaved(&tail, channels));
+    out.split_off(channels * limiter.latency())
 }

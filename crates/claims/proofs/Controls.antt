@@ -1,4 +1,4 @@
--- The claim is false of each of the twenty-two limiters of specs/Controls.antt, and `GainClaim` of each of its three gain steps: a few calls after a start (`mono`, or `stereo` where the comment says so; ControlsStart), and the one place of the claim that two constants contradict.
+-- The claim is false of each of the twenty-five limiters of specs/Controls.antt, and `GainClaim` of each of its three gain steps: a few calls after a start (`mono`, or `stereo` or `besides` where the comment says so; ControlsStart), and the one place of the claim that two constants contradict.
 use Prim.Native.Nat.{ℕ}
 use mathlib.Core.Path.{refl, ap, sym}
 use mathlib.Core.Bool.{true}
@@ -21,8 +21,8 @@ use Rattle.claims.specs.Claim.{Claim}
 use Rattle.claims.specs.GainSteps.{GainClaim}
 use Rattle.claims.specs.Controls.{steppedBy, gainStepBy, frameBy, framesBy, renderedBy, storedFirst, lastWith, lastPlaceOf}
 use Rattle.claims.specs.Controls.{shortWindow, equalsStay, detectorStopped, rowKept, drainedKept, targetLost, noDelay, lateEvents, refusing, doneAtOnce, fullGain}
-use Rattle.claims.specs.Controls.{noGain, onlySilence, reversedWeights, firstLinked, releaseExchanged, tallyKept, dropInvented, stepInvents, ringInvented, ringHidden, stepForgets, stepForges, cutNotRounded, lastOfEquals}
-use Rattle.claims.proofs.ControlsStart.{calling, booking, after-mono, after-stereo, gains-after-mono}
+use Rattle.claims.specs.Controls.{noGain, onlySilence, reversedWeights, firstLinked, releaseExchanged, tallyKept, dropInvented, stepInvents, ringInvented, ringHidden, stepForgets, stepForges, cutNotRounded, lastOfEquals, blocksHearAll, drainsHearAll, choiceForgotten}
+use Rattle.claims.proofs.ControlsStart.{calling, booking, after-mono, after-stereo, after-besides, gains-after-mono}
 
 -- a value as a number: a count, or a float's bits
 abbrev valueBits : Value → ℕ
@@ -204,3 +204,25 @@ no-cut-off claim =
 pub no-last-of-equals : Claim lastOfEquals → ⊥
 unfolding calling booking lastWith lastPlaceOf
 no-last-of-equals claim = eqb-false 1 0 refl (ap (λ (r : Reply). valueAt 1 r) (after-mono lastOfEquals refl claim (block F64 0 2 [] (audioOf (oneBits ∷ oneBits ∷ [])) ∷ []) .0 .reply))
+
+-- 26, besides: 2 in the channel that is left out, silence in the other: the floor should be 1
+pub no-blocks-hear-all : Claim blocksHearAll → ⊥
+unfolding calling booking
+no-blocks-hear-all claim =
+    eqb-false 0x3fe0_0000_0000_0000 0x3ff0_0000_0000_0000 refl
+    (ap (λ (f : Float). toBits binary64 f) (after-besides blocksHearAll refl claim (block F64 0 1 [] (audioOf (0 ∷ twoBits ∷ [])) ∷ []) .0 .frames .0 .floor))
+
+-- 27, besides: twice 2 in the channel that is left out, then a drain. In its fifth frame that channel's detector finds a peak between the two; the floor should be 1.
+pub no-drains-hear-all : Claim drainsHearAll → ⊥
+unfolding calling booking
+no-drains-hear-all claim =
+    eqb-false 0x3fd9_f221_4b18_c69b 0x3ff0_0000_0000_0000 refl
+    (ap (λ (f : Float). toBits binary64 f)
+    (after-besides drainsHearAll refl claim (block F64 0 2 [] (audioOf (0 ∷ 0 ∷ twoBits ∷ twoBits ∷ [])) ∷ drain F64 5 (audioOf (replicate 10 0)) ∷ []) .1 .0 .frames .1 .1 .1 .1 .0 .floor))
+
+-- 28, besides: a reset, and then 2 in the channel that is left out: the floor should be 1
+pub no-choice-forgotten : Claim choiceForgotten → ⊥
+unfolding calling booking
+no-choice-forgotten claim =
+    eqb-false 0x3fe0_0000_0000_0000 0x3ff0_0000_0000_0000 refl
+    (ap (λ (f : Float). toBits binary64 f) (after-besides choiceForgotten refl claim (reset ∷ block F64 0 1 [] (audioOf (0 ∷ twoBits ∷ [])) ∷ []) .1 .0 .frames .0 .floor))

@@ -2,7 +2,7 @@
 -- `stereo`: look 14, two channels, three weights, release 50 ms.
 use Prim.Native.Nat.{ℕ, _+_, _*_}
 use mathlib.Core.Path.{_≡_, refl, ap, subst, _∙_}
-use mathlib.Core.Bool.{true, false}
+use mathlib.Core.Bool.{Bool, true, false}
 use mathlib.Core.List.{List, [], _∷_}
 use lib.ListN.{length, replicate}
 use lib.Ieee.{Float, ofBits, toBits, toUnsigned, lt, le, eq, ne, isNan, neg, add, sub, mul, div, ofInt}
@@ -22,7 +22,7 @@ use Rattle.envelope.specs.Mean.{meanOf}
 use Rattle.envelope.specs.Follow.{followed}
 use Rattle.envelope.specs.Step.{gainStepOf}
 use Rattle.settings.specs.Derived.{lookOf, coefficientOf}
-use Rattle.settings.specs.Settings.{settingsOf, processSpec}
+use Rattle.settings.specs.Settings.{settingsOf, allCount, processSpec}
 use Rattle.settings.specs.Target.{targetOf}
 use Rattle.settings.specs.Weights.{accepted}
 use Rattle.settings.specs.declared.LimiterSettings.{LimiterSettings}
@@ -40,7 +40,8 @@ use Rattle.bank.specs.Bank.{firstFault, declaredReply, slotsOf, setUpOf, allPre
 use Rattle.bank.specs.declared.param.Smoothing.the-variants.{Linear}
 use Rattle.bank.specs.declared.smoother.Smoother.{Smoother}
 use Rattle.bank.specs.declared.smoother_bank.SmootherBank.{SmootherBank}
-use Rattle.frame.specs.Rules.{tapsOf, countsIn, leavesBy}
+use Rattle.settings.specs.Counted.{countsIn}
+use Rattle.frame.specs.Rules.{tapsOf, leavesBy}
 use Rattle.frame.specs.Seat.{voicesFrom, betweenFrom, sampleFrom, seatOf}
 use Rattle.frame.specs.Place.{highestOf, firstWith, placeOf}
 use Rattle.frame.specs.Frame.{linkedFrom, delayedFrom, frameOf}
@@ -109,13 +110,14 @@ setting = ⊥
 pub record Start : Type 0 where
   pub lookahead : Float
   pub release : Float
+  pub counts : List Bool
   pub channels : ℕ
   pub weights : List Float
   pub look : ℕ
   pub coeff : Float
 
 abbrev pub settingsIn : Start → LimiterSettings
-settingsIn s = settingsOf Number.zero Number.zero (s .lookahead) (s .release)
+settingsIn s = settingsOf Number.zero Number.zero (s .lookahead) (s .release) (s .counts)
 
 abbrev pub specIn : Start → ProcessSpec
 specIn s = processSpec 8000 (s .channels) 64 Cap.Unlimited false
@@ -188,20 +190,33 @@ from s starts l same claim calls =
     (subst (λ (b : Book). Holds l 0 b (set-up .machine) calls) (starts .book)
     (claim .after-setup (settingsIn s) (specIn s) (storesIn s) (ap (λ (r : Left). r .reply .number) same ∙ starts .reply) calls))
 
--- ---- the two
+-- ---- the three
 -- 1.375 ms
 abbrev pub mono : Start
-mono = record { lookahead = bits 0x3ff6_0000_0000_0000; release = Number.zero; channels = 1; weights = one ∷ []; look = 11; coeff = one }
+mono = record { lookahead = bits 0x3ff6_0000_0000_0000; release = Number.zero; counts = allCount; channels = 1; weights = one ∷ []; look = 11; coeff = one }
 
 -- 1.75 ms, 50 ms; 0.25, 0.5, 0.25 + 2^-50: the ends differ, so that reading them in reverse shows
 abbrev pub stereo : Start
 stereo = record {
   lookahead = bits 0x3ffc_0000_0000_0000;
   release = bits 0x4049_0000_0000_0000;
+  counts = allCount;
   channels = 2;
   weights = bits 0x3fd0_0000_0000_0000 ∷ bits 0x3fe0_0000_0000_0000 ∷ bits 0x3fd0_0000_0000_0010 ∷ [];
   look = 14;
   coeff = bits 0x3f64_7454_f4a4_0900;
+}
+
+-- `mono` with a second channel, left out
+abbrev pub besides : Start
+besides = record {
+  lookahead = mono .lookahead;
+  release = mono .release;
+  counts = true ∷ false ∷ true ∷ true ∷ true ∷ true ∷ true ∷ true ∷ [];
+  channels = 2;
+  weights = mono .weights;
+  look = mono .look;
+  coeff = mono .coeff;
 }
 
 mono-starts : Starts mono
@@ -212,11 +227,18 @@ stereo-starts : Starts stereo
 unfolding setting
 stereo-starts = record { reply = refl; machine = refl; book = refl }
 
+besides-starts : Starts besides
+unfolding setting
+besides-starts = record { reply = refl; machine = refl; book = refl }
+
 pub after-mono : (l : Limiting) → SetsUp mono l → Claim l → (calls : List Call) → Holds l 0 (bookIn mono) (machineIn mono) calls
 after-mono = from mono mono-starts
 
 pub after-stereo : (l : Limiting) → SetsUp stereo l → Claim l → (calls : List Call) → Holds l 0 (bookIn stereo) (machineIn stereo) calls
 after-stereo = from stereo stereo-starts
+
+pub after-besides : (l : Limiting) → SetsUp besides l → Claim l → (calls : List Call) → Holds l 0 (bookIn besides) (machineIn besides) calls
+after-besides = from besides besides-starts
 
 -- any list of gains stepped after `mono`
 pub gains-after-mono : (step : GainStepping) → GainClaim step → (xs : List Float)

@@ -11,7 +11,7 @@ use Rattle.arithmetic.specs.Number
 use Rattle.arithmetic.specs.Number.{bits, one}
 use Rattle.arithmetic.specs.Reply.{Value, count, float, Reply}
 use Rattle.audio.specs.declared.format.Format.the-variants.{F64}
-use Rattle.settings.specs.Settings.{settingsOf, processSpec, defaults}
+use Rattle.settings.specs.Settings.{settingsOf, allCount, processSpec, defaults}
 use Rattle.settings.specs.Weights.{accepted}
 use Rattle.settings.specs.HouseTable.{house, at44100, at48000, at96000, at192000}
 use Rattle.settings.specs.House.{houseStart}
@@ -53,7 +53,7 @@ pub no-margin-first : Claim marginFirst → ⊥
 unfolding setting-up tabled
 no-margin-first claim =
     eqb-false 9 8 refl
-    (ap (λ (r : Reply). r .number) (claim .setup-answered (settingsOf Number.zero (bits 0xbff0_0000_0000_0000) one one) (processSpec 0 1 64 Cap.Unlimited false) no-stores))
+    (ap (λ (r : Reply). r .number) (claim .setup-answered (settingsOf Number.zero (bits 0xbff0_0000_0000_0000) one one allCount) (processSpec 0 1 64 Cap.Unlimited false) no-stores))
 
 -- 2: the starred row, a cap of 4,335: the cap left is 4,255
 pub no-whole-cap-told : Claim wholeCapTold → ⊥
@@ -99,14 +99,14 @@ pub no-lopsided-taken : Claim lopsidedTaken → ⊥
 unfolding setting-up tabled
 no-lopsided-taken claim =
     eqb-false 0 17 refl
-    (ap (λ (r : Reply). r .number) (claim .setup-answered (settingsOf Number.zero Number.zero (bits 0x3ffc_0000_0000_0000) Number.zero) (specIn mono) late))
+    (ap (λ (r : Reply). r .number) (claim .setup-answered (settingsOf Number.zero Number.zero (bits 0x3ffc_0000_0000_0000) Number.zero allCount) (specIn mono) late))
 
 -- 8: a house table asked for at 48,000, look 73 (1.52 ms), on no stores at all
 pub no-lengths-first : Claim lengthsFirst → ⊥
 unfolding setting-up tabled houseStart
 no-lengths-first claim =
     eqb-false 16 29 refl
-    (ap (λ (r : Reply). r .number) (claim .setup-answered (settingsOf Number.zero Number.zero ms1·52 Number.zero) (processSpec 48000 1 64 Cap.Unlimited true) no-stores))
+    (ap (λ (r : Reply). r .number) (claim .setup-answered (settingsOf Number.zero Number.zero ms1·52 Number.zero allCount) (processSpec 48000 1 64 Cap.Unlimited true) no-stores))
 
 -- 9: at 48,000, look 72: the first weight, of which the bits are compared
 pub no-house-late : Claim houseLate → ⊥

@@ -1,6 +1,6 @@
--- THE CONTROLS: twenty-two limiters of which the claim is false, and three gain steps of which `GainClaim` is false (proofs/Controls.antt). Each is `limiting`, or `gainStep`, but for the one place that its comment names.
+-- THE CONTROLS: twenty-five limiters of which the claim is false, and three gain steps of which `GainClaim` is false (proofs/Controls.antt). Each is `limiting`, or `gainStep`, but for the one place that its comment names.
 use Prim.Native.Nat.{ℕ, _+_, _-_, _*_, _/_, _^_}
-use mathlib.Core.Bool.{false, cond, _&&_}
+use mathlib.Core.Bool.{Bool, true, false, cond, _&&_}
 use mathlib.Core.List.{List, [], _∷_, _++_, map, reverse}
 use lib.Dec.{eqb}
 use lib.ListN.{length, take, drop, getD, set}
@@ -20,6 +20,7 @@ use Rattle.envelope.specs.declared.row.AttackRow.{AttackRow}
 use Rattle.envelope.specs.Mean.{meanOf}
 use Rattle.envelope.specs.Follow.{followed}
 use Rattle.envelope.specs.Step.{Enveloped, enveloped, GainStepped, gainStepped}
+use Rattle.settings.specs.Settings.{settingsOf, allCount}
 use Rattle.frame.specs.Rules.{Linking, Rules, linkingOf, rulesOf}
 use Rattle.frame.specs.Seat.{PeakAt, voicesFrom, peakAmong}
 use Rattle.frame.specs.Place.{Place, placeAt, noPlace, highestOf}
@@ -211,8 +212,8 @@ abbrev pub equalsStay : Limiting
 equalsStay = limitingBy (withBacks (λ gain ring. dropAbove gain ring))
 
 -- ---- 3: the detector stands still in a drain: its answer is not heard there, and its store is not shifted
-abbrev pub noneCounts : Rules → Rules
-noneCounts rules = record { linking = record { taps = rules .linking .taps; counts = λ (c : ℕ). false }; leaves = rules .leaves }
+abbrev pub countingBy : Bool → Rules → Rules
+countingBy b rules = record { linking = record { taps = rules .linking .taps; counts = λ (c : ℕ). b }; leaves = rules .leaves }
 
 abbrev pub withDetector : List Float → Machine → Machine
 withDetector detector m =
@@ -221,7 +222,7 @@ withDetector detector m =
 
 abbrev pub detectorStopped : Limiting
 detectorStopped = withDrains (λ format m frames bytes.
-    let o = drainBy (rendered (noneCounts (rulesOf (m .limiter .settings) format))) format m frames bytes in
+    let o = drainBy (rendered (countingBy false (rulesOf (m .limiter .settings) format))) format m frames bytes in
     leaving o (withDetector (m .stores .detector) (o .machine)))
 
 -- ---- 4: reset keeps the entry at the row's first place
@@ -411,3 +412,30 @@ abbrev pub lastOfEquals : Limiting
 lastOfEquals = withBlocks (λ format m position frames events bytes.
     let o = rightBlocks format m position frames events bytes in
     replying o (cond (eqb (o .reply .number) 0) (placeReply (lastPlaceOf (peaksOfFrames (o .frames)))) (o .reply)))
+
+-- ---- 26: a block hears every channel, also those that setup left out
+abbrev pub blocksHearAll : Limiting
+blocksHearAll = withBlocks (λ format m position frames events bytes. blockBy (rendered (countingBy true (rulesOf (m .limiter .settings) format))) format m position frames events bytes)
+
+-- ---- 27: a drain hears every channel
+abbrev pub drainsHearAll : Limiting
+drainsHearAll = withDrains (λ format m frames bytes. drainBy (rendered (countingBy true (rulesOf (m .limiter .settings) format))) format m frames bytes)
+
+-- ---- 28: reset forgets which channels count
+abbrev pub allCountAgain : Limiter → Limiter
+allCountAgain l = record {
+  settings = settingsOf (l .settings .«threshold_db») (l .settings .«true_peak_margin_db») (l .settings .«lookahead_ms») (l .settings .«release_ms») allCount;
+  rate = l .rate;
+  channels = l .channels;
+  «max_block» = l .«max_block»;
+  «release_coeff» = l .«release_coeff»;
+  env = l .env;
+  «delay_pos» = l .«delay_pos»;
+  target = l .target;
+  drained = l .drained;
+}
+
+abbrev pub choiceForgotten : Limiting
+choiceForgotten = withResets (λ m.
+    let r = resetOf m in
+    left (r .reply) (machineOf (allCountAgain (r .machine .limiter)) (r .machine .bank) (r .machine .stores)))

@@ -11,7 +11,7 @@ use Rattle.arithmetic.specs.Reply.{Reply, finished, refused, numbered, count, f
 use Rattle.audio.specs.declared.format.Format.the-variants.{F64}
 use Rattle.keeper.specs.Keeper.{setupOf}
 use Rattle.keeper.specs.History.{repliesAfter}
-use Rattle.settings.specs.Settings.{settingsOf, processSpec, defaults}
+use Rattle.settings.specs.Settings.{settingsOf, allCount, processSpec, defaults}
 use Rattle.settings.specs.Derived.{lookOf, rowOf}
 use Rattle.settings.specs.Memory.{needed}
 use Rattle.settings.specs.House.{houseOf}
@@ -46,7 +46,7 @@ abbrev pub cappedAt : ℕ → Stores → Reply
 cappedAt cap stores = Calls.setupOf defaults (stereo (Cap.Bytes cap)) stores .reply
 
 abbrev pub looking : Float → LimiterSettings
-looking ms = settingsOf (defaults .«threshold_db») (defaults .«true_peak_margin_db») ms (defaults .«release_ms»)
+looking ms = settingsOf (defaults .«threshold_db») (defaults .«true_peak_margin_db») ms (defaults .«release_ms») allCount
 
 abbrev pub lookingAt : Float → Stores → Reply
 lookingAt ms stores = Calls.setupOf (looking ms) (stereo Cap.Unlimited) stores .reply

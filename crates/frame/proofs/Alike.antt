@@ -1,4 +1,4 @@
--- Why a channel within the level for a ceiling may be left out of the linked peaks: they stay alike, and alike peaks need the same gain.
+-- Why a channel within the level for a ceiling may be passed over: the linked peaks stay alike, and alike peaks need the same gain.
 use mathlib.Core.Path.{_≡_, refl, sym, ap, _∙_, subst}
 use mathlib.Core.Logic.{_⊎_, inl, inr, ⊎-elim}
 use mathlib.Core.Bool.{Bool, true, false, not, cond}
@@ -23,7 +23,8 @@ use Rattle.detector.proofs.Store.{pushes-length}
 use Rattle.detector.proofs.Peak.{allUnsigned, abs-unsigned, answers-unsigned}
 use Rattle.detector.proofs.Level.{stays}
 use Rattle.settings.specs.declared.LimiterSettings.{LimiterSettings}
-use Rattle.frame.specs.Rules.{Linking, tapsOf, countsIn, linkingOf}
+use Rattle.settings.specs.Counted.{countsIn}
+use Rattle.frame.specs.Rules.{Linking, tapsOf, linkingOf}
 use Rattle.frame.specs.Frame.{requiredGain}
 use Rattle.frame.specs.Passes.{allFromZero, heardAll, Peaks, channelPeaks, peaksPass, requiredAll}
 use Rattle.frame.specs.Alike.{ceilingOf, Alike, AllAlike, none, some}
@@ -133,6 +134,18 @@ unfolding le
 zeros-alike ceiling zero = none
 zeros-alike ceiling (suc n) = some (record { same = inl refl; from-zero = (refl, refl); unsigned = (refl, refl) }) (zeros-alike ceiling n)
 
+alike-length : (ceiling : Float) (ps qs : List Float) → AllAlike ceiling ps qs → length ps ≡ length qs
+alike-length ceiling [] [] none = refl
+alike-length ceiling (p ∷ ps) (q ∷ qs) (some k ks) = ap suc (alike-length ceiling ps qs ks)
+
+-- a channel that does not count has no share
+heard-nothing : (ps xs answers : List Float) → length xs ≡ length ps → length answers ≡ length xs → heardAll false ps xs answers ≡ ps
+unfolding heardAll
+heard-nothing [] xs answers n m = refl
+heard-nothing (p ∷ ps) [] answers n m = absurd (omega arith)
+heard-nothing (p ∷ ps) (x ∷ xs) [] n m = absurd (omega arith)
+heard-nothing (p ∷ ps) (x ∷ xs) (a ∷ later) n m = ap (λ (l : List Float). p ∷ l) (heard-nothing ps xs later (suc-inj n) (suc-inj m))
+
 -- ---- one channel
 module _ (settings : LimiterSettings) (c : ℕ) (store samples peaks : List Float) where
   -- what `hear_or_pass` promises of the peaks that it leaves
@@ -140,17 +153,35 @@ module _ (settings : LimiterSettings) (c : ℕ) (store samples peaks : List Floa
   Shared level after =
       (ceiling : Float) (whole : List Float) → level ≡ levelOf ceiling → AllAlike ceiling peaks whole → AllAlike ceiling after (channelPeaks (linkingOf settings) c whole store samples .peaks)
 
-  -- a channel left out
-  pub left-out : (level : Float) → length samples ≡ length peaks → liesWithin store samples level ≡ true → Shared level peaks
-  unfolding channelPeaks tapsOf countsIn
-  left-out level n h ceiling whole f k =
+  -- what the definition makes of a channel, by whether it counts
+  shared-by : (k : Bool) → countsIn settings c ≡ k → (level : Float) (after : List Float)
+      → ((ceiling : Float) (whole : List Float) → level ≡ levelOf ceiling → AllAlike ceiling peaks whole → AllAlike ceiling after (heardAll k whole samples (pushesOf taps store samples .peaks)))
+      → Shared level after
+  unfolding channelPeaks tapsOf
+  shared-by k e level after f ceiling whole v a = subst (λ (b : Bool). AllAlike ceiling after (heardAll b whole samples (pushesOf taps store samples .peaks))) (sym e) (f ceiling whole v a)
+
+  -- a channel that does not count
+  pub left-out : (level : Float) → length samples ≡ length peaks → countsIn settings c ≡ false → Shared level peaks
+  left-out level n e =
+      shared-by false e level peaks
+      (λ ceiling whole v k. subst (AllAlike ceiling peaks) (sym (heard-nothing whole samples (pushesOf taps store samples .peaks) (n ∙ alike-length ceiling peaks whole k) (pushes-length taps store samples))) k)
+
+  -- a quiet channel passed over
+  pub passed-over : (level : Float) → length samples ≡ length peaks → countsIn settings c ≡ true → liesWithin store samples level ≡ true → Shared level peaks
+  passed-over level n e h =
+      shared-by true e level peaks
+      (λ ceiling whole f k.
       let b = stays ceiling store samples (ap (λ (z : Float). liesWithin store samples z) (sym f) ∙ h) in
-      one-hears ceiling peaks whole samples (pushesOf taps store samples .peaks) k (answers-unsigned taps store samples) n (pushes-length taps store samples) (b .heard) (b .answers)
+      one-hears ceiling peaks whole samples (pushesOf taps store samples .peaks) k (answers-unsigned taps store samples) n (pushes-length taps store samples) (b .heard) (b .answers))
 
   -- a channel heard
-  pub taken-in : (level : Float) (after : List Float) → after ≡ channelPeaks (linkingOf settings) c peaks store samples .peaks → Shared level after
-  unfolding channelPeaks tapsOf countsIn
-  taken-in level after e ceiling whole f k = rw e (both-hear ceiling peaks whole samples (pushesOf taps store samples .peaks) k (answers-unsigned taps store samples))
+  pub taken-in : (level : Float) (after : List Float) → countsIn settings c ≡ true → after ≡ channelPeaks (linkingOf settings) c peaks store samples .peaks → Shared level after
+  unfolding channelPeaks tapsOf
+  taken-in level after e h =
+      shared-by true e level after
+      (λ ceiling whole f k.
+      subst (λ (l : List Float). AllAlike ceiling l (heardAll true whole samples (pushesOf taps store samples .peaks))) (sym (h ∙ ap (λ (b : Bool). heardAll b peaks samples (pushesOf taps store samples .peaks)) e))
+      (both-hear ceiling peaks whole samples (pushesOf taps store samples .peaks) k (answers-unsigned taps store samples)))
 
 -- ---- the channels in turn
 -- the peaks at channel c are alike to peaks from which the rest makes the whole

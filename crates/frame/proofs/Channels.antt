@@ -1,6 +1,6 @@
 -- The turns of the loops over a run's channels: the stores of the channels passed, and what the rest comes to, stay the whole.
 use mathlib.Core.Path.{_≡_, refl, sym, ap, _∙_, subst}
-use mathlib.Core.Bool.{true}
+use mathlib.Core.Bool.{Bool, true}
 use mathlib.Core.List.{List, [], _++_, append-nil, append-assoc}
 use Prim.Native.Nat.{ℕ, suc, _+_, _-_, _*_, _≤_, _<_}
 use native.Mathlib.Numerals.{add-one}
@@ -13,7 +13,8 @@ use Rattle.detector.specs.Oversample.{remembered}
 use Rattle.detector.specs.Run.{runLength, pushesOf}
 use Rattle.detector.specs.Taps.{taps}
 use Rattle.settings.specs.declared.LimiterSettings.{LimiterSettings}
-use Rattle.frame.specs.Rules.{Linking, tapsOf, countsIn, linkingOf}
+use Rattle.settings.specs.Counted.{countsIn}
+use Rattle.frame.specs.Rules.{Linking, tapsOf, linkingOf}
 use Rattle.envelope.specs.Row.{posAfter}
 use Rattle.frame.specs.Passes.{heardAll, Peaks, peaksAt, channelPeaks, peaksPass, Outputs, outputsAt, Written, writtenAt, channelOutputs, outputsPass}
 
@@ -233,8 +234,8 @@ pub pos-turn : (look pos channels n c k1 k2 : ℕ) (delay audio : List Float) (n
 pos-turn look pos channels n c k1 k2 delay audio next h f g e1 e2 o =
     rw (part-length delay (c * look) look k1 (rw f (places-end c channels look h)) e1, part-length audio (c * runLength) n k2 g e2) at o
 
--- ---- one channel's peaks, from what the calls find: the table is `taps`, and every channel counts
-pub channel-heard : (settings : LimiterSettings) (c : ℕ) (store samples peaks heardPeaks answers : List Float) → answers ≡ pushesOf taps store samples .peaks → heardPeaks ≡ heardAll true peaks samples answers
+-- ---- the peaks of one channel that counts, from what the calls find: the table is `taps`
+pub channel-heard : (settings : LimiterSettings) (c : ℕ) (store samples peaks heardPeaks answers : List Float) → countsIn settings c ≡ true → answers ≡ pushesOf taps store samples .peaks → heardPeaks ≡ heardAll true peaks samples answers
     → (heardPeaks ≡ channelPeaks (linkingOf settings) c peaks store samples .peaks) × (answers ≡ pushesOf (tapsOf settings) store samples .peaks)
-unfolding channelPeaks tapsOf countsIn
-channel-heard settings c store samples peaks heardPeaks answers a h = (rw (h, a) refl, a)
+unfolding channelPeaks tapsOf
+channel-heard settings c store samples peaks heardPeaks answers k a h = (h ∙ ap (heardAll true peaks samples) a ∙ ap (λ (b : Bool). heardAll b peaks samples (pushesOf taps store samples .peaks)) (sym k), a)

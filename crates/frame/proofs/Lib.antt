@@ -14,4 +14,5 @@ pub mod Exchange
 pub mod Keeps
 pub mod Held
 pub mod Place
+pub mod Counted
 pub mod Wrong

@@ -1,10 +1,11 @@
 -- Inputs at which the wrong programs of ARCHITECTURE.md's table would answer otherwise: each row computes what the definition answers there, and its comment names the wrong program.
 use Prim.Native.Nat.{ℕ}
 use mathlib.Core.Path.{_≡_, refl}
-use mathlib.Core.Bool.{true}
+use mathlib.Core.Bool.{true, false, not}
 use mathlib.Core.List.{[], _∷_}
-use lib.ListN.{replicate}
-use lib.Ieee.{Float, round, add, sub, mul, div, lt, le, ne, eq, isNan, ofBits}
+use lib.Dec.{eqb}
+use lib.ListN.{getD, replicate}
+use lib.Ieee.{Float, nan, round, add, sub, mul, div, lt, le, ne, eq, isNan, ofBits}
 use Rattle.arithmetic.specs.Number
 use Rattle.arithmetic.specs.Number.{bits, one}
 use Rattle.arithmetic.specs.Sanitize.{flushDenormal}
@@ -35,6 +36,9 @@ half = bits 0x3fe0_0000_0000_0000
 
 abbrev two : Float
 two = bits 0x4000_0000_0000_0000
+
+abbrev four : Float
+four = bits 0x4010_0000_0000_0000
 
 -- ---- the required gain
 -- an infinity or a NaN let pass: target / 0 and 0 / 0
@@ -82,6 +86,19 @@ pub frame-stored : (framed .moving .pos ≡ 0) × (framed .moving .delay ≡ Num
 unfolding framed frameOf linkedFrom peakAbsOf detected shifted sumsOf largestFrom largestOf delayedFrom stepping div isNan
 frame-stored = (refl, refl)
 
+-- ---- Change 7: the same with channel 0 left out, samples 4 and 2
+abbrev without : Rules
+without = record { linking = record { taps = []; counts = λ (c : ℕ). not (eqb c 0) }; leaves = λ (x : Float). flushDenormal x }
+
+unfoldable pub leftOut : Framed
+leftOut = frameOf without (one ∷ []) one 2 one moving (four ∷ two ∷ [])
+
+-- the choice not asked, or read from the highest channel down: a gain of 0.25. The channel not scaled: 0.5 first. Its sample not kept for its line or its detector: 0 there
+pub frame-without :
+    (leftOut .gain ≡ half) × (leftOut .outputs ≡ quarter ∷ eighth ∷ []) × (leftOut .moving .delay ≡ Number.zero ∷ four ∷ Number.zero ∷ two ∷ []) × (getD (leftOut .moving .detector) 0 nan ≡ four)
+unfolding leftOut frameOf linkedFrom peakAbsOf detected shifted sumsOf largestFrom largestOf delayedFrom stepping div isNan
+frame-without = (refl, refl, refl, refl)
+
 -- ---- where the peak sat
 -- a channel's voice: its sample, its detector's answer and that one's phase
 abbrev voice : Float → Float → ℕ → Voice
@@ -96,6 +113,13 @@ sample-first = refl
 pub lowest-detector : seatOf one (voice half half 3 ∷ voice half one 2 ∷ voice half one 1 ∷ []) ≡ Seat.Between 1 2
 unfolding seatOf sampleFrom betweenFrom eq ofBits
 lowest-detector = refl
+
+-- a channel that does not count named, by its sample or by its detector
+pub counted-seats :
+    (seatOf one (record { counts = false; sample = one; answer = one; phase = Phase.At 0 } ∷ voice half one 1 ∷ voice one half 2 ∷ []) ≡ Seat.OnSample 2)
+    × (seatOf one (record { counts = false; sample = one; answer = one; phase = Phase.At 0 } ∷ voice half one 1 ∷ []) ≡ Seat.Between 1 1)
+unfolding seatOf sampleFrom betweenFrom eq ofBits
+counted-seats = (refl, refl)
 
 -- a place for a peak of 0.0
 pub silent-nowhere : seatOf Number.zero (voice Number.zero Number.zero 0 ∷ []) ≡ Seat.Nowhere

@@ -13,8 +13,8 @@ use Rattle.envelope.specs.Step.{Enveloped, gainStepOf}
 use Rattle.frame.specs.Rules.{Linking, Rules}
 use Rattle.frame.specs.Seat.{PeakAt, voicesFrom, peakAmong}
 
--- ---- "A frame's peak is the largest sanitized magnitude or detector answer over the channels"
--- one channel's share: the largest of the peak so far, the sanitized magnitude and the detector's answer
+-- ---- "A frame's peak is the largest sanitized magnitude or detector answer over the channels", since Change 7 over the counted ones
+-- one channel's share: the largest of the peak so far, the sanitized magnitude and the detector's answer; that of a channel that does not count is nothing
 abbrev pub heard : Bool → Float → Float → Float → Float
 heard counts peak x answer = cond counts (maxOf (maxOf peak (absOf (finiteOrZero x))) answer) peak
 
@@ -22,7 +22,7 @@ pub record Linked : Type 0 where
   pub peak : Float
   pub detector : List Float
 
--- from channel c on, with the peak so far; the detector's store has 12 places a channel
+-- from channel c on, with the peak so far; the detector's store has 12 places a channel, and goes on whether the channel counts or not
 unfoldable pub linkedFrom : Linking → ℕ → Float → List Float → List Float → Linked
 linkedFrom linking c peak detector [] = record { peak = peak; detector = detector }
 linkedFrom linking c peak detector (x ∷ xs) =

@@ -1,6 +1,6 @@
 -- What a frame is stated for: any table of taps, any choice of channels, any rule by which an output leaves. And which ones a limiter's settings and a call's sample type ask for.
 use Prim.Native.Nat.{ℕ}
-use mathlib.Core.Bool.{Bool, true}
+use mathlib.Core.Bool.{Bool}
 use mathlib.Core.List.{List}
 use lib.Ieee.{Float}
 use Rattle.arithmetic.specs.Sanitize.{flushDenormal}
@@ -8,6 +8,7 @@ use Rattle.arithmetic.specs.Narrow.{narrowed}
 use Rattle.audio.specs.declared.format.Format.{Format}
 use Rattle.audio.specs.declared.format.Format.the-variants.{F64, F32}
 use Rattle.detector.specs.Taps.{taps}
+use Rattle.settings.specs.Counted.{countsIn}
 use Rattle.settings.specs.declared.LimiterSettings.{LimiterSettings}
 
 -- what decides a frame's linked peak
@@ -26,15 +27,12 @@ pub record Rules : Type 0 where
 unfoldable pub tapsOf : LimiterSettings → List (List Float)
 tapsOf s = taps
 
--- "the largest sanitized magnitude or detector answer over the channels": every channel
-unfoldable pub countsIn : LimiterSettings → ℕ → Bool
-countsIn s c = true
-
 -- module 1's output rule: "an output below 1e-30 in magnitude becomes +0.0, minus zero included"; Change 1: "each output rounded to the nearest f32, ties to even, after small values became 0.0"
 unfoldable pub leavesBy : Format → Float → Float
 leavesBy F64 x = flushDenormal x
 leavesBy F32 x = narrowed (flushDenormal x)
 
+-- Change 7: "The definition of required gain speaks of counted channels only"
 abbrev pub linkingOf : LimiterSettings → Linking
 linkingOf s = record { taps = tapsOf s; counts = countsIn s }
 

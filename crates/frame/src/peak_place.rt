@@ -1,4 +1,4 @@
-// Where the highest linked peak of a block sat (Change 5). A run that has none above the highest so far is only
+// Where the highest linked peak of a block sat (Change 5), among the counted channels. A run that has none above the highest so far is only
 // looked through; the frame of a higher one is then heard once more, channel by channel.
 ghost use mathlib.Core.Path.{_≡_};
 ghost use mathlib.Core.List.{List};
@@ -19,6 +19,7 @@ use arithmetic::sanitize::finite_or_zero;
 use detector::answer::Phase;
 use detector::oversample::answer_at;
 use settings::LimiterSettings;
+use settings::counted::counts_in;
 
 // A peak that is the first of the highest, and its frame of a run.
 struct Top {
@@ -70,7 +71,7 @@ fn heard_by(channel: usize, phase: Phase) -> Seat
     }
 }
 
-// Of frame `at` of a run, the lowest channel whose detector answers the peak, and its phase.
+// Of frame `at` of a run, the lowest counted channel whose detector answers the peak, and its phase.
 fn between(
     settings: LimiterSettings,
     channels: usize,
@@ -93,7 +94,7 @@ fn between(
             &audio[c * 32..c * 32 + n],
             at,
         );
-        if answer.peak == peak {
+        if counts_in(settings, c) & (answer.peak == peak) {
             let phase = answer.phase;
             return heard_by(c, phase);
         }
@@ -122,7 +123,8 @@ fn seat_at(
         return Seat::Nowhere;
     }
     for c in 0..channels {
-        if abs(finite_or_zero(audio[c * 32 + at])) == peak {
+        let sample = abs(finite_or_zero(audio[c * 32 + at]));
+        if counts_in(settings, c) & (sample == peak) {
             return Seat::OnSample(c);
         }
     }

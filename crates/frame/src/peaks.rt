@@ -1,15 +1,16 @@
-// The peak of each frame of a run: the largest sanitized magnitude or detector answer over the channels. A
-// channel too quiet to be noticed is left out.
+// The peak of each frame of a run: the largest sanitized magnitude or detector answer over the counted channels. A
+// channel too quiet to be noticed is passed over.
 ghost use mathlib.Core.Path.{_≡_};
 ghost use mathlib.Core.Bool.{true};
 ghost use mathlib.Core.List.{List};
-ghost use Prim.Native.Nat.{_+_, _*_, _≤_};
+ghost use Prim.Native.Nat.{_+_, _*_, _≤_, _<_};
 ghost use lib.ListN.{length, replicate};
 ghost use lib.Ieee.{Float, le};
 ghost use Rattle.arithmetic.specs.Number.{zero};
 ghost use Rattle.detector.specs.Oversample.{remembered};
 ghost use Rattle.detector.specs.Run.{runLength, pushesOf};
 ghost use Rattle.detector.specs.Level.{levelOf};
+ghost use Rattle.settings.specs.Counted.{countsIn};
 ghost use Rattle.frame.specs.Rules.{tapsOf, linkingOf};
 ghost use Rattle.frame.specs.Frame.{heard};
 ghost use Rattle.frame.specs.Passes.{allFromZero, heardAll, channelPeaks, peaksPass};
@@ -20,6 +21,7 @@ use detector::oversample::remember;
 use detector::quiet::level_below;
 use detector::quiet::lies_within;
 use settings::LimiterSettings;
+use settings::counted::counts_in;
 
 // One channel's share in the peak of a frame. From a peak of 0 or more, three plain tests find it with
 // no magnitude and no question about a NaN.
@@ -56,7 +58,7 @@ fn hear_run(peaks: &mut [f64], samples: &[f64], answers: &[f64])
     }
 }
 
-// Channel c over a run: the detector's answers for its samples are left in `answers`, and their share goes into the
+// Channel c, which counts, over a run: the detector's answers for its samples are left in `answers`, and their share goes into the
 // peaks. The store stays as it is until `remember_all`.
 fn hear_channel(
     settings: LimiterSettings,
@@ -71,6 +73,7 @@ fn hear_channel(
     requires { ⌜ length (now answers) ≡ length (now samples) ⌝ }
     requires { ⌜ length (now samples) ≤ runLength ⌝ }
     requires { ⌜ allFromZero (now peaks) ≡ true ⌝ }
+    requires { ⌜ countsIn settings c ≡ true ⌝ }
     ensures { λ _. ⌜ now (peaks .exit)
         ≡ channelPeaks (linkingOf settings) c (now (peaks .entry)) (now (store .entry)) (now (samples .entry)) .peaks ⌝ }
     ensures { λ _. ⌜ now (answers .exit) ≡ pushesOf (tapsOf settings) (now (store .entry)) (now (samples .entry)) .peaks ⌝ }
@@ -92,6 +95,7 @@ fn channel_peaks(
     requires { ⌜ length (now samples) ≡ length (now peaks) ⌝ }
     requires { ⌜ length (now samples) ≤ runLength ⌝ }
     requires { ⌜ allFromZero (now peaks) ≡ true ⌝ }
+    requires { ⌜ countsIn settings c ≡ true ⌝ }
     ensures { λ _. ⌜ now (peaks .exit)
         ≡ channelPeaks (linkingOf settings) c (now (peaks .entry)) (now (store .entry)) (now (samples .entry)) .peaks ⌝ }
     ensures { λ _. ⌜ allFromZero (now (peaks .exit)) ≡ true ⌝ }
@@ -101,9 +105,9 @@ fn channel_peaks(
     hear_channel(settings, c, store, samples, peaks, &mut answers[0..n]);
 }
 
-// Channel c over a run. Where its samples lie within the level for a ceiling, they and the detector's
-// answers are at most the ceiling, or silent: a share that nobody notices who asks only for what is above it, so
-// that no sum is computed.
+// Channel c over a run. One that does not count has no share. Where its samples lie within the level for a ceiling,
+// they and the detector's answers are at most the ceiling, or silent: a share that nobody notices who asks only for
+// what is above it. Either way no sum is computed.
 fn hear_or_pass(
     settings: LimiterSettings,
     c: usize,
@@ -116,9 +120,13 @@ fn hear_or_pass(
     requires { ⌜ length (now samples) ≡ length (now peaks) ⌝ }
     requires { ⌜ length (now samples) ≤ runLength ⌝ }
     requires { ⌜ allFromZero (now peaks) ≡ true ⌝ }
+    requires { ⌜ c < 8 ⌝ }
     ensures { λ _. ⌜ ((ceiling : Float) (whole : List Float) → level ≡ levelOf ceiling → AllAlike ceiling (now (peaks .entry)) whole
         → AllAlike ceiling (now (peaks .exit)) (channelPeaks (linkingOf settings) c whole (now (store .entry)) (now (samples .entry)) .peaks)) ⌝ }
 {
+    if !counts_in(settings, c) {
+        return;
+    }
     if lies_within(store, samples, level) {
         return;
     }
@@ -158,7 +166,7 @@ pub fn all_peaks(
     }
 }
 
-// What the detector remembers of a run of n frames.
+// What the detector remembers of a run of n frames, for every channel, counted or not.
 pub fn remember_all(
     settings: LimiterSettings,
     channels: usize,

@@ -10,6 +10,7 @@ use borrow.Author.Tests.{eqb-true, eqb-false, eq-eqb}
 use Rattle.arithmetic.specs.Number.{bits}
 use Rattle.arithmetic.specs.Reply.{Reply, numbered}
 use Rattle.settings.specs.Settings.{settingsOf}
+use Rattle.settings.specs.Counted.{countsOf}
 use Rattle.settings.specs.House.{weightsFor}
 use Rattle.settings.specs.declared.LimiterSettings.{LimiterSettings}
 use Rattle.settings.specs.declared.ProcessSpec.{ProcessSpec}
@@ -220,9 +221,9 @@ host-claim = record {
   gain = gain-returns;
   call-handed-on = λ call answer state stores bytes. call-handed-on call answer state stores (read-storable state bytes);
   gain-handed-on = λ gain answer state stores bytes. gain-handed-on gain answer state stores (read-storable state bytes);
-  after-setup = λ threshold margin lookahead release spec answer state stores z made.
-      let s = settingsOf (bits threshold) (bits margin) (bits lookahead) (bits release) in
-      setup-holds s spec answer state stores (record { threshold = bits-fit threshold; margin = bits-fit margin; lookahead = bits-fit lookahead; release = bits-fit release }) z made;
+  after-setup = λ threshold margin lookahead release leftOut spec answer state stores z made.
+      let s = settingsOf (bits threshold) (bits margin) (bits lookahead) (bits release) (countsOf leftOut) in
+      setup-holds s spec answer state stores (record { threshold = bits-fit threshold; margin = bits-fit margin; lookahead = bits-fit lookahead; release = bits-fit release; counts = refl }) z made;
   after-refused = λ s spec answer state stores some. (
     refused-stores s spec answer state stores some,
     λ l.

@@ -10,7 +10,7 @@ use Rattle.arithmetic.specs.Number
 use Rattle.arithmetic.specs.Reply.{Reply}
 use Rattle.audio.specs.Bytes.{bytesOf, joined}
 use Rattle.audio.specs.declared.format.Format.the-variants.{F64}
-use Rattle.settings.specs.Settings.{settingsOf, processSpec, defaults}
+use Rattle.settings.specs.Settings.{settingsOf, allCount, processSpec, defaults}
 use Rattle.settings.specs.declared.LimiterSettings.{LimiterSettings}
 use Rattle.settings.specs.declared.ProcessSpec.{ProcessSpec}
 use Rattle.settings.specs.declared.memory.Cap.{Cap}
@@ -32,7 +32,7 @@ use Rattle.host_claims.specs.HostControls.{setupUntold, stateForgotten, 
 
 -- ---- a setup that is refused: a threshold that is not a number, so 4
 abbrev settings : LimiterSettings
-settings = settingsOf nan Number.zero Number.zero Number.zero
+settings = settingsOf nan Number.zero Number.zero Number.zero allCount
 
 abbrev spec : ProcessSpec
 spec = processSpec 48000 1 64 Cap.Unlimited false

@@ -11,7 +11,7 @@ use Rattle.arithmetic.specs.Exp.{expOf}
 use Rattle.arithmetic.specs.Reply.{finished, refused, numbered, count}
 use Rattle.keeper.specs.InOrder
 use Rattle.envelope.specs.Row.{rowInOrder}
-use Rattle.settings.specs.Settings.{settingsOf, processSpec}
+use Rattle.settings.specs.Settings.{settingsOf, allCount, processSpec}
 use Rattle.settings.specs.Derived.{coefficientOf}
 use Rattle.settings.specs.Target.{targetOf}
 use Rattle.settings.specs.Weights.{accepted}
@@ -30,7 +30,7 @@ use Rattle.limiter.specs.declared.state.Limiter.{Limiter}
 -- ---- a small start: look 11 (1.375 ms at 8,000), one channel, threshold and margin 0 dB, blocks of up to 64 frames
 -- with a release
 abbrev pub settings11 : Float → LimiterSettings
-settings11 release = settingsOf Number.zero Number.zero (bits 0x3ff6_0000_0000_0000) release
+settings11 release = settingsOf Number.zero Number.zero (bits 0x3ff6_0000_0000_0000) release allCount
 
 -- with a cap
 abbrev pub spec11 : Cap → ProcessSpec

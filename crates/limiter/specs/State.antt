@@ -4,7 +4,7 @@ use Prim.Native.Nat.{ℕ}
 use Rattle.arithmetic.specs.Number
 use Rattle.arithmetic.specs.Number.{one}
 use Rattle.keeper.specs.Keeper.{freshKeeper}
-use Rattle.settings.specs.Settings.{settingsOf, processSpec}
+use Rattle.settings.specs.Settings.{settingsOf, allCount, processSpec}
 use Rattle.settings.specs.Derived.{lookOf, coefficientOf}
 use Rattle.settings.specs.Target.{targetOf}
 use Rattle.settings.specs.declared.LimiterSettings.{LimiterSettings}
@@ -20,7 +20,7 @@ freshEnvelope look = record { keeper = freshKeeper look; attack = record { pos =
 -- not set up: no setting is accepted, so every later call is refused by 18
 abbrev pub notSetUp : Limiter
 notSetUp = record {
-  settings = settingsOf Number.zero Number.zero Number.zero Number.zero;
+  settings = settingsOf Number.zero Number.zero Number.zero Number.zero allCount;
   rate = 0;
   channels = 0;
   «max_block» = 0;

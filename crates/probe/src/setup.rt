@@ -2,7 +2,7 @@
 ghost use mathlib.Core.Path.{_≡_};
 ghost use mathlib.Core.Bool.{false, cond, _&&_};
 ghost use lib.ListN.{length};
-ghost use Rattle.settings.specs.Settings.{settingsOf, processSpec};
+ghost use Rattle.settings.specs.Settings.{settingsOf, allCount, processSpec};
 ghost use Rattle.settings.specs.Derived.{lookOf};
 ghost use Rattle.settings.specs.Target.{targetOf};
 ghost use Rattle.settings.specs.Accepted.{rateTaken, releaseTaken, refusalOf};
@@ -58,13 +58,14 @@ pub extern "C" fn probe_refusal(
     max_block: usize,
 ) -> u32
     ensures { λ r. ⌜ r
-        ≡ refusalOf (settingsOf threshold margin lookahead release) (processSpec rate channels «max_block» Cap.Unlimited false) ⌝ }
+        ≡ refusalOf (settingsOf threshold margin lookahead release allCount) (processSpec rate channels «max_block» Cap.Unlimited false) ⌝ }
 {
     let s = LimiterSettings {
         threshold_db: threshold,
         true_peak_margin_db: margin,
         lookahead_ms: lookahead,
         release_ms: release,
+        counts: [true; 8],
     };
     let spec = ProcessSpec {
         rate,

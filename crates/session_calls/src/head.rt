@@ -5,6 +5,7 @@ use audio::format::Format;
 use records::words::next;
 use settings::LimiterSettings;
 use settings::ProcessSpec;
+use settings::counted::counts_of;
 use settings::memory::Cap;
 
 pub struct Head {
@@ -52,6 +53,7 @@ fn settings(fd: i32) -> LimiterSettings {
         true_peak_margin_db,
         lookahead_ms,
         release_ms: float(fd),
+        counts: [true; 8],
     }
 }
 
@@ -72,6 +74,7 @@ pub fn read(fd: i32, first: u64) -> Head
     let kind = next(fd).word;
     let max_block = count(fd, 65536) as usize;
     let house = count(fd, 1) == 1;
+    let left_out = count(fd, 255) as u32;
     let spec = ProcessSpec {
         rate,
         channels,
@@ -81,7 +84,7 @@ pub fn read(fd: i32, first: u64) -> Head
     };
     Head {
         format: format(first),
-        settings: s,
+        settings: s.counts(counts_of(left_out)),
         spec,
         look,
         rows,

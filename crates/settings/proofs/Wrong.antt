@@ -1,7 +1,7 @@
 -- Inputs at which the wrong programs of ARCHITECTURE.md's table would answer otherwise: each row computes what the definition answers there, and its comment names the wrong program.
 use Prim.Native.Nat.{ℕ, _+_, _-_, _/_, _^_}
 use mathlib.Core.Path.{_≡_, refl}
-use mathlib.Core.Bool.{true, false, cond}
+use mathlib.Core.Bool.{Bool, true, false, cond}
 use mathlib.Core.List.{List, [], _∷_, reverse, map}
 use lib.Dec.{eqb}
 use lib.ListN.{length, getD, replicate}
@@ -10,7 +10,8 @@ use lib.Ieee.{Float, nan, binary64, add, sub, mul, div, neg, lt, le, eq, ofInt, 
 use Rattle.arithmetic.specs.Number
 use Rattle.arithmetic.specs.Number.{bits, one, thousandth, largest}
 use Rattle.arithmetic.specs.Exp.{expOf}
-use Rattle.settings.specs.Settings.{settingsOf, defaults, processSpec}
+use Rattle.settings.specs.Settings.{settingsOf, allCount, defaults, processSpec}
+use Rattle.settings.specs.Counted.{countsOf}
 use Rattle.settings.specs.Derived.{lookOf, rowOf, coefficientAt, coefficientOf}
 use Rattle.settings.specs.Memory.{needed, capJudged, leftOf}
 use Rattle.settings.specs.Weights.{rising, firstHalf, accepted}
@@ -127,20 +128,27 @@ margin-taken-off = (refl, refl)
 
 -- ---- the settings
 -- two fields exchanged: of any four floats
-pub fields-in-place : (a b c d : Float)
-    → let s = settingsOf a b c d in
-    (s .«threshold_db» ≡ a) × (s .«true_peak_margin_db» ≡ b) × (s .«lookahead_ms» ≡ c) × (s .«release_ms» ≡ d)
-fields-in-place a b c d = (refl, refl, refl, refl)
+pub fields-in-place : (a b c d : Float) (e : List Bool)
+    → let s = settingsOf a b c d e in
+    (s .«threshold_db» ≡ a) × (s .«true_peak_margin_db» ≡ b) × (s .«lookahead_ms» ≡ c) × (s .«release_ms» ≡ d) × (s .counts ≡ e)
+fields-in-place a b c d e = (refl, refl, refl, refl, refl)
 
--- another default than −1, 1/10, 3/2 and 50
+-- a mask read from the highest channel down, one that names the channels that count, one that reads a ninth bit: 1 leaves out channel 0, 8 channel 3, and 256 none
+pub mask-in-place :
+    (countsOf 1 ≡ false ∷ true ∷ true ∷ true ∷ true ∷ true ∷ true ∷ true ∷ [])
+    × (countsOf 8 ≡ true ∷ true ∷ true ∷ false ∷ true ∷ true ∷ true ∷ true ∷ [])
+    × (countsOf 0 ≡ allCount) × (countsOf 256 ≡ allCount) × (countsOf 255 ≡ replicate 8 false)
+mask-in-place = (refl, refl, refl, refl, refl)
+
+-- another default than −1, 1/10, 3/2 and 50, with a channel left out
 abbrev whole : ℕ → Float
 whole n = ofInt binary64 (pos n)
 
 pub default-values :
     (defaults .«threshold_db» ≡ neg (whole 1)) × (defaults .«true_peak_margin_db» ≡ div binary64 (whole 1) (whole 10))
-    × (defaults .«lookahead_ms» ≡ div binary64 (whole 3) (whole 2)) × (defaults .«release_ms» ≡ whole 50)
+    × (defaults .«lookahead_ms» ≡ div binary64 (whole 3) (whole 2)) × (defaults .«release_ms» ≡ whole 50) × (defaults .counts ≡ true ∷ true ∷ true ∷ true ∷ true ∷ true ∷ true ∷ true ∷ [])
 unfolding div neg ofInt ofBits
-default-values = (refl, refl, refl, refl)
+default-values = (refl, refl, refl, refl, refl)
 
 -- ---- memory
 -- L of 0 at look 11
@@ -161,19 +169,19 @@ cap-to-the-byte = refl
 
 -- ---- the refusals
 -- 9 answered where 8 arises too: rate 0 and a margin of −1
-pub eight-first : refusalOf (settingsOf Number.zero minusOne one one) (processSpec 0 1 64 Cap.Unlimited false) ≡ 8
+pub eight-first : refusalOf (settingsOf Number.zero minusOne one one allCount) (processSpec 0 1 64 Cap.Unlimited false) ≡ 8
 unfolding lt mul ofInt ofBits
 eight-first = refl
 
 -- a margin of −0.0 refused; 1.5 ms at 8,000 are 12 frames
-pub minus-zero-margin : refusalOf (settingsOf Number.zero (bits 0x8000_0000_0000_0000) (bits 0x3ff8_0000_0000_0000) one) (processSpec 8000 1 64 Cap.Unlimited false) ≡ 0
+pub minus-zero-margin : refusalOf (settingsOf Number.zero (bits 0x8000_0000_0000_0000) (bits 0x3ff8_0000_0000_0000) one allCount) (processSpec 8000 1 64 Cap.Unlimited false) ≡ 0
 unfolding lt mul ofInt ofBits
 minus-zero-margin = refl
 
 -- a release between 0 and 0.01 ms taken, and a release of 0 refused
 pub shortest-release :
-    (refusalOf (settingsOf Number.zero Number.zero (bits 0x3ff8_0000_0000_0000) (bits 0x3f74_7ae1_47ae_147b)) (processSpec 8000 1 64 Cap.Unlimited false) ≡ 11)
-    × (refusalOf (settingsOf Number.zero Number.zero (bits 0x3ff8_0000_0000_0000) Number.zero) (processSpec 8000 1 64 Cap.Unlimited false) ≡ 0)
+    (refusalOf (settingsOf Number.zero Number.zero (bits 0x3ff8_0000_0000_0000) (bits 0x3f74_7ae1_47ae_147b) allCount) (processSpec 8000 1 64 Cap.Unlimited false) ≡ 11)
+    × (refusalOf (settingsOf Number.zero Number.zero (bits 0x3ff8_0000_0000_0000) Number.zero allCount) (processSpec 8000 1 64 Cap.Unlimited false) ≡ 0)
 unfolding lt mul ofInt ofBits
 shortest-release = (refl, refl)
 

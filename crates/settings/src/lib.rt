@@ -3,6 +3,9 @@
 ghost use mathlib.Core.Path.{_≡_};
 ghost use Rattle.settings.specs.Settings.{settingsOf, defaults};
 
+// Which channels count in the linked peak.
+pub mod counted;
+
 // Look and release coefficient.
 pub mod derived;
 // The byte count and a cap on it.
@@ -29,6 +32,8 @@ pub struct LimiterSettings {
     pub lookahead_ms: f64,
     // Release in milliseconds; 0 releases at once.
     pub release_ms: f64,
+    // Whether each channel counts in the linked peak; entries past the number of channels mean nothing.
+    pub counts: [bool; 8],
 }
 
 // What setup is told beside the settings (`ProcessSpec` of contract/spec.rs).
@@ -44,7 +49,7 @@ pub struct ProcessSpec {
 }
 
 impl LimiterSettings {
-    // −1 dBFS, 0.1 dB, 1.5 ms, 50 ms.
+    // −1 dBFS, 0.1 dB, 1.5 ms, 50 ms, and every channel counts.
     pub fn new() -> Self
         ensures { λ r. ⌜ r ≡ defaults ⌝ }
     {
@@ -53,35 +58,43 @@ impl LimiterSettings {
             true_peak_margin_db: 0.1,
             lookahead_ms: 1.5,
             release_ms: 50.0,
+            counts: [true; 8],
         }
     }
 
     // Each setter hands the settings back with one field changed.
     pub fn threshold_db(mut self, threshold_db: f64) -> Self
-        ensures { λ r. ⌜ r ≡ settingsOf «threshold_db» (self .«true_peak_margin_db») (self .«lookahead_ms») (self .«release_ms») ⌝ }
+        ensures { λ r. ⌜ r ≡ settingsOf «threshold_db» (self .«true_peak_margin_db») (self .«lookahead_ms») (self .«release_ms») (self .counts) ⌝ }
     {
         self.threshold_db = threshold_db;
         self
     }
 
     pub fn true_peak_margin_db(mut self, true_peak_margin_db: f64) -> Self
-        ensures { λ r. ⌜ r ≡ settingsOf (self .«threshold_db») «true_peak_margin_db» (self .«lookahead_ms») (self .«release_ms») ⌝ }
+        ensures { λ r. ⌜ r ≡ settingsOf (self .«threshold_db») «true_peak_margin_db» (self .«lookahead_ms») (self .«release_ms») (self .counts) ⌝ }
     {
         self.true_peak_margin_db = true_peak_margin_db;
         self
     }
 
     pub fn lookahead_ms(mut self, lookahead_ms: f64) -> Self
-        ensures { λ r. ⌜ r ≡ settingsOf (self .«threshold_db») (self .«true_peak_margin_db») «lookahead_ms» (self .«release_ms») ⌝ }
+        ensures { λ r. ⌜ r ≡ settingsOf (self .«threshold_db») (self .«true_peak_margin_db») «lookahead_ms» (self .«release_ms») (self .counts) ⌝ }
     {
         self.lookahead_ms = lookahead_ms;
         self
     }
 
     pub fn release_ms(mut self, release_ms: f64) -> Self
-        ensures { λ r. ⌜ r ≡ settingsOf (self .«threshold_db») (self .«true_peak_margin_db») (self .«lookahead_ms») «release_ms» ⌝ }
+        ensures { λ r. ⌜ r ≡ settingsOf (self .«threshold_db») (self .«true_peak_margin_db») (self .«lookahead_ms») «release_ms» (self .counts) ⌝ }
     {
         self.release_ms = release_ms;
+        self
+    }
+
+    pub fn counts(mut self, counts: [bool; 8]) -> Self
+        ensures { λ r. ⌜ r ≡ settingsOf (self .«threshold_db») (self .«true_peak_margin_db») (self .«lookahead_ms») (self .«release_ms») counts ⌝ }
+    {
+        self.counts = counts;
         self
     }
 }

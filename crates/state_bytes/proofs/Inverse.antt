@@ -1,7 +1,7 @@
 -- A state's words and the limiter with its bank: each is had back from the other.
 use mathlib.Core.Path.{_≡_, refl, sym, ap, _∙_}
-use mathlib.Core.Bool.{Bool, true, false, cond, not}
-use mathlib.Core.List.{List, [], _∷_, _++_}
+use mathlib.Core.Bool.{Bool, true, false, not, _&&_}
+use mathlib.Core.List.{List, [], _∷_, _++_, map}
 use Prim.Native.Nat.{ℕ, zero, suc, _+_, _^_, _≤_, _<_}
 use native.Mathlib.Nat.{mod-eq-of-lt}
 use native.Mathlib.Omega.{arith}
@@ -20,7 +20,7 @@ use Rattle.audio.proofs.Numbers.{cut-length, out-length, words-of-bytes, bytes-
 use Rattle.bank.specs.Words.{smootherIn, shapeWord}
 use Rattle.bank.specs.declared.param.Smoothing.{Smoothing}
 use Rattle.bank.specs.declared.param.Smoothing.the-variants.{Step, Linear, OnePole}
-use Rattle.state_bytes.specs.State.{layout, stateBytes, stateWords, zerosAt, holdsState, isState, limiterIn, bankIn, stateIn, wordsOut, processorIn, stateOut}
+use Rattle.state_bytes.specs.State.{layout, stateBytes, stateWords, zerosAt, flagsAt, holdsState, isState, limiterIn, bankIn, stateIn, flagOut, eight, wordsOut, processorIn, stateOut}
 use Rattle.bank.proofs.Shapes.{shape-back, shape-small, shape-word}
 use Rattle.state_bytes.proofs.Stored.{read-held}
 use Rattle.state_bytes.proofs.Storable.{Fits, Storable}
@@ -29,9 +29,13 @@ use Rattle.state_bytes.proofs.Storable.{Fits, Storable}
 back : (x : Float) → Fits x → bits (toBits binary64 x) ≡ x
 back x f = ofBits-toBits binary64 x f
 
-ready-back : (b : Bool) → not (eqb (cond b 1 0) 0) ≡ b
-ready-back true = refl
-ready-back false = refl
+flag-back : (b : Bool) → not (eqb (flagOut b) 0) ≡ b
+flag-back true = refl
+flag-back false = refl
+
+flags-back : (bs : List Bool) → map (λ (b : Bool). not (eqb (flagOut b) 0)) bs ≡ bs
+flags-back [] = refl
+flags-back (b ∷ bs) = rw (flag-back b, flags-back bs) refl
 
 module _ (p : KernelProcessor) (h : Storable p) where
   limiter-back : limiterIn (wordsOut p) ≡ p .limiter
@@ -45,6 +49,7 @@ module _ (p : KernelProcessor) (h : Storable p) where
           «true_peak_margin_db» = back (l .settings .«true_peak_margin_db») (f .margin) i;
           «lookahead_ms» = back (l .settings .«lookahead_ms») (f .lookahead) i;
           «release_ms» = back (l .settings .«release_ms») (f .release) i;
+          counts = (flags-back (eight (l .settings .counts)) ∙ sym (f .counts)) i;
         };
         rate = mod-eq-of-lt (h .numbers .rate) i;
         channels = l .channels;
@@ -78,7 +83,7 @@ module _ (p : KernelProcessor) (h : Storable p) where
 
   bank-back : bankIn (wordsOut p) ≡ p .bank
   unfolding wordsOut
-  bank-back = rw (smoother-back, ← h .bank .slots, mod-eq-of-lt (h .bank .rate), ready-back (p .bank .ready)) refl
+  bank-back = rw (smoother-back, ← h .bank .slots, mod-eq-of-lt (h .bank .rate), flag-back (p .bank .ready)) refl
 
   pub state-of-words : stateIn (wordsOut p) ≡ p
   unfolding stateIn
@@ -99,7 +104,7 @@ shape-word-small Step = omega arith
 shape-word-small Linear = omega arith
 shape-word-small OnePole = omega arith
 
-flag-small : (b : Bool) → cond b 1 0 < 2 ^ 64
+flag-small : (b : Bool) → flagOut b < 2 ^ 64
 flag-small true = omega arith
 flag-small false = omega arith
 
@@ -121,6 +126,10 @@ zeros-small : (n : ℕ) → AllSmall (replicate n 0)
 zeros-small zero = none
 zeros-small (suc n) = zero-small ∷< zeros-small n
 
+flags-small : (bs : List Bool) {ws : List ℕ} → AllSmall ws → AllSmall (map flagOut bs ++ ws)
+flags-small [] h = h
+flags-small (b ∷ bs) h = flag-small b ∷< flags-small bs h
+
 words-small : (p : KernelProcessor) → Storable p → (i : ℕ) → getD (wordsOut p) i 0 < 2 ^ 64
 unfolding wordsOut
 words-small p h =
@@ -133,12 +142,17 @@ words-small p h =
     ∷< n .pos ∷< n .tally ∷< bits-small _ (f .gain) ∷< n .delay ∷< bits-small _ (f .target) ∷< n .drained
     ∷< half-small (s .id) ∷< bits-small _ (s .cur) ∷< bits-small _ (s .target) ∷< bits-small _ (s .low) ∷< bits-small _ (s .high) ∷< bits-small _ (s .default) ∷< bits-small _ (s .steps)
     ∷< s .left ∷< bits-small _ (s .delta) ∷< shape-word-small (slotAt 0 (p .bank .smoothers) .shape) ∷< bits-small _ (s .coeff) ∷< bits-small _ (s .time)
-    ∷< h .bank .count ∷< half-small (h .bank .rate) ∷< flag-small (p .bank .ready) ∷< zeros-small 30)
+    ∷< h .bank .count ∷< half-small (h .bank .rate) ∷< flags-small (p .bank .ready ∷ eight (p .limiter .settings .counts)) (zeros-small 22))
 
 -- ---- the same by bytes
-ready-small : (b : Bool) → leb (cond b 1 0) 1 ≡ true
-ready-small true = refl
-ready-small false = refl
+abbrev allFlags : List ℕ → Bool
+allFlags [] = true
+allFlags (w ∷ ws) = leb w 1 && allFlags ws
+
+flags-are : (bs : List Bool) → allFlags (map flagOut bs) ≡ true
+flags-are [] = refl
+flags-are (true ∷ bs) = flags-are bs
+flags-are (false ∷ bs) = flags-are bs
 
 module _ (p : KernelProcessor) (h : Storable p) where
   state-length : length (stateOut p) ≡ stateBytes
@@ -150,15 +164,14 @@ module _ (p : KernelProcessor) (h : Storable p) where
   out-words = words-of-bytes 8 (wordsOut p) (words-small p h)
 
   out-holds : holdsState (wordsOut p) ≡ true
-  unfolding holdsState wordsOut zerosAt
+  unfolding holdsState wordsOut zerosAt flagsAt
   out-holds =
       rw (
         lt-ltb (p .limiter .rate) (2 ^ 32) (h .numbers .rate),
         lt-ltb (slotAt 0 (p .bank .smoothers) .id) (2 ^ 32) (h .bank .first .id),
         lt-ltb (p .bank .rate) (2 ^ 32) (h .bank .rate),
         shape-small (slotAt 0 (p .bank .smoothers) .shape),
-        ready-small (p .bank .ready),
-      ) refl
+      ) (ap (λ (t : Bool). t && true) (flags-are (p .bank .ready ∷ eight (p .limiter .settings .counts))))
 
   -- what was written is read
   pub read-written : processorIn (stateOut p) ≡ p
@@ -196,10 +209,17 @@ infixr 67 _∷≡_
 _∷≡_ : {a b : ℕ} {xs ys : List ℕ} → a ≡ b → xs ≡ ys → a ∷ xs ≡ b ∷ ys
 _∷≡_ {a} {b} {xs} {ys} e f = ap (λ (c : ℕ). c ∷ xs) e ∙ ap (λ (t : List ℕ). b ∷ t) f
 
-ready-word : (w : ℕ) → w ≤ 1 → cond (not (eqb w 0)) 1 0 ≡ w
-ready-word zero h = refl
-ready-word (suc zero) h = refl
-ready-word (suc (suc w)) h = absurd (omega arith)
+flag-word : (w : ℕ) → w ≤ 1 → flagOut (not (eqb w 0)) ≡ w
+flag-word zero h = refl
+flag-word (suc zero) h = refl
+flag-word (suc (suc w)) h = absurd (omega arith)
+
+flag-words : (ws : List ℕ) (k n : ℕ) → flagsAt ws k n ≡ true → map (λ (w : ℕ). flagOut (not (eqb w 0))) (placesFrom ws k n) ≡ placesFrom ws k n
+unfolding flagsAt
+flag-words ws k zero h = refl
+flag-words ws k (suc n) h =
+    let z = and-true (leb (getD ws k 0) 1) (flagsAt ws (k + 1) n) h in
+    flag-word (getD ws k 0) (leb-true (getD ws k 0) 1 (z .0)) ∷≡ flag-words ws (k + 1) n (z .1)
 
 -- the places of floats
 abbrev pub floatPlaces : List ℕ
@@ -207,7 +227,7 @@ floatPlaces = 1 ∷ 2 ∷ 3 ∷ 4 ∷ 8 ∷ 15 ∷ 17 ∷ 20 ∷ 21 ∷ 22 ∷ 2
 
 module _ (ws : List ℕ) (n : length ws ≡ stateWords) (h : holdsState ws ≡ true) (o : (i : ℕ) → Own (getD ws (getD floatPlaces i 1) 0)) where
   tests : (eqb (getD ws 0 0) layout ≡ true) × (ltb (getD ws 5 0) (2 ^ 32) ≡ true) × (ltb (getD ws 19 0) (2 ^ 32) ≡ true) × (ltb (getD ws 32 0) (2 ^ 32) ≡ true) × (leb (getD ws 28 0) 2 ≡ true)
-      × (leb (getD ws 33 0) 1 ≡ true) × (zerosAt ws 34 30 ≡ true)
+      × (flagsAt ws 33 9 ≡ true) × (zerosAt ws 42 22 ≡ true)
   unfolding holdsState
   tests =
       let h0 = and-true (eqb (getD ws 0 0) layout) _ h in
@@ -215,14 +235,20 @@ module _ (ws : List ℕ) (n : length ws ≡ stateWords) (h : holdsState ws ≡ t
       let h2 = and-true (ltb (getD ws 19 0) (2 ^ 32)) _ (h1 .1) in
       let h3 = and-true (ltb (getD ws 32 0) (2 ^ 32)) _ (h2 .1) in
       let h4 = and-true (leb (getD ws 28 0) 2) _ (h3 .1) in
-      let h5 = and-true (leb (getD ws 33 0) 1) _ (h4 .1) in
+      let h5 = and-true (flagsAt ws 33 9) _ (h4 .1) in
       (h0 .0, h1 .0, h2 .0, h3 .0, h4 .0, h5 .0, h5 .1)
 
-  rest : replicate 30 0 ≡ drop 34 ws
+  rest : replicate 22 0 ≡ drop 42 ws
   rest =
-      sym (spread ws 34 30 (omega (arith, n))
-      ∙ ap (λ (t : List ℕ). t ++ drop 64 ws) (zeros-are ws 34 30 (tests .6))
-      ∙ ap (λ (t : List ℕ). replicate 30 0 ++ t) (drop-of-length-le ws {i = 64} (omega (arith, n))))
+      sym (spread ws 42 22 (omega (arith, n))
+      ∙ ap (λ (t : List ℕ). t ++ drop 64 ws) (zeros-are ws 42 22 (tests .6))
+      ∙ ap (λ (t : List ℕ). replicate 22 0 ++ t) (drop-of-length-le ws {i = 64} (omega (arith, n))))
+
+  flags : map (λ (w : ℕ). flagOut (not (eqb w 0))) (placesFrom ws 33 9) ++ replicate 22 0 ≡ drop 33 ws
+  flags =
+      ap (λ (t : List ℕ). t ++ replicate 22 0) (flag-words ws 33 9 (tests .5))
+      ∙ ap (λ (t : List ℕ). placesFrom ws 33 9 ++ t) rest
+      ∙ sym (spread ws 33 9 (omega (arith, n)))
 
   pub words-of-state : wordsOut (stateIn ws) ≡ ws
   unfolding wordsOut stateIn
@@ -232,8 +258,8 @@ module _ (ws : List ℕ) (n : length ws ≡ stateWords) (h : holdsState ws ≡ t
       ∷≡ (mod-eq-of-lt (ltb-true (getD ws 19 0) (2 ^ 32) (tests .2))) ∷≡ o 7 ∷≡ o 8 ∷≡ o 9 ∷≡ o 10 ∷≡ o 11 ∷≡ o 12 ∷≡ refl ∷≡ o 13
       ∷≡ (shape-word (getD ws 28 0) (leb-true (getD ws 28 0) 2 (tests .4))) ∷≡ o 14 ∷≡ o 15 ∷≡ refl
       ∷≡ (mod-eq-of-lt (ltb-true (getD ws 32 0) (2 ^ 32) (tests .3)))
-      ∷≡ (ready-word (getD ws 33 0) (leb-true (getD ws 33 0) 1 (tests .5))) ∷≡ rest)
-      ∙ sym (spread ws 0 34 (omega (arith, n)))
+      ∷≡ flags)
+      ∙ sym (spread ws 0 33 (omega (arith, n)))
 
 -- the same by bytes
 pub written-read : (bytes : List ℕ) → isState bytes ≡ true → ((i : ℕ) → getD bytes i 0 < 256) → ((i : ℕ) → Own (getD (wordsIn 8 stateWords bytes) (getD floatPlaces i 1) 0)) → stateOut (processorIn bytes) ≡ bytes

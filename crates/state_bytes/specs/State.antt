@@ -1,7 +1,7 @@
--- The state as bytes: 64 words of eight bytes. Word 0 tells the layout, 1 to 18 are the limiter's, 19 to 30 the threshold's smoother, 31 to 33 the bank's, and the rest is room to grow.
+-- The state as bytes: 64 words of eight bytes. Word 0 tells the layout, 1 to 18 are the limiter's, 19 to 30 the threshold's smoother, 31 to 33 the bank's, 34 to 41 tell of each channel whether it counts, and the rest is room to grow.
 use Prim.Native.Nat.{ℕ, zero, suc, _+_, _^_}
-use mathlib.Core.Bool.{Bool, true, cond, not, _&&_}
-use mathlib.Core.List.{List, [], _∷_, _++_}
+use mathlib.Core.Bool.{Bool, true, false, cond, not, _&&_}
+use mathlib.Core.List.{List, [], _∷_, _++_, map}
 use lib.Dec.{eqb, leb, ltb}
 use lib.ListN.{length, getD, replicate}
 use Rattle.audio.specs.Bytes.{wordsIn, bytesOut}
@@ -34,18 +34,30 @@ unfoldable pub zerosAt : List ℕ → ℕ → ℕ → Bool
 zerosAt ws k zero = true
 zerosAt ws k (suc n) = eqb (getD ws k 0) 0 && zerosAt ws (k + 1) n
 
--- the layout's word, 32 bits for each rate and for the id, a shape, a flag, and nothing in the room to grow
+-- n words from a place on are each a yes or a no
+unfoldable pub flagsAt : List ℕ → ℕ → ℕ → Bool
+flagsAt ws k zero = true
+flagsAt ws k (suc n) = leb (getD ws k 0) 1 && flagsAt ws (k + 1) n
+
+-- the layout's word, 32 bits for each rate and for the id, a shape, nine flags (the bank's, and one a channel), and nothing in the room to grow
 unfoldable pub holdsState : List ℕ → Bool
 holdsState ws =
     eqb (getD ws 0 0) layout && (ltb (getD ws 5 0) (2 ^ 32) && (ltb (getD ws 19 0) (2 ^ 32) && (ltb (getD ws 32 0) (2 ^ 32)
-    && (leb (getD ws 28 0) 2 && (leb (getD ws 33 0) 1 && zerosAt ws 34 30)))))
+    && (leb (getD ws 28 0) 2 && (flagsAt ws 33 9 && zerosAt ws 42 22)))))
 
 unfoldable pub isState : List ℕ → Bool
 isState bytes = eqb (length bytes) stateBytes && holdsState (wordsIn 8 stateWords bytes)
 
 -- ---- out of words
+-- a yes is 1, a no is 0
+abbrev pub flagIn : List ℕ → ℕ → Bool
+flagIn ws k = not (eqb (getD ws k 0) 0)
+
+abbrev pub countsIn : List ℕ → List Bool
+countsIn ws = flagIn ws 34 ∷ flagIn ws 35 ∷ flagIn ws 36 ∷ flagIn ws 37 ∷ flagIn ws 38 ∷ flagIn ws 39 ∷ flagIn ws 40 ∷ flagIn ws 41 ∷ []
+
 abbrev pub settingsIn : List ℕ → LimiterSettings
-settingsIn ws = settingsOf (floatIn ws 1) (floatIn ws 2) (floatIn ws 3) (floatIn ws 4)
+settingsIn ws = settingsOf (floatIn ws 1) (floatIn ws 2) (floatIn ws 3) (floatIn ws 4) (countsIn ws)
 
 abbrev pub envelopeIn : List ℕ → Envelope
 envelopeIn ws = record {
@@ -72,7 +84,7 @@ abbrev pub slotsWith : Smoother → List Smoother
 slotsWith s = s ∷ vacant ∷ vacant ∷ vacant ∷ vacant ∷ vacant ∷ vacant ∷ vacant ∷ []
 
 abbrev pub bankIn : List ℕ → SmootherBank
-bankIn ws = record { smoothers = slotsWith (smootherIn ws 19); count = getD ws 31 0; rate = halfIn ws 32; ready = not (eqb (getD ws 33 0) 0) }
+bankIn ws = record { smoothers = slotsWith (smootherIn ws 19); count = getD ws 31 0; rate = halfIn ws 32; ready = flagIn ws 33 }
 
 unfoldable pub stateIn : List ℕ → KernelProcessor
 stateIn ws = record { limiter = limiterIn ws; bank = bankIn ws }
@@ -84,11 +96,21 @@ limiterOut l =
     ∷ l .rate ∷ l .channels ∷ l .«max_block» ∷ floatOut (l .«release_coeff») ∷ l .env .keeper .look ∷ l .env .keeper .head ∷ l .env .keeper .len ∷ l .env .keeper .frame
     ∷ l .env .attack .pos ∷ l .env .attack .tally ∷ floatOut (l .env .gain) ∷ l .«delay_pos» ∷ floatOut (l .target) ∷ l .drained ∷ []
 
+abbrev pub flagOut : Bool → ℕ
+flagOut b = cond b 1 0
+
 abbrev pub bankOut : SmootherBank → List ℕ
-bankOut b = smootherOut (slotAt 0 (b .smoothers)) ++ (b .count ∷ b .rate ∷ cond (b .ready) 1 0 ∷ [])
+bankOut b = smootherOut (slotAt 0 (b .smoothers)) ++ (b .count ∷ b .rate ∷ flagOut (b .ready) ∷ [])
+
+-- eight entries, in order
+abbrev pub eight : List Bool → List Bool
+eight bs = getD bs 0 false ∷ getD bs 1 false ∷ getD bs 2 false ∷ getD bs 3 false ∷ getD bs 4 false ∷ getD bs 5 false ∷ getD bs 6 false ∷ getD bs 7 false ∷ []
+
+abbrev pub countsOut : List Bool → List ℕ
+countsOut bs = map flagOut (eight bs)
 
 unfoldable pub wordsOut : KernelProcessor → List ℕ
-wordsOut p = layout ∷ limiterOut (p .limiter) ++ bankOut (p .bank) ++ replicate 30 0
+wordsOut p = layout ∷ limiterOut (p .limiter) ++ bankOut (p .bank) ++ countsOut (p .limiter .settings .counts) ++ replicate 22 0
 
 -- ---- read and written
 -- the part of a machine that the bytes hold; its stores are lent beside them

@@ -6,7 +6,7 @@ ghost use Rattle.audio.specs.Bytes.{bytesOut};
 ghost use Rattle.audio.specs.Inner.{put};
 ghost use Rattle.bank.specs.declared.smoother_bank.SmootherBank.{SmootherBank};
 ghost use Rattle.driver.specs.Parts.{shownOf};
-ghost use Rattle.state_bytes.specs.State.{stateBytes, limiterOut, stateOut};
+ghost use Rattle.state_bytes.specs.State.{stateBytes, limiterOut, countsOut, stateOut};
 use arithmetic::pattern::to_bits;
 use audio::words::write_words;
 use bank::words::flag;
@@ -41,6 +41,21 @@ fn limiter_out(l: Limiter) -> [u64; 18]
     ]
 }
 
+fn counts_out(counts: [bool; 8]) -> [u64; 8]
+    ensures { λ r. ⌜ r ≡ countsOut counts ⌝ }
+{
+    [
+        flag(counts[0]),
+        flag(counts[1]),
+        flag(counts[2]),
+        flag(counts[3]),
+        flag(counts[4]),
+        flag(counts[5]),
+        flag(counts[6]),
+        flag(counts[7]),
+    ]
+}
+
 // These words, from word k on.
 fn put_words(state: &mut [u8], k: usize, words: &[u64])
     requires { ⌜ 8 * (k + length (now words)) ≤ length (now state) ⌝ }
@@ -57,11 +72,14 @@ pub fn write_parts(state: &mut [u8], limiter: Limiter, t: Threshold)
     ensures { λ _. ⌜ ((b : SmootherBank) → shownOf b ≡ t → now (state .exit) ≡ stateOut (record { limiter = limiter; bank = b })) ⌝ }
 {
     let smoother = t.smoother;
+    let settings = limiter.settings;
+    let counts = settings.counts;
     put_words(state, 0, &[0x1_7a75_7944]);
     put_words(state, 1, &limiter_out(limiter));
     put_words(state, 19, &smoother_out(smoother));
     put_words(state, 31, &[t.count as u64, t.rate as u64, flag(t.ready)]);
-    put_words(state, 34, &[0u64; 30]);
+    put_words(state, 34, &counts_out(counts));
+    put_words(state, 42, &[0u64; 22]);
 }
 
 pub fn write_state(state: &mut [u8], p: KernelProcessor)

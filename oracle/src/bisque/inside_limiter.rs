@@ -163,6 +163,7 @@ pub(crate) fn state(limiter: &Limiter) -> State {
             margin: limiter.true_peak_margin_db,
             lookahead: limiter.lookahead_ms,
             release: limiter.release_ms,
+            left_out: 0,
             rate: limiter.fs as u32,
             channels: limiter.delays.len(),
             block: 0,
@@ -180,6 +181,11 @@ pub(crate) fn state(limiter: &Limiter) -> State {
         drained: limiter.flushed as u64,
         ..State::NEVER
     }
+}
+
+/// The gains that the last run of a block applied, frame by frame; it had as many.
+pub(crate) fn gains(limiter: &Limiter, frames: usize) -> &[f64] {
+    &limiter.env_scratch[..frames]
 }
 
 /// What the Rust holds in place of the lent stores.

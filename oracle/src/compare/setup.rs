@@ -135,6 +135,7 @@ fn read(words: &[u64]) -> Setup {
         margin: float(1),
         lookahead: float(2),
         release: float(3),
+        left_out: 0,
         rate: float(4) as u32,
         channels: float(5) as usize,
         block: float(6) as usize,

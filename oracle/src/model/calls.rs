@@ -251,6 +251,7 @@ fn gain_step(state: &State, lent: &mut Lent, gain: f64) -> Told {
 mod tests {
     use super::*;
     use crate::audio::{Crossing as _, Format};
+    use crate::calls::words;
     use crate::layout::{smoother, state as at};
     use crate::whole::Rust;
 
@@ -260,6 +261,7 @@ mod tests {
         margin: 0.1,
         lookahead: 1.5,
         release: 50.0,
+        left_out: 0,
         rate: 48_000,
         channels: 2,
         block: 512,
@@ -391,6 +393,93 @@ mod tests {
         let (frames, audio) = (50, Audio::of(&[7.0; 100]));
         let (_, answer) = told(&mut lent, Call::Flush { frames, audio });
         assert_eq!(answer, [50, 0, 0, 0, 0, 0, 0, 0]);
+    }
+
+    /// A stereo limiter that leaves channels out, after a block with a quiet channel 0
+    /// and a loud channel 1: it, the block's last frame, and where the peak sat.
+    fn thunder(left_out: u32) -> (Lent, [f64; 2], Vec<u64>) {
+        let setup = Setup { left_out, ..STEREO };
+        let rust = Rust::new(&setup, None, Format::F64).expect("good settings");
+        let mut lent = rust.lent();
+        let mut asked = Call::Process {
+            position: 0,
+            frames: 200,
+            events: Vec::new(),
+            audio: Audio::of(&[vec![0.01; 200], vec![4.0; 200]].concat()),
+        };
+        assert_eq!(call(&mut lent, &mut asked), 0);
+        let audio = asked.audio().expect("a block's");
+        let last = [199, 399].map(|at| audio.sample(at));
+        let place = lent.answer[..4].to_vec();
+        (lent, last, place)
+    }
+
+    /// Whoever counts, one gain scales both channels, and no detector stands still.
+    #[test]
+    fn a_channel_left_out_does_not_duck_the_others() {
+        for (left_out, ducked, channel) in [
+            (0b00, true, Some(1)),
+            (0b01, true, Some(1)),
+            (0b10, false, Some(0)),
+            (0b11, false, None),
+            (0b1111_1100, true, Some(1)),
+            (0b1000_0010, false, Some(0)),
+            (1 << 31 | 0b10, false, Some(0)),
+        ] {
+            let (lent, last, place) = thunder(left_out);
+            let gain = f64::read(&lent.state[8 * at::GAIN..]);
+            assert_eq!(last, [0.01 * gain, 4.0 * gain]);
+            assert_eq!(gain < 0.3, ducked);
+            assert_eq!(gain == 1.0, !ducked);
+            // Both overshoot six frames on, between the first samples of all.
+            let due = channel.map_or([0; 4], |channel| [2, 6, channel, 1]);
+            assert_eq!(place, due, "{left_out}");
+            let heard = [vec![0.01f64; 12], vec![4.0; 12]].concat();
+            let heard: Vec<u64> = heard.iter().map(|x| x.to_bits()).collect();
+            assert_eq!(lent.stores.0[DETECTOR], heard);
+        }
+    }
+
+    /// A drain is silence for all detectors, and its gain is of those that count: the
+    /// loud samples that are left leave ducked or as they came.
+    #[test]
+    fn a_drain_goes_on_without_the_channels_left_out() {
+        for (left_out, ducked) in [(0b00, true), (0b01, true), (0b10, false), (0b11, false)] {
+            let (mut lent, _, _) = thunder(left_out);
+            let mut asked = Call::Flush {
+                frames: 5,
+                audio: Audio::of(&[7.0; 10]),
+            };
+            assert_eq!(call(&mut lent, &mut asked), 0);
+            let audio = asked.audio().expect("a drain's");
+            assert_eq!(
+                [4, 9].map(|at| audio.sample(at) < 0.3 * [0.01, 4.0][at / 5]),
+                [ducked; 2]
+            );
+            let twelve = |x: f64| [vec![0; 5], vec![x.to_bits(); 7]].concat();
+            assert_eq!(
+                lent.stores.0[DETECTOR],
+                [twelve(0.01), twelve(4.0)].concat()
+            );
+        }
+    }
+
+    /// Calls keep what setup left.
+    #[test]
+    fn who_counts_is_kept() {
+        let (mut lent, _, _) = thunder(0b1111_0000_0000_1010);
+        let bits = 0.5f64.to_bits();
+        for asked in [
+            block(200, 40, &[]),
+            Call::Set { id: 0, bits },
+            Call::GainStep { bits },
+            Call::Reset,
+            Call::Read { id: 0 },
+        ] {
+            assert_eq!(told(&mut lent, asked).0, 0);
+            let counted = &words(&lent.state)[at::COUNTED..at::USED];
+            assert_eq!(counted, [1, 0, 1, 0, 1, 1, 1, 1]);
+        }
     }
 
     #[test]

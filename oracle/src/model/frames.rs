@@ -98,7 +98,7 @@ impl Machine {
 
     /// A frame's samples, heard by the detectors.
     pub fn hear(&mut self, samples: &[f64]) -> Frame {
-        hear(samples, &mut self.detector)
+        hear(samples, &mut self.detector, self.state.setup.left_out)
     }
 
     /// One frame at a target: a sample of each channel for one that leaves.

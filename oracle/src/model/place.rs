@@ -1,25 +1,27 @@
-//! Where a block's highest linked peak sat (document 02, Change 5). All of the
-//! block is heard first and looked through afterwards, frame, channel and phase
-//! one after the other.
+//! Where a block's highest linked peak sat (document 02, Change 5), of the channels
+//! that count (Change 7). All of the block is heard first and looked through
+//! afterwards, frame, channel and phase one after the other.
 
 use super::detector::{answer, phase, push, Sums, TAPS};
+use super::setup::counts;
 use crate::audio::Audio;
 use crate::dsp::sanitize::finite_or_zero;
 
-/// What is heard of a channel in a frame: the sanitized sample, and its
-/// detector's sums.
+/// What is heard of a channel in a frame: the sanitized sample, its detector's
+/// sums, and whether the channel counts.
 #[derive(Clone, Copy, Debug, PartialEq)]
 pub struct Heard {
     pub sample: f64,
     pub sums: Sums,
+    pub counts: bool,
 }
 
 /// A frame, channel by channel.
 pub type Frame = Vec<Heard>;
 
 /// The first frame with the highest linked peak, counted in the block, with the
-/// lowest channel whose sample is that high; or, where none is, the lowest whose
-/// detector is, and that one's phase.
+/// lowest channel that counts and whose sample is that high; or, where none is, the
+/// lowest whose detector is, and that one's phase.
 #[derive(Clone, Copy, Debug, PartialEq, Eq)]
 pub enum Place {
     Nowhere,
@@ -35,14 +37,19 @@ pub enum Place {
 }
 
 impl Heard {
-    /// Whether the sample is so high.
+    /// Whether the sample counts and is so high.
     pub fn has_sample(&self, peak: f64) -> bool {
-        self.sample.abs() == peak
+        self.counts && self.sample.abs() == peak
     }
 
-    /// Whether the detector's answer is so high.
+    /// Whether the detector's answer counts and is so high.
     pub fn has_answer(&self, peak: f64) -> bool {
-        answer(&self.sums) == peak
+        self.counts && answer(&self.sums) == peak
+    }
+
+    /// The sample's magnitude or the detector's answer, whichever is larger.
+    pub fn height(&self) -> f64 {
+        larger(self.sample.abs(), answer(&self.sums))
     }
 }
 
@@ -62,18 +69,19 @@ impl Place {
 }
 
 /// A frame's samples, each pushed into its channel's part of the detector's
-/// store.
-pub fn hear(samples: &[f64], detector: &mut [f64]) -> Frame {
+/// store, whether it counts or not.
+pub fn hear(samples: &[f64], detector: &mut [f64], left_out: u32) -> Frame {
     let stores = detector.chunks_exact_mut(TAPS);
-    let heard = |(&x, store): (&f64, &mut [f64])| Heard {
+    let heard = |(channel, (&x, store)): (usize, (&f64, &mut [f64]))| Heard {
         sample: finite_or_zero(x),
         sums: push(store, x),
+        counts: counts(left_out, channel),
     };
-    samples.iter().zip(stores).map(heard).collect()
+    samples.iter().zip(stores).enumerate().map(heard).collect()
 }
 
 /// All frames of planar audio, from what the detector's store holds before them.
-pub fn block(audio: &Audio, detector: &[f64]) -> Vec<Frame> {
+pub fn block(audio: &Audio, detector: &[f64], left_out: u32) -> Vec<Frame> {
     let mut detector = detector.to_vec();
     let channels = detector.len() / TAPS;
     let frames = audio.len() / channels;
@@ -82,16 +90,16 @@ pub fn block(audio: &Audio, detector: &[f64]) -> Vec<Frame> {
         for (channel, sample) in samples.iter_mut().enumerate() {
             *sample = audio.sample(channel * frames + frame);
         }
-        hear(&samples, &mut detector)
+        hear(&samples, &mut detector, left_out)
     };
     (0..frames).map(heard).collect()
 }
 
-/// A frame's linked peak: the largest, over the channels, of the sample's
-/// magnitude and the detector's answer.
+/// A frame's linked peak: the largest, over the channels that count, of the
+/// sample's magnitude and the detector's answer; 0.0 where none counts.
 pub fn linked(frame: &[Heard]) -> f64 {
-    let magnitudes = frame.iter().flat_map(|h| [h.sample.abs(), answer(&h.sums)]);
-    magnitudes.fold(0.0, larger)
+    let counted = frame.iter().filter(|h| h.counts);
+    counted.map(Heard::height).fold(0.0, larger)
 }
 
 /// The frames' linked peaks.
@@ -144,7 +152,17 @@ mod tests {
     const QUIET: Heard = heard(0.0, [0.0; 4]);
 
     const fn heard(sample: f64, sums: Sums) -> Heard {
-        Heard { sample, sums }
+        let counts = true;
+        Heard {
+            sample,
+            sums,
+            counts,
+        }
+    }
+
+    const fn left_out(heard: Heard) -> Heard {
+        let counts = false;
+        Heard { counts, ..heard }
     }
 
     fn on(frame: usize, channel: usize) -> Place {
@@ -214,6 +232,65 @@ mod tests {
         assert_eq!(place(&[vec![huge, huge]]), on(0, 0));
     }
 
+    #[test]
+    fn the_linked_peak_is_of_those_that_count() {
+        let (low, high) = (heard(-0.25, [0.1; 4]), heard(0.5, [0.1, -0.75, 0.0, NAN]));
+        let mid = heard(0.1, [0.0, 0.0, 0.3, 0.0]);
+        for (frame, peak) in [
+            (vec![low, high, mid], 0.75),
+            (vec![low, left_out(high), mid], 0.3),
+            (vec![low, left_out(high), left_out(mid)], 0.25),
+            (vec![left_out(low), high, left_out(mid)], 0.75),
+            (vec![left_out(low), left_out(high), left_out(mid)], 0.0),
+            (vec![left_out(heard(1.0, [INF; 4])), QUIET], 0.0),
+            (Vec::new(), 0.0),
+        ] {
+            assert_eq!(linked(&frame), peak, "{frame:?}");
+        }
+    }
+
+    #[test]
+    fn the_place_is_of_those_that_count() {
+        let (sample, sums) = (heard(-0.5, [0.1; 4]), heard(0.1, [0.2, -0.5, 0.0, 0.0]));
+        let higher = left_out(heard(0.9, [0.0, -1.0, 0.0, 0.0]));
+        // Neither an earlier frame nor a lower channel, if it is left out.
+        assert_eq!(place(&[vec![higher, QUIET], vec![QUIET, sample]]), on(1, 1));
+        assert_eq!(place(&[vec![left_out(sample), QUIET, sample]]), on(0, 2));
+        assert_eq!(
+            place(&[vec![left_out(sums), higher, sums]]),
+            between(0, 2, 1)
+        );
+        // A sample that is left out does not come before a sum.
+        assert_eq!(place(&[vec![sums, left_out(sample)]]), between(0, 0, 1));
+        assert_eq!(place(&[vec![sums, sample]]), on(0, 1));
+        // All that counts is silent, or nothing counts.
+        assert_eq!(
+            place(&[vec![QUIET, higher], vec![higher, QUIET]]),
+            Place::Nowhere
+        );
+        assert_eq!(place(&[vec![higher, left_out(sample)]]), Place::Nowhere);
+    }
+
+    /// Bit c is channel c; the detector of one that is left out hears it all the same.
+    #[test]
+    fn a_block_is_heard_whoever_counts() {
+        let audio = Audio::of(&[0.75, 0.0, 0.5, 0.0, 0.25, 0.0]);
+        let places = [0b000, 0b001, 0b010, 0b011, 0b101, 0b1111_1000];
+        let places = places.map(|left_out| place(&block(&audio, &[0.0; 3 * TAPS], left_out)));
+        assert_eq!(
+            places,
+            [on(0, 0), on(0, 1), on(0, 0), on(0, 2), on(0, 1), on(0, 0)]
+        );
+        for left_out in [0b111, 255, u32::MAX] {
+            let frames = block(&audio, &[0.0; 3 * TAPS], left_out);
+            assert_eq!(place(&frames), Place::Nowhere);
+            let all = block(&audio, &[0.0; 3 * TAPS], 0);
+            let sums =
+                |frames: &[Frame]| frames.concat().iter().map(|h| h.sums).collect::<Vec<_>>();
+            assert_eq!(sums(&frames), sums(&all));
+        }
+    }
+
     /// Twelve samples, as they are after the first push.
     fn twelve(places: &[(usize, f64)]) -> Vec<f64> {
         let mut store = vec![0.0; TAPS];
@@ -222,7 +299,7 @@ mod tests {
     }
 
     fn of(samples: &[f64], detector: &[f64]) -> Place {
-        place(&block(&Audio::of(samples), detector))
+        place(&block(&Audio::of(samples), detector, 0))
     }
 
     #[test]
@@ -245,7 +322,7 @@ mod tests {
         assert_eq!(of(&[0.0, 0.0, 0.25, 0.0], &store), on(0, 1));
         assert_eq!(of(&[0.0; 4], &store), Place::Nowhere);
         // After nine pushes it is gone, and the 9.0 before it.
-        let tail: Vec<Frame> = block(&Audio::of(&[0.5; 10]), &twelve(&[(3, NAN)]));
+        let tail: Vec<Frame> = block(&Audio::of(&[0.5; 10]), &twelve(&[(3, NAN)]), 0);
         assert!(tail[7][0].sums.iter().all(|sum| sum.is_nan()));
         assert!(tail[8][0].sums.iter().all(|sum| sum.is_finite()));
     }
@@ -254,14 +331,14 @@ mod tests {
     #[test]
     fn an_infinity_in_the_store_is_the_first_infinite_phase() {
         let store = twelve(&[(10, -INF)]);
-        let heard = &block(&Audio::of(&[1.0]), &store)[0][0];
+        let heard = &block(&Audio::of(&[1.0]), &store, 0)[0][0];
         assert!(heard.sums[3].is_nan());
         assert_eq!(heard.sums[..3], [INF; 3]);
         assert_eq!(of(&[1.0], &store), between(0, 0, 0));
         // The newer samples drive phase 0 to the other infinity first.
         let lag = |lag: usize, x: f64| (lag - 1, x);
         let store = twelve(&[lag(6, f64::MAX), lag(7, -f64::MAX), lag(11, INF)]);
-        let heard = &block(&Audio::of(&[1.0]), &store)[0][0];
+        let heard = &block(&Audio::of(&[1.0]), &store, 0)[0][0];
         assert!(heard.sums[0].is_nan());
         assert_eq!(of(&[1.0], &store), between(0, 0, 1));
     }

@@ -5,13 +5,20 @@ use std::f64::consts::LN_10;
 
 use crate::dsp::math;
 
-/// What a limiter is set up with, as far as 8 to 14 judge it.
+/// The most channels.
+pub const CHANNELS: usize = 8;
+
+/// What a limiter is set up with, as far as 8 to 14 judge it; and which channels
+/// are left out, which nobody judges.
 #[derive(Clone, Copy, Debug, PartialEq)]
 pub struct Setup {
     pub threshold: f64,
     pub margin: f64,
     pub lookahead: f64,
     pub release: f64,
+    /// The channels that do not count in the linked peak, a bit each (document 02,
+    /// Change 7).
+    pub left_out: u32,
     pub rate: u32,
     pub channels: usize,
     pub block: usize,
@@ -27,7 +34,7 @@ impl Setup {
             (10, self.lookahead.is_finite() && self.lookahead > 0.0),
             (11, release_taken(self.release)),
             (12, (11..=4096).contains(&look)),
-            (13, (1..=8).contains(&self.channels)),
+            (13, (1..=CHANNELS).contains(&self.channels)),
             (14, self.block <= 65_536),
         ];
         let broken = rows.iter().find(|(_, kept)| !kept);
@@ -63,6 +70,16 @@ impl Setup {
     }
 }
 
+/// Whether a channel counts: bit c leaves channel c out.
+pub fn counts(left_out: u32, channel: usize) -> bool {
+    left_out >> channel & 1 == 0
+}
+
+/// The bits of the channels that there can be; a state keeps these.
+pub fn kept(left_out: u32) -> u32 {
+    left_out & ((1 << CHANNELS) - 1)
+}
+
 /// The lookahead in frames, rounded, at least 1.
 pub fn look(lookahead: f64, rate: u32) -> u64 {
     ((lookahead * 1e-3) * f64::from(rate)).round().max(1.0) as u64
@@ -86,10 +103,29 @@ mod tests {
         margin: 0.1,
         lookahead: 1.5,
         release: 50.0,
+        left_out: 0,
         rate: 48_000,
         channels: 2,
         block: 512,
     };
+
+    #[test]
+    fn a_bit_leaves_its_channel_out() {
+        let counted = |left_out| [0, 1, 2, 3, 4, 5, 6, 7].map(|c| u8::from(counts(left_out, c)));
+        assert_eq!(counted(0), [1; CHANNELS]);
+        assert_eq!(counted(8), [1, 1, 1, 0, 1, 1, 1, 1]);
+        assert_eq!(counted(0b1000_0001), [0, 1, 1, 1, 1, 1, 1, 0]);
+        assert_eq!(counted(255), [0; CHANNELS]);
+        assert_eq!([256, 1 << 31, 0xffff_ff08].map(kept), [0, 0, 8]);
+    }
+
+    /// Any choice is as good.
+    #[test]
+    fn no_row_judges_who_counts() {
+        for left_out in [1, 2, 3, 4, 255, 256, u32::MAX] {
+            assert_eq!(Setup { left_out, ..GOOD }.refusal(), 0);
+        }
+    }
 
     #[test]
     fn document_01_looks() {

@@ -1,7 +1,7 @@
 //! The state that crosses: 64 words of 8 bytes, low byte first, and what they
 //! stand for.
 
-use super::setup::{look, Setup};
+use super::setup::{counts, kept, look, Setup, CHANNELS};
 use super::threshold::{declared, Smoother};
 use crate::calls::{words, STATE};
 use crate::layout::{smoother, state as at};
@@ -38,6 +38,7 @@ impl State {
             margin: 0.0,
             lookahead: 0.0,
             release: 0.0,
+            left_out: 0,
             rate: 0,
             channels: 0,
             block: 0,
@@ -62,7 +63,10 @@ impl State {
     /// What a finished setup leaves.
     pub fn started(setup: &Setup) -> Self {
         Self {
-            setup: *setup,
+            setup: Setup {
+                left_out: kept(setup.left_out),
+                ..*setup
+            },
             release_coeff: setup.release_coeff(),
             look: look(setup.lookahead, setup.rate),
             target: setup.target(),
@@ -98,18 +102,21 @@ impl State {
             && small(at::BANK_RATE)
             && words[at::SMOOTHER + smoother::SHAPE] <= 2
             && words[at::READY] <= 1
+            && words[at::COUNTED..at::USED].iter().all(|&word| word <= 1)
             && words[at::USED..].iter().all(|&word| word == 0);
         told.then(|| Self::of(&words))
     }
 
     fn of(words: &[u64]) -> Self {
         let float = |at: usize| f64::from_bits(words[at]);
+        let left_out = |channel: usize| u32::from(words[at::COUNTED + channel] == 0) << channel;
         Self {
             setup: Setup {
                 threshold: float(at::THRESHOLD),
                 margin: float(at::MARGIN),
                 lookahead: float(at::LOOKAHEAD),
                 release: float(at::RELEASE),
+                left_out: (0..CHANNELS).map(left_out).sum(),
                 rate: words[at::RATE] as u32,
                 channels: words[at::CHANNELS] as usize,
                 block: words[at::BLOCK] as usize,
@@ -137,6 +144,9 @@ impl State {
         let s = &self.setup;
         let mut words = [0; at::WORDS];
         words[at::SMOOTHER..at::COUNT].copy_from_slice(&self.threshold.words());
+        for (channel, word) in words[at::COUNTED..at::USED].iter_mut().enumerate() {
+            *word = u64::from(counts(s.left_out, channel));
+        }
         for (at, word) in [
             (at::LAYOUT, VERSION),
             (at::THRESHOLD, s.threshold.to_bits()),
@@ -177,6 +187,8 @@ mod tests {
         let words = (0..at::USED).map(|at| match at {
             at::LAYOUT => VERSION,
             SHAPE | at::READY => 1,
+            // Channels 0, 2, 3, 4, 5 and 6 count.
+            at::COUNTED.. => u64::from(at != at::COUNTED + 1 && at != at::COUNTED + 7),
             at => 1_000 + at as u64,
         });
         let mut bytes: Vec<u8> = words.flat_map(u64::to_le_bytes).collect();
@@ -184,6 +196,34 @@ mod tests {
         let state = State::read(&bytes).expect("a state");
         assert_eq!(state.bytes(), bytes);
         assert_eq!((state.frame, state.threshold.left), (1_012, 1_026));
+        assert_eq!(state.setup.left_out, 0b1000_0010);
+    }
+
+    /// Words 34 to 41, and 0 behind them.
+    #[test]
+    fn who_counts_stands_in_eight_words() {
+        let at = |left_out: u32| {
+            let setup = Setup {
+                left_out,
+                ..State::NEVER.setup
+            };
+            let words = words(&State::started(&setup).bytes());
+            assert!(words[42..].iter().all(|&word| word == 0));
+            words[34..42].to_vec()
+        };
+        assert_eq!(at(0), [1; 8]);
+        assert_eq!(at(8), [1, 1, 1, 0, 1, 1, 1, 1]);
+        // Bits past the eighth are not kept.
+        assert_eq!(at(0xffff_ff41), [0, 1, 1, 1, 1, 1, 0, 1]);
+        assert_eq!(words(&State::NEVER.bytes())[34..42], [1; 8]);
+    }
+
+    #[test]
+    fn a_reset_keeps_who_counts() {
+        let mut state = State::NEVER;
+        state.setup.left_out = 0b0100_1001;
+        state.reset();
+        assert_eq!(state.setup.left_out, 0b0100_1001);
     }
 
     #[test]
@@ -195,7 +235,8 @@ mod tests {
             bytes.resize(length, 0);
             assert_eq!(State::read(&bytes), None);
         }
-        // The version; high halves; shape 4; ready 2; room to grow.
+        // The version; high halves; shape 4; ready 2; counts 3, 257, 2^63 + 1 in the
+        // first and the last; room to grow from its first word on.
         for (byte, bit) in [
             (4, 1),
             (44, 0),
@@ -203,6 +244,13 @@ mod tests {
             (260, 0),
             (224, 2),
             (264, 1),
+            (272, 1),
+            (273, 0),
+            (279, 7),
+            (328, 1),
+            (329, 0),
+            (335, 7),
+            (336, 0),
             (511, 0),
         ] {
             let mut bytes = good.clone();

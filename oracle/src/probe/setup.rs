@@ -47,6 +47,7 @@ pub fn refusal(setup: &Setup) -> u32 {
         rate,
         channels,
         block,
+        ..
     } = *setup;
     // SAFETY: the function takes numbers and always returns.
     unsafe { probe_refusal(threshold, margin, lookahead, release, rate, channels, block) }

@@ -1,8 +1,10 @@
 //! What a block's samples are bent to, so that its highest linked peak has its
-//! like in another frame, another channel or a sample.
+//! like in another frame, another channel or a sample; or so that it is lower than
+//! what is left out of it.
 
 use crate::audio::Audio;
 use crate::model::detector::{phase, sums, taps, TAPS};
+use crate::model::setup::counts;
 use crate::numbers::uniform;
 use crate::rng::Rng;
 use crate::signals::height;
@@ -18,6 +20,8 @@ pub enum Aim {
     Again { period: usize, negated: bool },
     /// Channels with the samples of another, negated or not.
     Twins { seed: u64 },
+    /// Channels that count, divided by two so many times.
+    Hush { left_out: u32, times: u32 },
 }
 
 /// Frames from a pulse to the detector's answer.
@@ -38,6 +42,7 @@ impl Aim {
             Self::Level { seed } => planes.level(&mut Rng::new(seed)),
             Self::Again { period, negated } => planes.again(period, negated),
             Self::Twins { seed } => planes.twins(&mut Rng::new(seed)),
+            Self::Hush { left_out, times } => planes.hush(left_out, 0.5f64.powi(times as i32)),
         }
     }
 }
@@ -102,6 +107,19 @@ impl Planes<'_> {
         }
     }
 
+    /// Each sample of the channels that count, times a scale; those that are no
+    /// number stay.
+    fn hush(&mut self, left_out: u32, scale: f64) {
+        for channel in (0..self.channels).filter(|&channel| counts(left_out, channel)) {
+            for at in channel * self.frames..(channel + 1) * self.frames {
+                let x = self.audio.sample(at);
+                if x.is_finite() {
+                    self.audio.put(at, x * scale);
+                }
+            }
+        }
+    }
+
     /// The sample of a place in another, negated or not.
     fn copy(&mut self, from: usize, to: usize, negated: bool) {
         let size = self.audio.format.size();
@@ -152,7 +170,7 @@ mod tests {
     fn bent(aims: &[Aim], audio: &Audio, channels: usize) -> Vec<Frame> {
         let mut audio = audio.clone();
         aims.iter().for_each(|aim| aim.bend(&mut audio, channels));
-        block(&audio, &vec![0.0; channels * TAPS])
+        block(&audio, &vec![0.0; channels * TAPS], 0)
     }
 
     fn silence(format: Format, samples: usize) -> Audio {
@@ -226,6 +244,16 @@ mod tests {
         }
         let met = ["on a sample", "between samples"].map(|row| places.met(row, "another channel"));
         assert!(met[0] + met[1] > 20, "{places:?}");
+    }
+
+    #[test]
+    fn channels_that_count_are_hushed() {
+        let samples = [1.0, f32::INFINITY, 1.0, -3.0, 1.0, -0.0];
+        let (left_out, times) = (0b1010, 3);
+        let mut audio = Audio::of(&samples);
+        Aim::Hush { left_out, times }.bend(&mut audio, 3);
+        let due = Audio::of(&[0.125, f32::INFINITY, 1.0, -3.0, 0.125, -0.0]);
+        assert_eq!(audio, due);
     }
 
     /// A block that is cut keeps its first frames.

@@ -3,6 +3,7 @@
 mod bends;
 mod events;
 mod houses;
+mod linking;
 mod settings;
 
 use super::faults::{careless, damage, weights, Fault};
@@ -18,6 +19,7 @@ use crate::signals::{Signal, SIGNALS};
 use bends::{bend, remembered};
 use events::{events, gain, short_gain, spoil, value};
 use houses::{asking, settled, with_houses};
+use linking::{of_session, with_choices};
 use settings::{accepted, threshold};
 
 /// What sessions are for: every call as a host may make it; the same with more
@@ -69,36 +71,61 @@ pub struct Streams {
     aims: Rng,
     /// Who asks for a house table.
     houses: Rng,
+    /// Which channels are left out.
+    linking: Rng,
+    /// What a session leaves out from its start on.
+    left_out: u32,
 }
 
 impl Streams {
     pub fn new(seed: u64, number: u64) -> Self {
         let mut start = Rng::new(seed ^ number.rotate_left(32));
-        let [calls, formats, aims, houses] = [(); 4].map(|()| Rng::new(start.word()));
+        let [calls, formats, aims, houses, linking] = [(); 5].map(|()| Rng::new(start.word()));
         Self {
             calls,
             formats,
             aims,
             houses,
+            linking,
+            left_out: of_session(seed, number),
         }
     }
 }
 
-/// A random session; a recorded one asks for no house table.
+/// What a recorded session is drawn to have, whatever else it has.
+#[derive(Clone, Copy, Debug)]
+pub struct Wanted {
+    pub types: Types,
+    /// The rate and look of a house table that it asks for.
+    pub pair: Option<(u32, u64)>,
+    pub channels: Option<usize>,
+    pub left_out: u32,
+}
+
+/// A random session; a recorded one asks for no house table and leaves no channel
+/// out.
 pub fn session(mode: Mode, types: Types, mut streams: Streams) -> Session {
     let setup = accepted(mode, &mut streams.calls);
     let (setup, house) = match mode {
         Mode::Recorded => (setup, false),
-        _ => settled(setup, &mut streams.houses),
+        _ => {
+            let (setup, house) = settled(setup, &mut streams.houses);
+            (streams.linked(setup), house)
+        }
     };
     planned(mode, types, setup, house, streams)
 }
 
-/// A random session to be recorded, with the house table of a rate and look.
-pub fn house_session(pair: (u32, u64), types: Types, mut streams: Streams) -> Session {
-    let setup = accepted(Mode::Recorded, &mut streams.calls);
-    let setup = houses::at(setup, pair, &mut streams.houses);
-    planned(Mode::Recorded, types, setup, true, streams)
+/// A random session to be recorded.
+pub fn wanted(wanted: &Wanted, mut streams: Streams) -> Session {
+    let mut setup = accepted(Mode::Recorded, &mut streams.calls);
+    if let Some(pair) = wanted.pair {
+        setup = houses::at(setup, pair, &mut streams.houses);
+    }
+    setup.channels = wanted.channels.unwrap_or(setup.channels);
+    setup.left_out = wanted.left_out;
+    let house = wanted.pair.is_some();
+    planned(Mode::Recorded, wanted.types, setup, house, streams)
 }
 
 fn planned(mode: Mode, types: Types, setup: Setup, house: bool, streams: Streams) -> Session {
@@ -107,6 +134,8 @@ fn planned(mode: Mode, types: Types, setup: Setup, house: bool, streams: Streams
         mut formats,
         mut aims,
         houses,
+        linking,
+        ..
     } = streams;
     let rng = &mut rng;
     let look = look(setup.lookahead, setup.rate);
@@ -124,6 +153,7 @@ fn planned(mode: Mode, types: Types, setup: Setup, house: bool, streams: Streams
         bends: mode != Mode::Recorded && aims.below(4) > 0,
         aims,
         houses,
+        linking,
         setup,
         position: start(rng),
         palette: [0; 3].map(|_| rng.pick(kinds)),
@@ -211,6 +241,7 @@ struct Planner {
     /// Whether blocks are bent.
     bends: bool,
     houses: Rng,
+    linking: Rng,
     setup: Setup,
     /// Where the next block starts if it is in sequence.
     position: u64,
@@ -224,9 +255,13 @@ impl Planner {
         match self.mode {
             Mode::Whole | Mode::Direct => {
                 let turns = self.whole(rng);
-                with_houses(turns, &self.setup, &mut self.houses)
+                let turns = with_houses(turns, &self.setup, &mut self.houses);
+                with_choices(turns, &self.setup, &mut self.linking)
             }
-            Mode::Damage => self.damaged(rng),
+            Mode::Damage => {
+                let turns = self.damaged(rng);
+                with_choices(turns, &self.setup, &mut self.linking)
+            }
             Mode::Recorded => self.recorded(rng),
         }
     }
@@ -333,7 +368,9 @@ impl Planner {
 
     fn part(&mut self, rng: &mut Rng) -> Part {
         match rng.below(42) {
-            0 => Part::Restart,
+            0 => Part::Restart {
+                left_out: self.setup.left_out,
+            },
             1 | 40 | 41 => self.other_setup(rng),
             2..=4 => Part::Reset,
             5..=8 => self.set(rng),

@@ -5,6 +5,7 @@ use crate::calls::{floats, words, Call, Lent, DETECTOR, MARKS, ROW, STATE, STORE
 use crate::layout::{smoother, state};
 use crate::model::detector::TAPS;
 use crate::model::keeper::MOST_FRAMES;
+use crate::model::setup::CHANNELS;
 use crate::model::state::State;
 use crate::numbers::{any, near, not_finite};
 use crate::rng::Rng;
@@ -86,6 +87,10 @@ pub enum Fault {
     Twelves {
         seed: u64,
     },
+    /// Other channels that do not count.
+    LeftOut {
+        left_out: u32,
+    },
 }
 
 /// Words of the state that something judges or uses.
@@ -125,7 +130,9 @@ impl Fault {
             Self::StateWord { .. } | Self::StateAdd { .. } | Self::StateBit { .. } => {
                 self.change_state(&mut lent.state);
             }
-            Self::Late { .. } | Self::Ring { .. } | Self::Floor { .. } => self.forge(lent),
+            Self::Late { .. } | Self::Ring { .. } | Self::Floor { .. } | Self::LeftOut { .. } => {
+                self.forge(lent)
+            }
             Self::Weights { seed } => aim(&mut lent.stores.0[WEIGHTS], seed),
             Self::Unread { seed } => unread(&mut lent.stores.0[WEIGHTS], seed),
             Self::Twelves { seed } => remember(&mut lent.stores.0[DETECTOR], seed),
@@ -195,6 +202,7 @@ impl Fault {
                 let other = row.iter().filter(|&&w| f64::from_bits(w) != 1.0);
                 state.tally = other.count() as u64;
             }
+            Self::LeftOut { left_out } => state.setup.left_out = left_out,
             _ => {}
         }
         lent.state = state.bytes();
@@ -257,7 +265,7 @@ pub fn careless(rng: &mut Rng) -> Fault {
 /// A word that no state has.
 fn not_a_state(rng: &mut Rng) -> Fault {
     let high = 1 << (32 + rng.below(32));
-    let (at, word) = match rng.below(6) {
+    let (at, word) = match rng.below(7) {
         0 => (0, rng.word()),
         1 => {
             let id = state::SMOOTHER + smoother::ID;
@@ -273,11 +281,44 @@ fn not_a_state(rng: &mut Rng) -> Fault {
                 at: rng.below(64) as usize,
             }
         }
-        _ => {
-            let room = state::WORDS - state::USED;
-            let at = state::USED + rng.below(room as u64) as usize;
-            (at, 1 << rng.below(64))
+        5 => (counted(rng), neither(rng)),
+        _ => return room(rng),
+    };
+    Fault::StateWord { at, word }
+}
+
+/// A word of the state behind those that hold something.
+fn room(rng: &mut Rng) -> Fault {
+    let room = state::WORDS - state::USED;
+    Fault::StateWord {
+        at: state::USED + rng.below(room as u64) as usize,
+        word: 1 << rng.below(64),
+    }
+}
+
+/// A word that says whether a channel counts, or one that there is not.
+fn counted(rng: &mut Rng) -> usize {
+    state::COUNTED + rng.below(CHANNELS as u64) as usize
+}
+
+/// Neither yes nor no.
+fn neither(rng: &mut Rng) -> u64 {
+    let any = 2 + (rng.word() >> (1 + rng.below(62)));
+    rng.pick(&[2, 3, 255, 256, 1 << 32, 1 << 63, u64::MAX, any])
+}
+
+/// Other channels that do not count: any of them, or one that may; or words that
+/// no state has, for a channel and behind them.
+fn unlinked(rng: &mut Rng) -> Fault {
+    let (at, word) = match rng.below(6) {
+        0 => {
+            return Fault::LeftOut {
+                left_out: rng.below(1 << CHANNELS) as u32,
+            }
         }
+        1..=3 => (counted(rng), rng.below(2)),
+        4 => (counted(rng), neither(rng)),
+        _ => return room(rng),
     };
     Fault::StateWord { at, word }
 }
@@ -285,7 +326,7 @@ fn not_a_state(rng: &mut Rng) -> Fault {
 /// A change of state or stores, aimed at what 18, 19 and 22 judge and at what
 /// they leave free.
 pub fn damage(rng: &mut Rng) -> Fault {
-    match rng.below(16) {
+    match rng.below(18) {
         0 => Fault::StateBit {
             at: rng.below(8 * STATE as u64) as usize,
         },
@@ -311,6 +352,7 @@ pub fn damage(rng: &mut Rng) -> Fault {
             at: rng.word() as u32 as usize,
             floor: level(rng),
         },
+        11 | 12 => unlinked(rng),
         _ => store_damage(rng),
     }
 }

@@ -3,6 +3,7 @@
 
 mod aims;
 mod asked;
+mod choices;
 mod draw;
 mod faults;
 mod places;

@@ -1,6 +1,7 @@
 //! Where the peaks of blocks sat, counted: what each was as high as, so that a
 //! run shows which rule it met how often.
 
+use super::choices::louder;
 use crate::model::place::{highest, peaks, place, Frame, Heard, Place};
 
 /// What a block answers, and what it is counted as.
@@ -9,6 +10,8 @@ pub struct Found {
     pub place: Place,
     row: Option<usize>,
     met: [bool; MOST],
+    /// Frames in which a channel that does not count is the highest.
+    pub louder: u64,
 }
 
 /// Blocks by their place: empty ones, silent ones, and a row for each kind.
@@ -92,10 +95,10 @@ fn detectors(told: &Told) -> bool {
     told.heard.iter().any(|h| h.has_answer(told.peak))
 }
 
-/// A sum of the frame is a NaN.
+/// A sum of the frame that counts is a NaN.
 fn nans(told: &Told) -> bool {
-    let mut sums = told.heard.iter().flat_map(|h| h.sums);
-    sums.any(f64::is_nan)
+    let counted = told.heard.iter().filter(|h| h.counts);
+    counted.flat_map(|h| h.sums).any(f64::is_nan)
 }
 
 impl Found {
@@ -103,11 +106,14 @@ impl Found {
     pub fn of(frames: &[Frame]) -> Self {
         let (place, peaks) = (place(frames), peaks(frames));
         let peak = highest(&peaks);
+        let nowhere = Self {
+            place,
+            row: None,
+            met: [false; MOST],
+            louder: louder(frames),
+        };
         let (row, frame) = match place {
-            Place::Nowhere => {
-                let (row, met) = (None, [false; MOST]);
-                return Self { place, row, met };
-            }
+            Place::Nowhere => return nowhere,
             Place::Sample { frame, .. } => (0, frame),
             Place::Between { frame, .. } => (1 + usize::from(peak.is_infinite()), frame),
         };
@@ -122,7 +128,11 @@ impl Found {
         let ties = met.iter_mut().zip(ROWS[row].1);
         ties.for_each(|(met, (_, tie))| *met = tie(&told));
         let row = Some(row);
-        Self { place, row, met }
+        Self {
+            row,
+            met,
+            ..nowhere
+        }
     }
 }
 
@@ -195,7 +205,12 @@ mod tests {
     const INF: f64 = f64::INFINITY;
 
     fn heard(sample: f64, sums: [f64; 4]) -> Heard {
-        Heard { sample, sums }
+        let counts = true;
+        Heard {
+            sample,
+            sums,
+            counts,
+        }
     }
 
     /// The ties that a block is counted with.

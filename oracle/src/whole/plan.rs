@@ -36,8 +36,10 @@ pub struct Turn {
 /// A call that is yet to get its audio.
 #[derive(Clone, Debug)]
 pub enum Part {
-    /// The session's own setup again.
-    Restart,
+    /// The session's own setup again, other channels left out or the same ones.
+    Restart {
+        left_out: u32,
+    },
     Setup {
         setup: Setup,
         cap: Option<u64>,
@@ -102,8 +104,11 @@ impl Part {
     pub fn call(&self, session: &Session) -> Call {
         let channels = session.setup.channels;
         match self.clone() {
-            Self::Restart => Call::Setup {
-                setup: session.setup,
+            Self::Restart { left_out } => Call::Setup {
+                setup: Setup {
+                    left_out,
+                    ..session.setup
+                },
                 cap: session.cap,
                 house: session.house,
             },

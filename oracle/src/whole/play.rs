@@ -4,6 +4,7 @@
 //! proved code play.
 
 use super::asked::{Asked, Houses};
+use super::choices::Choices;
 use super::draw::Mode;
 use super::faults::unread;
 use super::places::{Found, Places};
@@ -16,6 +17,7 @@ use crate::calls::{
 };
 use crate::model::calls as model;
 use crate::model::place;
+use crate::model::state::State;
 use crate::rng::rubbish;
 
 /// What was played.
@@ -31,6 +33,8 @@ pub struct Counts {
     pub places: Places,
     /// Sessions and setups with a house table.
     pub houses: Houses,
+    /// Channels that were left out.
+    pub choices: Choices,
 }
 
 impl Counts {
@@ -45,6 +49,7 @@ impl Counts {
             .for_each(|(sum, n)| *sum += n);
         self.places.add(&other.places);
         self.houses.add(&other.houses);
+        self.choices.add(&other.choices);
     }
 
     /// So many frames more, where a call took any.
@@ -102,7 +107,9 @@ pub fn play(session: &Session, mode: Mode, proved: Option<Side>) -> Result<Count
         ..Counts::default()
     };
     let first = Turn {
-        part: Part::Restart,
+        part: Part::Restart {
+            left_out: session.setup.left_out,
+        },
         faults: Vec::new(),
         answer: ANSWER,
     };
@@ -123,6 +130,7 @@ pub fn play(session: &Session, mode: Mode, proved: Option<Side>) -> Result<Count
         if let Some(asked) = &left.asked {
             counts.houses.take(left.number, asked);
         }
+        left.count_choice(&mut counts.choices);
     }
     Ok(counts)
 }
@@ -160,7 +168,8 @@ impl Stage {
         }
         let tried = self.tried(turn, &call)?;
         let number = tried.model.number;
-        if matches!(turn.part, Part::Restart) && turn.faults.is_empty() && number != 0 {
+        let restarts = matches!(turn.part, Part::Restart { .. });
+        if restarts && turn.faults.is_empty() && number != 0 {
             return Err(format!("the Rust takes a setup, refused by {number}"));
         }
         if turn.commits() {
@@ -234,8 +243,10 @@ fn found(lent: &Lent, call: &Call) -> Option<Found> {
     let Call::Process { audio, .. } = call else {
         return None;
     };
+    let state = State::read(&lent.state)?;
     let detector = floats(&lent.stores.0[DETECTOR]);
-    Some(Found::of(&place::block(audio, &detector)))
+    let heard = place::block(audio, &detector, state.setup.left_out);
+    Some(Found::of(&heard))
 }
 
 /// The proved code plays the call too.
@@ -319,6 +330,14 @@ impl Left {
                 self.lent.answer.first().copied().unwrap_or_default()
             }
             _ => 0,
+        }
+    }
+
+    /// The frames, by the channels that the state leaves out.
+    fn count_choice(&self, choices: &mut Choices) {
+        let louder = self.found.map_or(0, |found| found.louder);
+        if let (frames @ 1.., Some(state)) = (self.frames(), State::read(&self.lent.state)) {
+            choices.take(&state.setup, frames, louder);
         }
     }
 

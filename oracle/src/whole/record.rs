@@ -6,7 +6,7 @@
 use std::fs;
 use std::path::Path;
 
-use super::draw::{house_session, Mode, Streams, RECORDED};
+use super::draw::{wanted, Mode, Streams, Wanted, RECORDED};
 use super::drawn;
 use super::plan::{Part, Session};
 use super::play::Counts;
@@ -16,6 +16,7 @@ use crate::audio::{Format, Types};
 use crate::calls::{Call, Lent, WEIGHTS};
 use crate::model::calls as model;
 use crate::model::house::PAIRS;
+use crate::model::setup::kept;
 use crate::samples::{digest, Source};
 
 /// Sessions kept to either sample type. The recorded file never depends on the
@@ -39,6 +40,49 @@ const SETTINGS: [Settings; 2] = [
 /// that they are drawn from.
 const HOUSES: [Types; PAIRS.len()] = [Types::F64, Types::F32, Types::F64, Types::F32];
 const HOUSES_SEED: u64 = 8;
+
+/// The sessions that leave channels out, and the seed that they are drawn from. The
+/// bass channel of six or eight is channel 3.
+const LEFT_OUT: [Wanted; 18] = [
+    at_house(1, leaving(Types::F64, 6, 0b00_1000)),
+    at_house(2, leaving(Types::F32, 6, 0b00_1000)),
+    leaving(Types::F64, 8, 0b0000_1000),
+    leaving(Types::F32, 8, 0b1100_1000),
+    leaving(Types::F64, 2, 0b01),
+    leaving(Types::F32, 2, 0b10),
+    leaving(Types::F64, 3, 0b101),
+    leaving(Types::F32, 4, 0b0110),
+    leaving(Types::F64, 5, 0b1_0000),
+    leaving(Types::F32, 7, 0b111_1110),
+    leaving(Types::F64, 8, 0b0111_1111),
+    leaving(Types::F32, 8, 0b0101_0101),
+    // None that counts.
+    leaving(Types::F64, 6, 0b11_1111),
+    leaving(Types::F32, 2, 0b11),
+    leaving(Types::F64, 1, 0b1),
+    // Bits past the channels, alone and with others.
+    leaving(Types::F64, 3, 0b1111_1000),
+    leaving(Types::F32, 2, 0b1000_0001),
+    leaving(Types::F64, 4, 0b1111_0010),
+];
+const LEFT_OUT_SEED: u64 = 33;
+
+const fn leaving(types: Types, channels: usize, left_out: u32) -> Wanted {
+    Wanted {
+        types,
+        pair: None,
+        channels: Some(channels),
+        left_out,
+    }
+}
+
+/// The same with a house table.
+const fn at_house(pair: usize, wanted: Wanted) -> Wanted {
+    Wanted {
+        pair: Some(PAIRS[pair]),
+        ..wanted
+    }
+}
 
 /// Kinds of samples.
 const KINDS: u64 = 6;
@@ -99,13 +143,31 @@ fn recorded() -> Result<Record, String> {
         }
     }
     for ((number, pair), types) in (1..).zip(PAIRS).zip(HOUSES) {
+        let with = Wanted {
+            types,
+            pair: Some(pair),
+            channels: None,
+            left_out: 0,
+        };
         let streams = Streams::new(HOUSES_SEED, number);
-        record.play(&house_session(pair, types, streams), number)?;
+        record.play(&wanted(&with, streams), number)?;
+    }
+    for (at, with) in (0..).zip(&LEFT_OUT) {
+        record.leave_out(at, with)?;
     }
     Ok(record)
 }
 
 impl Record {
+    /// Play a session that leaves channels out. Its samples are of any kind but the
+    /// last, which is too faint to be limited.
+    fn leave_out(&mut self, at: u64, with: &Wanted) -> Result<(), String> {
+        let loud = KINDS - 1;
+        let number = at / loud * KINDS + at % loud;
+        let session = wanted(with, Streams::new(LEFT_OUT_SEED, number));
+        self.play(&session, number)
+    }
+
     /// Play a session and add its words.
     fn play(&mut self, session: &Session, number: u64) -> Result<(), String> {
         let source = Source {
@@ -159,7 +221,7 @@ impl Recorder {
         words.extend(floats.map(f64::to_bits));
         words.extend([self.rust.look() as u64, weights.len() as u64]);
         words.extend([self.source.state, self.source.kind, setup.block as u64]);
-        words.push(u64::from(session.house));
+        words.extend([u64::from(session.house), u64::from(kept(setup.left_out))]);
         words.extend(weights);
         words
     }
@@ -294,12 +356,13 @@ mod tests {
             };
             let (rate, channels) = (file.next() as u32, file.next() as usize);
             let [threshold, margin, lookahead, release] = [(); 4].map(|()| file.float());
-            let [look, rows, seed, kind, block, house] = [(); 6].map(|()| file.next());
+            let [look, rows, seed, kind, block, house, left_out] = [(); 7].map(|()| file.next());
             let setup = Setup {
                 threshold,
                 margin,
                 lookahead,
                 release,
+                left_out: left_out as u32,
                 rate,
                 channels,
                 block: block as usize,
@@ -398,37 +461,101 @@ mod tests {
         }
     }
 
-    #[test]
-    fn a_replay_by_the_model_gives_the_file_again() {
-        let record = recorded().expect("good settings");
-        let mut file = Reader {
-            rest: &record.words,
-        };
-        let (mut ops, mut calls, mut houses) = ([0; 9], 0, Vec::new());
+    /// A file's calls by their op, and its sessions, once replayed.
+    fn replayed(words: &[u64]) -> ([u64; 9], Vec<Replay>) {
+        let mut file = Reader { rest: words };
+        let (mut ops, mut sessions) = ([0; 9], Vec::new());
         while !file.rest.is_empty() {
             let mut replay = Replay::start(&mut file);
-            if replay.house {
-                houses.push((replay.setup.rate, replay.source.format));
-            }
             loop {
                 let op = file.next();
                 if op == END {
                     break;
                 }
                 ops[op as usize] += 1;
-                calls += 1;
                 replay.call(op, &mut file);
             }
+            sessions.push(replay);
         }
-        assert_eq!(calls, record.counts.calls);
+        (ops, sessions)
+    }
+
+    #[test]
+    fn a_replay_by_the_model_gives_the_file_again() {
+        let record = recorded().expect("good settings");
+        let (ops, sessions) = replayed(&record.words);
+        assert_eq!(ops.iter().sum::<u64>(), record.counts.calls);
+        let houses = sessions.iter().filter(|s| s.house);
+        let houses: Vec<(u32, Format)> = houses.map(|s| (s.setup.rate, s.source.format)).collect();
         let due = [
             (44_100, Format::F64),
             (48_000, Format::F32),
             (96_000, Format::F64),
             (192_000, Format::F32),
+            // Six channels with the bass left out.
+            (48_000, Format::F64),
+            (96_000, Format::F32),
         ];
         assert_eq!(houses, due);
         assert!(ops[2..].iter().all(|&n| n > 20), "{ops:?}");
+    }
+
+    /// The words of a session as it is or with other bits, but for those bits.
+    fn left_out(at: usize, left_out: u32) -> Vec<u64> {
+        let mut record = Record::default();
+        let with = Wanted {
+            left_out,
+            ..LEFT_OUT[at]
+        };
+        record.leave_out(at as u64, &with).expect("good settings");
+        assert_eq!(record.words.remove(13), u64::from(left_out));
+        record.words
+    }
+
+    #[test]
+    fn channels_left_out_are_heard_to_be() {
+        for (at, wanted) in LEFT_OUT.iter().enumerate() {
+            let channels = wanted.channels.expect("so many");
+            let own = wanted.left_out & ((1 << channels) - 1);
+            assert_eq!(left_out(at, wanted.left_out), left_out(at, own));
+            assert_eq!(left_out(at, own) == left_out(at, 0), own == 0, "{wanted:?}");
+        }
+    }
+
+    /// Every channel count and both types; none that counts; no bit that matters.
+    #[test]
+    fn sessions_that_leave_channels_out_are_of_every_kind() {
+        let has = |test: &dyn Fn(&Wanted, u32, u32) -> bool| {
+            let of = |w: &&Wanted| {
+                let all = (1 << w.channels.expect("so many")) - 1;
+                test(w, w.left_out & all, all)
+            };
+            LEFT_OUT.iter().filter(of).count()
+        };
+        for channels in 1..=8 {
+            assert!(has(&|w, _, _| w.channels == Some(channels)) > 0);
+        }
+        for types in [Types::F64, Types::F32] {
+            assert!(has(&|w, own, _| w.types == types && own != 0) >= 8);
+            assert!(has(&|w, own, all| w.types == types && own == all) > 0);
+        }
+        assert!(has(&|w, own, _| w.left_out > own) > 2);
+        assert_eq!(has(&|_, own, _| own == 0), 1);
+    }
+
+    #[test]
+    fn sessions_that_leave_channels_out_have_every_call() {
+        let mut record = Record::default();
+        for (at, with) in (0..).zip(&LEFT_OUT) {
+            record.leave_out(at, with).expect("good settings");
+        }
+        let (ops, _) = replayed(&record.words);
+        assert!(ops[BLOCK as usize] > 100, "{ops:?}");
+        assert!(ops[DRAIN as usize] > 40, "{ops:?}");
+        assert!(
+            ops[RESET as usize] > 15 && ops[SETUP as usize] > 4,
+            "{ops:?}"
+        );
     }
 
     #[test]

@@ -21,7 +21,7 @@ pub fn passed(counts: &Counts, seed: u64) -> String {
         wide + narrow,
         counts.calls,
         by_number.join(", "),
-        counts.places.line() + &counts.houses.line()
+        counts.places.line() + &counts.houses.line() + &counts.choices.line()
     )
 }
 

@@ -1,6 +1,8 @@
 //! The Rust's `KernelProcessor<Limiter, _>` at either sample type, behind the same
 //! calls.
 
+mod aside;
+
 use crate::audio::{Audio, Crossing, Format};
 use crate::block::AudioBlockMut;
 use crate::calls::{Call, Lent, Stores, ANSWER};
@@ -14,11 +16,14 @@ use crate::model::{house, judge};
 use crate::param::{ParamEvent, ParamId, ParamSetError};
 use crate::spec::ProcessSpec;
 use crate::traits::Processor;
+use aside::Aside;
 
 /// A processor that was prepared.
 pub struct Rust {
     processor: Typed,
     spec: ProcessSpec,
+    /// The channels that do not count, which the Rust is fed silence for.
+    aside: Aside,
 }
 
 /// A processor of a sample type.
@@ -71,7 +76,12 @@ impl Rust {
         let mut processor = Typed::new(limiter, format);
         let prepared = typed!(&mut processor, p => p.prepare(spec));
         prepared.map_err(|e| e.to_string())?;
-        Ok(Self { processor, spec })
+        let look = typed!(&processor, p => p.latency());
+        Ok(Self {
+            processor,
+            spec,
+            aside: Aside::new(setup.left_out, setup.channels, look),
+        })
     }
 
     /// A processor that holds what is lent, where both mean the same by it: the
@@ -93,7 +103,9 @@ impl Rust {
     }
 
     fn forge(&mut self, state: &State, stores: &Stores) {
-        kernel::forge(self.kernel_mut(), state, stores);
+        let mut stores = stores.clone();
+        self.aside.take(&mut stores);
+        kernel::forge(self.kernel_mut(), state, &stores);
         let bank = typed!(&mut self.processor, p => driver::bank_mut(p));
         let mut slot = driver::slots(bank)[0];
         slot.cur = state.threshold.cur;
@@ -124,8 +136,9 @@ impl Rust {
     /// these the Rust refuses by itself. Answers the number and what is told.
     pub fn call(&mut self, call: &mut Call) -> (u32, Vec<u64>) {
         match call {
-            Call::Setup { .. } => {
+            Call::Setup { setup, .. } => {
                 let prepared = typed!(&mut self.processor, p => p.prepare(self.spec));
+                self.aside = Aside::new(setup.left_out, setup.channels, self.look());
                 (u32::from(prepared.is_err()), Vec::new())
             }
             Call::Process {
@@ -145,6 +158,7 @@ impl Rust {
             },
             Call::Reset => {
                 typed!(&mut self.processor, p => p.reset());
+                self.aside.reset();
                 (0, Vec::new())
             }
             Call::GainStep { bits } => (0, self.gain_step(f64::from_bits(*bits))),
@@ -165,12 +179,28 @@ impl Rust {
     fn process(&mut self, position: u64, events: &[u64], audio: &mut Audio) {
         self.turn_to(audio.format);
         let events: Vec<ParamEvent> = events.chunks_exact(3).map(event).collect();
+        if self.aside.is_empty() {
+            self.render(position, &events, audio);
+        } else {
+            self.render_runs(position, &events, audio);
+        }
+    }
+
+    fn render(&mut self, position: u64, events: &[ParamEvent], audio: &mut Audio) {
         let channels = self.spec.channels;
-        typed!(&mut self.processor, p => process(p, channels, position, &events, audio));
+        typed!(&mut self.processor, p => process(p, channels, position, events, audio));
     }
 
     fn flush(&mut self, audio: &mut Audio) -> Vec<u64> {
         self.turn_to(audio.format);
+        if self.aside.is_empty() {
+            self.drain(audio)
+        } else {
+            self.drain_frames(audio)
+        }
+    }
+
+    fn drain(&mut self, audio: &mut Audio) -> Vec<u64> {
         let channels = self.spec.channels;
         typed!(&mut self.processor, p => flush(p, channels, audio))
     }
@@ -209,10 +239,14 @@ impl Rust {
         told
     }
 
-    /// All that the Rust holds, as it would cross; the answer is empty.
+    /// All that the Rust holds, as it would cross, and what is held beside it; the
+    /// answer is empty.
     pub fn lent(&self) -> Lent {
         let limiter = self.kernel();
+        let mut stores = kernel::stores(limiter);
+        self.aside.show(&mut stores);
         let mut state = kernel::state(limiter);
+        state.setup.left_out = self.aside.left_out;
         let largest = typed!(&self.processor, p => driver::largest_block(p));
         state.setup.block = largest.unwrap_or_default();
         state.threshold = self.threshold(state.setup.threshold);
@@ -222,7 +256,7 @@ impl Rust {
         Lent {
             state: state.bytes(),
             answer: vec![0; ANSWER],
-            stores: kernel::stores(limiter),
+            stores,
         }
     }
 
@@ -252,6 +286,7 @@ fn footprint(channels: u64, look: u64) -> u64 {
         margin: 0.0,
         lookahead: look as f64 / 48.0,
         release: 0.0,
+        left_out: 0,
         rate: 48_000,
         channels: channels as usize,
         block: 0,

@@ -12,7 +12,7 @@ const RATES: [u32; 8] = [
     8_000, 11_025, 22_050, 44_100, 48_000, 96_000, 176_400, 192_000,
 ];
 
-/// A setup that document 01 accepts.
+/// A setup that document 01 accepts, in which all channels count.
 pub fn accepted(mode: Mode, rng: &mut Rng) -> Setup {
     loop {
         let rate = match rng.below(2) {
@@ -25,6 +25,7 @@ pub fn accepted(mode: Mode, rng: &mut Rng) -> Setup {
             margin: rng.pick(&[0.0, -0.0, 0.1, 0.1, 1.0, 30.0]),
             lookahead: frames * 1e3 / f64::from(rate),
             release: release(rng),
+            left_out: 0,
             rate,
             channels: 1 + rng.below(8) as usize,
             block: largest_block(rng),

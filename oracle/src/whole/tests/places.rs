@@ -5,6 +5,7 @@ use super::*;
 use crate::calls::DETECTOR;
 use crate::model::detector::{answer, phase, TAPS};
 use crate::model::place::{block, hear, highest, linked, peaks, place, Frame, Heard, Place};
+use crate::model::state::State;
 use crate::whole::places::Places;
 
 /// Every place, and every tie that decides one. Without damage no sum is a NaN.
@@ -32,7 +33,9 @@ fn misplaced(lent: &mut Lent, call: &mut Call, rule: fn(&[Frame]) -> Place) -> u
     let number = model(lent, call);
     if let (0, Call::Process { audio, .. }) = (number, &before.1) {
         let detector = floats(&before.0.stores.0[DETECTOR]);
-        lent.tell(&rule(&block(audio, &detector)).words());
+        let state = State::read(&before.0.state).expect("judged to be one");
+        let frames = block(audio, &detector, state.setup.left_out);
+        lent.tell(&rule(&frames).words());
     }
     number
 }
@@ -188,7 +191,12 @@ fn never_nowhere(frames: &[Frame]) -> Place {
 fn unremembered(frames: &[Frame]) -> Place {
     let mut detector = vec![0.0; TAPS * frames.first().map_or(0, Vec::len)];
     let samples = |f: &Frame| -> Vec<f64> { f.iter().map(|h| h.sample).collect() };
-    let heard = |f: &Frame| hear(&samples(f), &mut detector);
+    let heard = |f: &Frame| {
+        let mut heard = hear(&samples(f), &mut detector, 0);
+        let pairs = heard.iter_mut().zip(f);
+        pairs.for_each(|(heard, told)| heard.counts = told.counts);
+        heard
+    };
     place(&frames.iter().map(heard).collect::<Vec<Frame>>())
 }
 

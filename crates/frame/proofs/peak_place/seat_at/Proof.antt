@@ -1,5 +1,5 @@
 -- `seat_at`: a sample as high among the channels from c on, or else what `between` tells.
-use Rattle.frame.proofs.Seats.{voicesSince, sample-found, sample-passed, sample-none, seat-none, seat-some}
+use Rattle.frame.proofs.Seats.{same-test, voicesSince, sample-found, sample-passed, sample-none, seat-none, seat-some}
 use Rattle.frame.specs.declared.highest.Seat.{Seat}
 use Rattle.frame.specs.Passes.{voicesPass}
 use Rattle.frame.specs.Seat.{betweenFrom, sampleFrom}
@@ -7,10 +7,11 @@ use Rattle.frame.specs.Rules.{linkingOf}
 use Rattle.detector.specs.Run.{runLength}
 use Rattle.arithmetic.specs.Number.{absOf}
 use denote.Ref.{now}
-use lib.Ieee.{Float, nan, eq, ofBits}
+use lib.Ieee.{nan, ofBits}
 use lib.ListN.{getD}
 use Prim.Native.Nat.{_+_, _-_, _*_, _≤_}
-use mathlib.Core.Path.{_≡_, refl, sym, ap, _∙_}
+use mathlib.Core.Bool.{true, false}
+use mathlib.Core.Path.{_≡_, refl, ap, _∙_}
 use borrow.Author.Needs.{needs}
 use Rattle.frame.proofs.peak_place.seat_at.Statement.{statement}
 use Rattle.frame.proofs.peak_place.seat_at.Tie as tie
@@ -50,19 +51,23 @@ finite-or-zero-requires c κs = search needs
 abs-requires : tie.Need-abs-requires Inv-loop μ-loop
 abs-requires c κs = search needs
 
+counts-in-requires : tie.Need-counts-in-requires Inv-loop μ-loop
+counts-in-requires c κs = search needs
+
 returns-2 : tie.Need-returns-2 Inv-loop μ-loop
 unfolding ofBits
 returns-2 c =
-    let l = c .before .before .before .before .before in
+    let l = c .before .before .before .before .before .before in
     let a = l .before .before .before .before .args in
     let d = now (a .detector) in
     let x = now (a .audio) in
     let i = l .loop .c in
     let y = getD x (i * runLength + a .at) nan in
-    let same = c .before .abs .ensures ∙ ap absOf (c .before .before .finite-or-zero .ensures) in
+    let k = c .before .counts-in in
+    let same = c .before .before .abs .ensures ∙ ap absOf (c .before .before .before .finite-or-zero .ensures) in
     let other = betweenFrom (a .peak) 0 (voicesPass (linkingOf (a .settings)) 0 (a .channels) (a .at) d x) in
     seat-some (a .settings) (a .channels) (a .at) d x (a .peak) (Seat.OnSample i) (l .before .if1 .left)
-    (sample-found (a .settings) (a .channels) (a .at) d x (a .peak) i y (search needs) refl other (ap (λ (z : Float). eq z (a .peak)) (sym same) ∙ c .if2 .taken) ∙ l .loop .inv .1 other)
+    (sample-found (a .settings) (a .channels) (a .at) d x (a .peak) i y (search needs) refl other (same-test (k .result) _ true (c .before .before .abs .result) _ (a .peak) (k .ensures) same (c .if2 .taken)) ∙ l .loop .inv .1 other)
 
 add-c : tie.Need-add-c Inv-loop μ-loop
 add-c c = search needs
@@ -72,14 +77,15 @@ loop-less c = search needs
 
 loop-again : tie.Need-loop-again Inv-loop μ-loop
 loop-again c =
-    let l = c .before .before .before .before .before in
+    let l = c .before .before .before .before .before .before in
     let a = l .before .before .before .before .args in
     let d = now (a .detector) in
     let x = now (a .audio) in
     let i = l .loop .c in
     let y = getD x (i * runLength + a .at) nan in
-    let same = c .before .abs .ensures ∙ ap absOf (c .before .before .finite-or-zero .ensures) in
-    (search needs, λ other. sample-passed (a .settings) (a .channels) (a .at) d x (a .peak) i y (search needs) refl other (ap (λ (z : Float). eq z (a .peak)) (sym same) ∙ c .if2 .left) ∙ l .loop .inv .1 other)
+    let k = c .before .counts-in in
+    let same = c .before .before .abs .ensures ∙ ap absOf (c .before .before .before .finite-or-zero .ensures) in
+    (search needs, λ other. sample-passed (a .settings) (a .channels) (a .at) d x (a .peak) i y (search needs) refl other (same-test (k .result) _ false (c .before .before .abs .result) _ (a .peak) (k .ensures) same (c .if2 .left)) ∙ l .loop .inv .1 other)
 
 between-requires : tie.Need-between-requires Inv-loop μ-loop
 between-requires c κs = search needs
@@ -109,6 +115,7 @@ seat-at-spec =
     shared-slice-read-finite-or-zero
     finite-or-zero-requires
     abs-requires
+    counts-in-requires
     returns-2
     add-c
     loop-less

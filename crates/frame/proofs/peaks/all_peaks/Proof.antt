@@ -69,7 +69,7 @@ hear-or-pass-requires : tie.Need-hear-or-pass-requires Inv-loop μ-loop
 hear-or-pass-requires c κs =
     let l = c .before .before .before .before in
     let k = l .loop .inv .2 in
-    (search needs, (search needs, (search needs, alike-from-zero (l .before .before .before .before .before .args .ceiling) (l .loop .peaks) (k .whole) (k .alike))))
+    (search needs, (search needs, (search needs, (alike-from-zero (l .before .before .before .before .before .args .ceiling) (l .loop .peaks) (k .whole) (k .alike), search needs))))
 
 add-c : tie.Need-add-c Inv-loop μ-loop
 add-c c = search needs

@@ -2,7 +2,7 @@
 use mathlib.Core.Bool.{false}
 use mathlib.Core.Path.{sym, _∙_}
 use borrow.Author.Needs.{needs}
-use Rattle.settings.specs.Settings.{settingsOf, processSpec}
+use Rattle.settings.specs.Settings.{settingsOf, allCount, processSpec}
 use Rattle.settings.specs.declared.LimiterSettings.{LimiterSettings}
 use Rattle.settings.specs.declared.ProcessSpec.{ProcessSpec}
 use Rattle.settings.specs.declared.memory.Cap.{Cap}
@@ -11,7 +11,7 @@ use Rattle.probe.proofs.setup.probe_refusal.Statement.{statement}
 use Rattle.probe.proofs.setup.probe_refusal.Tie as tie
 
 abbrev given : tie.Start → LimiterSettings
-given s = settingsOf (s .args .threshold) (s .args .margin) (s .args .lookahead) (s .args .release)
+given s = settingsOf (s .args .threshold) (s .args .margin) (s .args .lookahead) (s .args .release) allCount
 
 abbrev told : tie.Start → ProcessSpec
 told s = processSpec (s .args .rate) (s .args .channels) (s .args .«max-block») Cap.Unlimited false

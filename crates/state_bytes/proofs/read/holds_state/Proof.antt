@@ -22,8 +22,8 @@ word-at-requires-4 c κs = search needs
 word-at-requires-5 : tie.Need-word-at-requires-5
 word-at-requires-5 c κs = search needs
 
-word-at-requires-6 : tie.Need-word-at-requires-6
-word-at-requires-6 c κs = search needs
+flags-hold-requires : tie.Need-flags-hold-requires
+flags-hold-requires c κs = search needs
 
 returns : tie.Need-returns
 unfolding holdsState
@@ -39,5 +39,5 @@ holds-state-spec =
     word-at-requires-3
     word-at-requires-4
     word-at-requires-5
-    word-at-requires-6
+    flags-hold-requires
     returns)

@@ -1,7 +1,10 @@
--- `settings_in`: the four floats.
+-- `settings_in`: the four floats, and which channels count.
 use borrow.Author.Needs.{needs}
 use Rattle.state_bytes.proofs.read.settings_in.Statement.{statement}
 use Rattle.state_bytes.proofs.read.settings_in.Tie as tie
+
+counts-in-requires : tie.Need-counts-in-requires
+counts-in-requires c κs = search needs
 
 float-at-requires : tie.Need-float-at-requires
 float-at-requires c κs = search needs
@@ -22,6 +25,7 @@ pub settings-in-spec : {M : Type 1} → statement M
 settings-in-spec =
     tie.close
     (tie.spec
+    counts-in-requires
     float-at-requires
     float-at-requires-2
     float-at-requires-3

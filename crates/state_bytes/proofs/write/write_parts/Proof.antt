@@ -1,7 +1,8 @@
 -- `write_parts`: the parts, one after the other.
+use mathlib.Core.Path.{_∙_}
 use native.Mathlib.Omega.{arith}
 use denote.Ref.{now}
-use Rattle.state_bytes.proofs.Stored.{state-stored}
+use Rattle.state_bytes.proofs.Stored.{written}
 use borrow.Author.Needs.{needs}
 use Rattle.state_bytes.proofs.write.write_parts.Statement.{statement}
 use Rattle.state_bytes.proofs.write.write_parts.Tie as tie
@@ -30,8 +31,8 @@ slice-aggregate-put-words-3 c = search needs
 put-words-requires-3 : tie.Need-put-words-requires-3
 put-words-requires-3 c κs = search needs
 
-cast-t28 : tie.Need-cast-t28
-cast-t28 c = search needs
+cast-t30 : tie.Need-cast-t30
+cast-t30 c = search needs
 
 flag-requires : tie.Need-flag-requires
 flag-requires c κs = search needs
@@ -42,29 +43,62 @@ slice-aggregate-put-words-4 c = search needs
 put-words-requires-4 : tie.Need-put-words-requires-4
 put-words-requires-4 c κs = search needs
 
+counts-out-requires : tie.Need-counts-out-requires
+counts-out-requires c κs = search needs
+
 slice-aggregate-put-words-5 : tie.Need-slice-aggregate-put-words-5
 slice-aggregate-put-words-5 c = search needs
 
 put-words-requires-5 : tie.Need-put-words-requires-5
-put-words-requires-5 c κs = omega (arith, c .before .before .before .before .put-words4 .kept .0, c .before .before .before .before .before .before .before .before .before .before .before .put-words3 .kept .0, c .before .before .before .before .before .before .before .before .before .before .before .before .before .before .before .before .before .put-words2 .kept .0, c .before .before .before .before .before .before .before .before .before .before .before .before .before .before .before .before .before .before .before .before .before .before .before .put-words .kept .0, c .before .before .before .before .before .before .before .before .before .before .before .before .before .before .before .before .before .before .before .before .before .before .before .before .before .before .before .before .pre)
+put-words-requires-5 c κs =
+    omega (
+      arith,
+      c .before .before .before .before .before .put-words4 .kept .0,
+      c .before .before .before .before .before .before .before .before .before .before .before .before .put-words3 .kept .0,
+      c .before .before .before .before .before .before .before .before .before .before .before .before .before .before .before .before .before .before .put-words2 .kept .0,
+      c .before .before .before .before .before .before .before .before .before .before .before .before .before .before .before .before .before .before .before .before .before .before .before .before .put-words .kept .0,
+      c .before .before .before .before .before .before .before .before .before .before .before .before .before .before .before .before .before .before .before .before .before .before .before .before .before .before .before .before .before .before .before .pre,
+    )
+
+slice-aggregate-put-words-6 : tie.Need-slice-aggregate-put-words-6
+slice-aggregate-put-words-6 c = search needs
+
+put-words-requires-6 : tie.Need-put-words-requires-6
+put-words-requires-6 c κs =
+    omega (
+      arith,
+      c .before .before .before .before .put-words5 .kept .0,
+      c .before .before .before .before .before .before .before .before .before .before .put-words4 .kept .0,
+      c .before .before .before .before .before .before .before .before .before .before .before .before .before .before .before .before .before .put-words3 .kept .0,
+      c .before .before .before .before .before .before .before .before .before .before .before .before .before .before .before .before .before .before .before .before .before .before .before .put-words2 .kept .0,
+      c .before .before .before .before .before .before .before .before .before .before .before .before .before .before .before .before .before .before .before .before .before .before .before .before .before .before .before .before .before .put-words .kept .0,
+      c .before .before .before .before .before .before .before .before .before .before .before .before .before .before .before .before .before .before .before .before .before .before .before .before .before .before .before .before .before .before .before .before .before .before .before .before .pre,
+    )
 
 same-length : tie.Need-same-length
-same-length c = search needs
+same-length c =
+    c .before .before .put-words6 .kept .0
+    ∙ c .before .before .before .before .before .before .before .put-words5 .kept .0
+    ∙ c .before .before .before .before .before .before .before .before .before .before .before .before .before .put-words4 .kept .0
+    ∙ c .before .before .before .before .before .before .before .before .before .before .before .before .before .before .before .before .before .before .before .before .put-words3 .kept .0
+    ∙ c .before .before .before .before .before .before .before .before .before .before .before .before .before .before .before .before .before .before .before .before .before .before .before .before .before .before .put-words2 .kept .0
+    ∙ c .before .before .before .before .before .before .before .before .before .before .before .before .before .before .before .before .before .before .before .before .before .before .before .before .before .before .before .before .before .before .before .before .put-words .kept .0
 
 returns : tie.Need-returns
-returns c b e =
-    let a = c .before .before .before .before .before .before .before .before .before .before .before .before .before .before .before .before .before .before .before .before .before .before .before .before .before .before .before .before .before .before .before .args in
-    rw (
-      c .before .before .put-words5 .ensures,
-      c .before .before .before .before .before .before .before .put-words4 .ensures,
-      c .before .before .before .before .before .before .before .before .before .flag .ensures,
-      c .before .before .before .before .before .before .before .before .before .before .before .before .before .before .put-words3 .ensures,
-      c .before .before .before .before .before .before .before .before .before .before .before .before .before .before .before .before .smoother-out .ensures,
-      c .before .before .before .before .before .before .before .before .before .before .before .before .before .before .before .before .before .before .before .before .put-words2 .ensures,
-      c .before .before .before .before .before .before .before .before .before .before .before .before .before .before .before .before .before .before .before .before .before .before .limiter-out .ensures,
-      c .before .before .before .before .before .before .before .before .before .before .before .before .before .before .before .before .before .before .before .before .before .before .before .before .before .before .put-words .ensures,
-    )
-    (state-stored (a .limiter) (a .t) (now (a .state)) (c .before .before .before .before .before .before .before .before .before .before .before .before .before .before .before .before .before .before .before .before .before .before .before .before .before .before .before .before .before .before .before .pre) b e)
+returns c =
+    let s = c .before .before .before .before .before .before .before .before .before .before .before .before .before .before .before .before .before .before .before .before .before .before .before .before .before .before .before .before .before .before .before .before .before .before .before .before .before .before .before in
+    let a = s .args in
+    written (a .limiter) (a .t) (now (a .state)) (s .pre) _ _ _ _ _ _ _ _ _ _
+    (c .before .before .before .before .before .before .before .before .before .before .before .before .before .before .before .before .before .before .before .before .before .before .before .before .before .before .before .before .before .before .before .before .put-words .ensures)
+    (c .before .before .before .before .before .before .before .before .before .before .before .before .before .before .before .before .before .before .before .before .before .before .before .before .before .before .before .before .limiter-out .ensures)
+    (c .before .before .before .before .before .before .before .before .before .before .before .before .before .before .before .before .before .before .before .before .before .before .before .before .before .before .put-words2 .ensures)
+    (c .before .before .before .before .before .before .before .before .before .before .before .before .before .before .before .before .before .before .before .before .before .before .smoother-out .ensures)
+    (c .before .before .before .before .before .before .before .before .before .before .before .before .before .before .before .before .before .before .before .before .put-words3 .ensures)
+    (c .before .before .before .before .before .before .before .before .before .before .before .before .before .before .before .flag .ensures)
+    (c .before .before .before .before .before .before .before .before .before .before .before .before .before .put-words4 .ensures)
+    (c .before .before .before .before .before .before .before .before .before .counts-out .ensures)
+    (c .before .before .before .before .before .before .before .put-words5 .ensures)
+    (c .before .before .put-words6 .ensures)
 
 pub write-parts-spec : {M : Type 1} → statement M
 write-parts-spec =
@@ -78,11 +112,14 @@ write-parts-spec =
     smoother-out-requires
     slice-aggregate-put-words-3
     put-words-requires-3
-    cast-t28
+    cast-t30
     flag-requires
     slice-aggregate-put-words-4
     put-words-requires-4
+    counts-out-requires
     slice-aggregate-put-words-5
     put-words-requires-5
+    slice-aggregate-put-words-6
+    put-words-requires-6
     same-length
     returns)

@@ -1,0 +1,17 @@
+-- `flag_at`: a word that is not 0.
+use borrow.Author.Needs.{needs}
+use Rattle.state_bytes.proofs.read.flag_at.Statement.{statement}
+use Rattle.state_bytes.proofs.read.flag_at.Tie as tie
+
+word-at-requires : tie.Need-word-at-requires
+word-at-requires c κs = search needs
+
+returns : tie.Need-returns
+returns c = cc
+
+pub flag-at-spec : {M : Type 1} → statement M
+flag-at-spec =
+    tie.close
+    (tie.spec
+    word-at-requires
+    returns)
