@@ -9,10 +9,10 @@ const LOOK: usize = 16;
 const L: usize = LOOK - 11;
 const WEIGHTS: [f64; L] = [0.125, 0.1875, 0.375, 0.1875, 0.125];
 
-/// The first of the state's eight words that say whether a channel counts, and the word
+/// The first of the state's eight words that say whether a channel is left out, and the word
 /// behind the last of them.
-const COUNTS: usize = 34;
-const BEHIND: usize = COUNTS + 8;
+const LEFT_OUT: usize = 34;
+const BEHIND: usize = LEFT_OUT + 8;
 
 /// Settings that look 16 frames ahead at 48,000.
 fn settings() -> LimiterSettings {
@@ -93,10 +93,10 @@ impl Lent {
         &mut self.state[8 * at..8 * (at + 1)]
     }
 
-    /// The words that say whether a channel counts.
-    fn counts(&mut self) -> [u64; 8] {
+    /// The words that say whether a channel is left out.
+    fn left_out(&mut self) -> [u64; 8] {
         std::array::from_fn(|c| {
-            let word = &*self.word(COUNTS + c);
+            let word = &*self.word(LEFT_OUT + c);
             u64::from_le_bytes(word.try_into().expect("a word"))
         })
     }
@@ -150,21 +150,32 @@ fn played(lent: &mut Lent, channels: usize) -> Vec<Left> {
 
 #[test]
 fn the_settings_are_told_as_bits_and_the_state_carries_them() {
-    assert_eq!(Lent::with(8, settings()).counts(), [1; 8]);
+    assert_eq!(Lent::with(8, settings()).left_out(), [0; 8]);
     assert_eq!(Lent::with(8, settings()), Lent::leaving_out(8, 0));
     for channel in 0..8 {
         let mut lent = Lent::with(8, settings().leave_out(channel));
         assert_eq!(lent, Lent::leaving_out(8, 1 << channel));
-        let mut due = [1; 8];
-        due[channel] = 0;
-        assert_eq!(lent.counts(), due);
+        let mut due = [0; 8];
+        due[channel] = 1;
+        assert_eq!(lent.left_out(), due);
         // and it is nowhere else
-        lent.word(COUNTS + channel)[0] = 1;
+        lent.word(LEFT_OUT + channel)[0] = 0;
         assert_eq!(lent, Lent::with(8, settings()));
     }
     let mut none = Lent::with(8, settings().counts([false; 8]));
     assert_eq!(none, Lent::leaving_out(8, 0xff));
-    assert_eq!(none.counts(), [0; 8]);
+    assert_eq!(none.left_out(), [1; 8]);
+}
+
+/// A state that was kept since before there were such words has 0 there: every channel
+/// counts, as it did.
+#[test]
+fn words_of_nothing_but_0_leave_out_none() {
+    let mut kept = Lent::leaving_out(2, 3);
+    for word in LEFT_OUT..BEHIND {
+        kept.word(word).fill(0);
+    }
+    assert_eq!(kept, Lent::leaving_out(2, 0));
 }
 
 /// Bits past the channels change no audio, no store and no answer; those from 8 on are
@@ -215,16 +226,16 @@ fn delay_and_detector_go_on() {
 fn a_reset_and_a_parameter_keep_the_words() {
     for left_out in [0, 0b101, 0xff] {
         let mut lent = Lent::leaving_out(3, left_out);
-        let (started, counts) = (lent.clone(), lent.counts());
+        let (started, words) = (lent.clone(), lent.left_out());
         let first = played(&mut lent, 3);
-        assert_eq!(lent.counts(), counts);
+        assert_eq!(lent.left_out(), words);
         let (state, stores) = lent.parts();
         assert_eq!(sys::reset(state, &mut [], stores), 0);
         assert!(lent.state == started.state);
         assert!(played(&mut lent, 3) == first);
         let value = (-3.0_f64).to_bits();
         assert_eq!(sys::set_parameter(&mut lent.state, &mut [], 0, value), 0);
-        assert_eq!(lent.counts(), counts);
+        assert_eq!(lent.left_out(), words);
     }
 }
 
@@ -253,7 +264,7 @@ fn refused_everywhere(lent: &Lent) -> [u32; 6] {
 #[test]
 fn other_words_are_no_state() {
     let good = Lent::leaving_out(2, 1);
-    for word in COUNTS..STATE / 8 {
+    for word in LEFT_OUT..STATE / 8 {
         for byte in 0..8 {
             for bit in [1, 2, 0x80] {
                 let mut lent = good.clone();

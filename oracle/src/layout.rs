@@ -52,11 +52,11 @@ pub mod state {
     pub const BANK_RATE: usize = COUNT + 1;
     pub const READY: usize = COUNT + 2;
     /// The first of eight, one for each channel that there can be: whether it
-    /// counts in the linked peak.
-    pub const COUNTED: usize = COUNT + 3;
+    /// is left out of the linked peak.
+    pub const LEFT_OUT: usize = COUNT + 3;
 
     /// The words that hold something; those behind them are 0.
-    pub const USED: usize = COUNTED + crate::model::setup::CHANNELS;
+    pub const USED: usize = LEFT_OUT + crate::model::setup::CHANNELS;
     pub const WORDS: usize = 64;
 
     /// Whether a word is a float.

@@ -20,7 +20,7 @@ use Rattle.audio.proofs.Numbers.{cut-length, out-length, words-of-bytes, bytes-
 use Rattle.bank.specs.Words.{smootherIn, shapeWord}
 use Rattle.bank.specs.declared.param.Smoothing.{Smoothing}
 use Rattle.bank.specs.declared.param.Smoothing.the-variants.{Step, Linear, OnePole}
-use Rattle.state_bytes.specs.State.{layout, stateBytes, stateWords, zerosAt, flagsAt, holdsState, isState, limiterIn, bankIn, stateIn, flagOut, eight, wordsOut, processorIn, stateOut}
+use Rattle.state_bytes.specs.State.{layout, stateBytes, stateWords, zerosAt, flagsAt, holdsState, isState, limiterIn, bankIn, stateIn, flagOut, countOut, eight, wordsOut, processorIn, stateOut}
 use Rattle.bank.proofs.Shapes.{shape-back, shape-small, shape-word}
 use Rattle.state_bytes.proofs.Stored.{read-held}
 use Rattle.state_bytes.proofs.Storable.{Fits, Storable}
@@ -33,9 +33,10 @@ flag-back : (b : Bool) → not (eqb (flagOut b) 0) ≡ b
 flag-back true = refl
 flag-back false = refl
 
-flags-back : (bs : List Bool) → map (λ (b : Bool). not (eqb (flagOut b) 0)) bs ≡ bs
-flags-back [] = refl
-flags-back (b ∷ bs) = rw (flag-back b, flags-back bs) refl
+counts-back : (bs : List Bool) → map (λ (b : Bool). eqb (countOut b) 0) bs ≡ bs
+counts-back [] = refl
+counts-back (true ∷ bs) = rw (counts-back bs) refl
+counts-back (false ∷ bs) = rw (counts-back bs) refl
 
 module _ (p : KernelProcessor) (h : Storable p) where
   limiter-back : limiterIn (wordsOut p) ≡ p .limiter
@@ -49,7 +50,7 @@ module _ (p : KernelProcessor) (h : Storable p) where
           «true_peak_margin_db» = back (l .settings .«true_peak_margin_db») (f .margin) i;
           «lookahead_ms» = back (l .settings .«lookahead_ms») (f .lookahead) i;
           «release_ms» = back (l .settings .«release_ms») (f .release) i;
-          counts = (flags-back (eight (l .settings .counts)) ∙ sym (f .counts)) i;
+          counts = (counts-back (eight (l .settings .counts)) ∙ sym (f .counts)) i;
         };
         rate = mod-eq-of-lt (h .numbers .rate) i;
         channels = l .channels;
@@ -126,9 +127,10 @@ zeros-small : (n : ℕ) → AllSmall (replicate n 0)
 zeros-small zero = none
 zeros-small (suc n) = zero-small ∷< zeros-small n
 
-flags-small : (bs : List Bool) {ws : List ℕ} → AllSmall ws → AllSmall (map flagOut bs ++ ws)
-flags-small [] h = h
-flags-small (b ∷ bs) h = flag-small b ∷< flags-small bs h
+counts-small : (bs : List Bool) {ws : List ℕ} → AllSmall ws → AllSmall (map countOut bs ++ ws)
+counts-small [] h = h
+counts-small (true ∷ bs) h = zero-small ∷< counts-small bs h
+counts-small (false ∷ bs) h = flag-small true ∷< counts-small bs h
 
 words-small : (p : KernelProcessor) → Storable p → (i : ℕ) → getD (wordsOut p) i 0 < 2 ^ 64
 unfolding wordsOut
@@ -142,17 +144,21 @@ words-small p h =
     ∷< n .pos ∷< n .tally ∷< bits-small _ (f .gain) ∷< n .delay ∷< bits-small _ (f .target) ∷< n .drained
     ∷< half-small (s .id) ∷< bits-small _ (s .cur) ∷< bits-small _ (s .target) ∷< bits-small _ (s .low) ∷< bits-small _ (s .high) ∷< bits-small _ (s .default) ∷< bits-small _ (s .steps)
     ∷< s .left ∷< bits-small _ (s .delta) ∷< shape-word-small (slotAt 0 (p .bank .smoothers) .shape) ∷< bits-small _ (s .coeff) ∷< bits-small _ (s .time)
-    ∷< h .bank .count ∷< half-small (h .bank .rate) ∷< flags-small (p .bank .ready ∷ eight (p .limiter .settings .counts)) (zeros-small 22))
+    ∷< h .bank .count ∷< half-small (h .bank .rate) ∷< flag-small (p .bank .ready) ∷< counts-small (eight (p .limiter .settings .counts)) (zeros-small 22))
 
 -- ---- the same by bytes
 abbrev allFlags : List ℕ → Bool
 allFlags [] = true
 allFlags (w ∷ ws) = leb w 1 && allFlags ws
 
-flags-are : (bs : List Bool) → allFlags (map flagOut bs) ≡ true
-flags-are [] = refl
-flags-are (true ∷ bs) = flags-are bs
-flags-are (false ∷ bs) = flags-are bs
+counts-are : (bs : List Bool) → allFlags (map countOut bs) ≡ true
+counts-are [] = refl
+counts-are (true ∷ bs) = counts-are bs
+counts-are (false ∷ bs) = counts-are bs
+
+flags-are : (ready : Bool) (bs : List Bool) → allFlags (flagOut ready ∷ map countOut bs) ≡ true
+flags-are true bs = counts-are bs
+flags-are false bs = counts-are bs
 
 module _ (p : KernelProcessor) (h : Storable p) where
   state-length : length (stateOut p) ≡ stateBytes
@@ -171,7 +177,7 @@ module _ (p : KernelProcessor) (h : Storable p) where
         lt-ltb (slotAt 0 (p .bank .smoothers) .id) (2 ^ 32) (h .bank .first .id),
         lt-ltb (p .bank .rate) (2 ^ 32) (h .bank .rate),
         shape-small (slotAt 0 (p .bank .smoothers) .shape),
-      ) (ap (λ (t : Bool). t && true) (flags-are (p .bank .ready ∷ eight (p .limiter .settings .counts))))
+      ) (ap (λ (t : Bool). t && true) (flags-are (p .bank .ready) (eight (p .limiter .settings .counts))))
 
   -- what was written is read
   pub read-written : processorIn (stateOut p) ≡ p
@@ -214,12 +220,23 @@ flag-word zero h = refl
 flag-word (suc zero) h = refl
 flag-word (suc (suc w)) h = absurd (omega arith)
 
-flag-words : (ws : List ℕ) (k n : ℕ) → flagsAt ws k n ≡ true → map (λ (w : ℕ). flagOut (not (eqb w 0))) (placesFrom ws k n) ≡ placesFrom ws k n
+count-word : (w : ℕ) → w ≤ 1 → countOut (eqb w 0) ≡ w
+count-word zero h = refl
+count-word (suc zero) h = refl
+count-word (suc (suc w)) h = absurd (omega arith)
+
+-- the first of n + 1 flags, and the others
+flags-then : (ws : List ℕ) (k n : ℕ) → flagsAt ws k (suc n) ≡ true → (getD ws k 0 ≤ 1) × (flagsAt ws (k + 1) n ≡ true)
 unfolding flagsAt
-flag-words ws k zero h = refl
-flag-words ws k (suc n) h =
+flags-then ws k n h =
     let z = and-true (leb (getD ws k 0) 1) (flagsAt ws (k + 1) n) h in
-    flag-word (getD ws k 0) (leb-true (getD ws k 0) 1 (z .0)) ∷≡ flag-words ws (k + 1) n (z .1)
+    (leb-true (getD ws k 0) 1 (z .0), z .1)
+
+count-words : (ws : List ℕ) (k n : ℕ) → flagsAt ws k n ≡ true → map (λ (w : ℕ). countOut (eqb w 0)) (placesFrom ws k n) ≡ placesFrom ws k n
+count-words ws k zero h = refl
+count-words ws k (suc n) h =
+    let z = flags-then ws k n h in
+    count-word (getD ws k 0) (z .0) ∷≡ count-words ws (k + 1) n (z .1)
 
 -- the places of floats
 abbrev pub floatPlaces : List ℕ
@@ -244,11 +261,14 @@ module _ (ws : List ℕ) (n : length ws ≡ stateWords) (h : holdsState ws ≡ t
       ∙ ap (λ (t : List ℕ). t ++ drop 64 ws) (zeros-are ws 42 22 (tests .6))
       ∙ ap (λ (t : List ℕ). replicate 22 0 ++ t) (drop-of-length-le ws {i = 64} (omega (arith, n))))
 
-  flags : map (λ (w : ℕ). flagOut (not (eqb w 0))) (placesFrom ws 33 9) ++ replicate 22 0 ≡ drop 33 ws
-  flags =
-      ap (λ (t : List ℕ). t ++ replicate 22 0) (flag-words ws 33 9 (tests .5))
-      ∙ ap (λ (t : List ℕ). placesFrom ws 33 9 ++ t) rest
-      ∙ sym (spread ws 33 9 (omega (arith, n)))
+  ready : (getD ws 33 0 ≤ 1) × (flagsAt ws 34 8 ≡ true)
+  ready = flags-then ws 33 8 (tests .5)
+
+  counts : map (λ (w : ℕ). countOut (eqb w 0)) (placesFrom ws 34 8) ++ replicate 22 0 ≡ drop 34 ws
+  counts =
+      ap (λ (t : List ℕ). t ++ replicate 22 0) (count-words ws 34 8 (ready .1))
+      ∙ ap (λ (t : List ℕ). placesFrom ws 34 8 ++ t) rest
+      ∙ sym (spread ws 34 8 (omega (arith, n)))
 
   pub words-of-state : wordsOut (stateIn ws) ≡ ws
   unfolding wordsOut stateIn
@@ -258,8 +278,8 @@ module _ (ws : List ℕ) (n : length ws ≡ stateWords) (h : holdsState ws ≡ t
       ∷≡ (mod-eq-of-lt (ltb-true (getD ws 19 0) (2 ^ 32) (tests .2))) ∷≡ o 7 ∷≡ o 8 ∷≡ o 9 ∷≡ o 10 ∷≡ o 11 ∷≡ o 12 ∷≡ refl ∷≡ o 13
       ∷≡ (shape-word (getD ws 28 0) (leb-true (getD ws 28 0) 2 (tests .4))) ∷≡ o 14 ∷≡ o 15 ∷≡ refl
       ∷≡ (mod-eq-of-lt (ltb-true (getD ws 32 0) (2 ^ 32) (tests .3)))
-      ∷≡ flags)
-      ∙ sym (spread ws 0 33 (omega (arith, n)))
+      ∷≡ flag-word (getD ws 33 0) (ready .0) ∷≡ counts)
+      ∙ sym (spread ws 0 34 (omega (arith, n)))
 
 -- the same by bytes
 pub written-read : (bytes : List ℕ) → isState bytes ≡ true → ((i : ℕ) → getD bytes i 0 < 256) → ((i : ℕ) → Own (getD (wordsIn 8 stateWords bytes) (getD floatPlaces i 1) 0)) → stateOut (processorIn bytes) ≡ bytes

@@ -1,4 +1,4 @@
--- The state as bytes: 64 words of eight bytes. Word 0 tells the layout, 1 to 18 are the limiter's, 19 to 30 the threshold's smoother, 31 to 33 the bank's, 34 to 41 tell of each channel whether it counts, and the rest is room to grow.
+-- The state as bytes: 64 words of eight bytes. Word 0 tells the layout, 1 to 18 are the limiter's, 19 to 30 the threshold's smoother, 31 to 33 the bank's, 34 to 41 tell of each channel whether it is left out of linking, and the rest is room to grow. What is taken from that room means at 0 what it was before: a state that was kept since then goes on as it did.
 use Prim.Native.Nat.{ℕ, zero, suc, _+_, _^_}
 use mathlib.Core.Bool.{Bool, true, false, cond, not, _&&_}
 use mathlib.Core.List.{List, [], _∷_, _++_, map}
@@ -53,8 +53,12 @@ isState bytes = eqb (length bytes) stateBytes && holdsState (wordsIn 8 stateWord
 abbrev pub flagIn : List ℕ → ℕ → Bool
 flagIn ws k = not (eqb (getD ws k 0) 0)
 
+-- a channel that is left out has 1, one that counts 0
+abbrev pub countIn : List ℕ → ℕ → Bool
+countIn ws k = eqb (getD ws k 0) 0
+
 abbrev pub countsIn : List ℕ → List Bool
-countsIn ws = flagIn ws 34 ∷ flagIn ws 35 ∷ flagIn ws 36 ∷ flagIn ws 37 ∷ flagIn ws 38 ∷ flagIn ws 39 ∷ flagIn ws 40 ∷ flagIn ws 41 ∷ []
+countsIn ws = countIn ws 34 ∷ countIn ws 35 ∷ countIn ws 36 ∷ countIn ws 37 ∷ countIn ws 38 ∷ countIn ws 39 ∷ countIn ws 40 ∷ countIn ws 41 ∷ []
 
 abbrev pub settingsIn : List ℕ → LimiterSettings
 settingsIn ws = settingsOf (floatIn ws 1) (floatIn ws 2) (floatIn ws 3) (floatIn ws 4) (countsIn ws)
@@ -106,8 +110,11 @@ bankOut b = smootherOut (slotAt 0 (b .smoothers)) ++ (b .count ∷ b .rate ∷ f
 abbrev pub eight : List Bool → List Bool
 eight bs = getD bs 0 false ∷ getD bs 1 false ∷ getD bs 2 false ∷ getD bs 3 false ∷ getD bs 4 false ∷ getD bs 5 false ∷ getD bs 6 false ∷ getD bs 7 false ∷ []
 
+abbrev pub countOut : Bool → ℕ
+countOut b = cond b 0 1
+
 abbrev pub countsOut : List Bool → List ℕ
-countsOut bs = map flagOut (eight bs)
+countsOut bs = map countOut (eight bs)
 
 unfoldable pub wordsOut : KernelProcessor → List ℕ
 wordsOut p = layout ∷ limiterOut (p .limiter) ++ bankOut (p .bank) ++ countsOut (p .limiter .settings .counts) ++ replicate 22 0

@@ -5,7 +5,7 @@ ghost use lib.ListN.{length, getD};
 ghost use Rattle.audio.specs.Bytes.{wordsIn};
 ghost use Rattle.bank.specs.Words.{floatIn, halfIn, smootherIn};
 ghost use Rattle.driver.specs.Parts.{shownOf};
-ghost use Rattle.state_bytes.specs.State.{stateWords, stateBytes, zerosAt, flagsAt, holdsState, isState, flagIn, countsIn, settingsIn, envelopeIn, limiterIn, bankIn, processorIn};
+ghost use Rattle.state_bytes.specs.State.{stateWords, stateBytes, zerosAt, flagsAt, holdsState, isState, countIn, countsIn, settingsIn, envelopeIn, limiterIn, bankIn, processorIn};
 use crate::block::bank_with;
 use arithmetic::pattern::from_bits;
 use audio::words::word;
@@ -46,13 +46,13 @@ fn half_at(state: &[u8], k: usize) -> u32
     (word_at(state, k) % 4294967296) as u32
 }
 
-// The yes or no at a place.
-fn flag_at(state: &[u8], k: usize) -> bool
+// Whether a channel counts: 1 leaves it out.
+fn count_at(state: &[u8], k: usize) -> bool
     requires { ⌜ length (now state) ≡ stateBytes ⌝ }
     requires { ⌜ k < stateWords ⌝ }
-    ensures { λ r. ⌜ r ≡ flagIn (wordsIn 8 stateWords (now (state .entry))) k ⌝ }
+    ensures { λ r. ⌜ r ≡ countIn (wordsIn 8 stateWords (now (state .entry))) k ⌝ }
 {
-    word_at(state, k) != 0
+    word_at(state, k) == 0
 }
 
 // Whether each channel counts.
@@ -61,14 +61,14 @@ fn counts_in(state: &[u8]) -> [bool; 8]
     ensures { λ r. ⌜ r ≡ countsIn (wordsIn 8 stateWords (now (state .entry))) ⌝ }
 {
     [
-        flag_at(state, 34),
-        flag_at(state, 35),
-        flag_at(state, 36),
-        flag_at(state, 37),
-        flag_at(state, 38),
-        flag_at(state, 39),
-        flag_at(state, 40),
-        flag_at(state, 41),
+        count_at(state, 34),
+        count_at(state, 35),
+        count_at(state, 36),
+        count_at(state, 37),
+        count_at(state, 38),
+        count_at(state, 39),
+        count_at(state, 40),
+        count_at(state, 41),
     ]
 }
 
@@ -156,7 +156,7 @@ pub fn threshold_in(state: &[u8]) -> Threshold
         smoother,
         count: word_at(state, 31) as usize,
         rate: half_at(state, 32),
-        ready: flag_at(state, 33),
+        ready: word_at(state, 33) != 0,
     }
 }
 
@@ -174,7 +174,7 @@ fn rest_is_zero(state: &[u8]) -> bool
     ok
 }
 
-// The bank's flag and those of the channels are each a yes or a no.
+// The bank's flag and those of the channels left out are each a yes or a no.
 fn flags_hold(state: &[u8]) -> bool
     requires { ⌜ length (now state) ≡ stateBytes ⌝ }
     ensures { λ r. ⌜ r ≡ flagsAt (wordsIn 8 stateWords (now (state .entry))) 33 9 ⌝ }

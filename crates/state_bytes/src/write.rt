@@ -6,7 +6,7 @@ ghost use Rattle.audio.specs.Bytes.{bytesOut};
 ghost use Rattle.audio.specs.Inner.{put};
 ghost use Rattle.bank.specs.declared.smoother_bank.SmootherBank.{SmootherBank};
 ghost use Rattle.driver.specs.Parts.{shownOf};
-ghost use Rattle.state_bytes.specs.State.{stateBytes, limiterOut, countsOut, stateOut};
+ghost use Rattle.state_bytes.specs.State.{stateBytes, limiterOut, countOut, countsOut, stateOut};
 use arithmetic::pattern::to_bits;
 use audio::words::write_words;
 use bank::words::flag;
@@ -41,18 +41,25 @@ fn limiter_out(l: Limiter) -> [u64; 18]
     ]
 }
 
+// A channel that counts as 0, one that is left out as 1.
+fn count_out(counts: bool) -> u64
+    ensures { λ r. ⌜ r ≡ countOut counts ⌝ }
+{
+    if counts { 0 } else { 1 }
+}
+
 fn counts_out(counts: [bool; 8]) -> [u64; 8]
     ensures { λ r. ⌜ r ≡ countsOut counts ⌝ }
 {
     [
-        flag(counts[0]),
-        flag(counts[1]),
-        flag(counts[2]),
-        flag(counts[3]),
-        flag(counts[4]),
-        flag(counts[5]),
-        flag(counts[6]),
-        flag(counts[7]),
+        count_out(counts[0]),
+        count_out(counts[1]),
+        count_out(counts[2]),
+        count_out(counts[3]),
+        count_out(counts[4]),
+        count_out(counts[5]),
+        count_out(counts[6]),
+        count_out(counts[7]),
     ]
 }
 

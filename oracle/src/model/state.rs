@@ -102,14 +102,14 @@ impl State {
             && small(at::BANK_RATE)
             && words[at::SMOOTHER + smoother::SHAPE] <= 2
             && words[at::READY] <= 1
-            && words[at::COUNTED..at::USED].iter().all(|&word| word <= 1)
+            && words[at::LEFT_OUT..at::USED].iter().all(|&word| word <= 1)
             && words[at::USED..].iter().all(|&word| word == 0);
         told.then(|| Self::of(&words))
     }
 
     fn of(words: &[u64]) -> Self {
         let float = |at: usize| f64::from_bits(words[at]);
-        let left_out = |channel: usize| u32::from(words[at::COUNTED + channel] == 0) << channel;
+        let left_out = |channel: usize| u32::from(words[at::LEFT_OUT + channel] == 1) << channel;
         Self {
             setup: Setup {
                 threshold: float(at::THRESHOLD),
@@ -144,8 +144,8 @@ impl State {
         let s = &self.setup;
         let mut words = [0; at::WORDS];
         words[at::SMOOTHER..at::COUNT].copy_from_slice(&self.threshold.words());
-        for (channel, word) in words[at::COUNTED..at::USED].iter_mut().enumerate() {
-            *word = u64::from(counts(s.left_out, channel));
+        for (channel, word) in words[at::LEFT_OUT..at::USED].iter_mut().enumerate() {
+            *word = u64::from(!counts(s.left_out, channel));
         }
         for (at, word) in [
             (at::LAYOUT, VERSION),
@@ -188,7 +188,7 @@ mod tests {
             at::LAYOUT => VERSION,
             SHAPE | at::READY => 1,
             // Channels 0, 2, 3, 4, 5 and 6 count.
-            at::COUNTED.. => u64::from(at != at::COUNTED + 1 && at != at::COUNTED + 7),
+            at::LEFT_OUT.. => u64::from(at == at::LEFT_OUT + 1 || at == at::LEFT_OUT + 7),
             at => 1_000 + at as u64,
         });
         let mut bytes: Vec<u8> = words.flat_map(u64::to_le_bytes).collect();
@@ -201,7 +201,7 @@ mod tests {
 
     /// Words 34 to 41, and 0 behind them.
     #[test]
-    fn who_counts_stands_in_eight_words() {
+    fn who_is_left_out_stands_in_eight_words() {
         let at = |left_out: u32| {
             let setup = Setup {
                 left_out,
@@ -211,11 +211,11 @@ mod tests {
             assert!(words[42..].iter().all(|&word| word == 0));
             words[34..42].to_vec()
         };
-        assert_eq!(at(0), [1; 8]);
-        assert_eq!(at(8), [1, 1, 1, 0, 1, 1, 1, 1]);
+        assert_eq!(at(0), [0; 8]);
+        assert_eq!(at(8), [0, 0, 0, 1, 0, 0, 0, 0]);
         // Bits past the eighth are not kept.
-        assert_eq!(at(0xffff_ff41), [0, 1, 1, 1, 1, 1, 0, 1]);
-        assert_eq!(words(&State::NEVER.bytes())[34..42], [1; 8]);
+        assert_eq!(at(0xffff_ff41), [1, 0, 0, 0, 0, 0, 1, 0]);
+        assert_eq!(words(&State::NEVER.bytes())[34..42], [0; 8]);
     }
 
     #[test]

@@ -281,7 +281,7 @@ fn not_a_state(rng: &mut Rng) -> Fault {
                 at: rng.below(64) as usize,
             }
         }
-        5 => (counted(rng), neither(rng)),
+        5 => (choice(rng), neither(rng)),
         _ => return room(rng),
     };
     Fault::StateWord { at, word }
@@ -296,9 +296,9 @@ fn room(rng: &mut Rng) -> Fault {
     }
 }
 
-/// A word that says whether a channel counts, or one that there is not.
-fn counted(rng: &mut Rng) -> usize {
-    state::COUNTED + rng.below(CHANNELS as u64) as usize
+/// A word that says whether a channel is left out, or one that there is not.
+fn choice(rng: &mut Rng) -> usize {
+    state::LEFT_OUT + rng.below(CHANNELS as u64) as usize
 }
 
 /// Neither yes nor no.
@@ -316,8 +316,8 @@ fn unlinked(rng: &mut Rng) -> Fault {
                 left_out: rng.below(1 << CHANNELS) as u32,
             }
         }
-        1..=3 => (counted(rng), rng.below(2)),
-        4 => (counted(rng), neither(rng)),
+        1..=3 => (choice(rng), rng.below(2)),
+        4 => (choice(rng), neither(rng)),
         _ => return room(rng),
     };
     Fault::StateWord { at, word }

@@ -57,9 +57,9 @@ fn every_choice_is_played() {
     }
 }
 
-/// The bytes of a state that say who counts.
-fn counted(lent: &mut Lent) -> &mut [u8] {
-    &mut lent.state[8 * at::COUNTED..8 * at::USED]
+/// The bytes of a state that say who is left out.
+fn choice(lent: &mut Lent) -> &mut [u8] {
+    &mut lent.state[8 * at::LEFT_OUT..8 * at::USED]
 }
 
 /// The model, by a state that a rule of ours has changed first; what says who counts
@@ -74,10 +74,10 @@ fn misread(lent: &mut Lent, call: &mut Call, rule: impl Fn(&Call, &mut State)) -
     let mut right = (lent.clone(), call.clone());
     model(&mut right.0, &mut right.1);
     rule(call, &mut state);
-    let before = counted(lent).to_vec();
+    let before = choice(lent).to_vec();
     lent.state = state.bytes();
     let number = model(lent, call);
-    counted(lent).copy_from_slice(&before);
+    choice(lent).copy_from_slice(&before);
     lent.answer = right.0.answer;
     number
 }
@@ -328,10 +328,10 @@ fn other_treatment_of_channels_left_out_is_found() {
 fn rewritten(lent: &mut Lent, call: &mut Call, rule: fn(&Call, u32, &mut [u64])) -> u32 {
     let number = model(lent, call);
     if lent.state.len() == STATE {
-        let mut eight = words(&lent.state[8 * at::COUNTED..8 * at::USED]);
+        let mut eight = words(&lent.state[8 * at::LEFT_OUT..8 * at::USED]);
         rule(call, number, &mut eight);
         let bytes: Vec<u8> = eight.into_iter().flat_map(u64::to_le_bytes).collect();
-        lent.state[8 * at::COUNTED..8 * at::USED].copy_from_slice(&bytes);
+        lent.state[8 * at::LEFT_OUT..8 * at::USED].copy_from_slice(&bytes);
     }
     number
 }
@@ -340,7 +340,7 @@ fn rewritten(lent: &mut Lent, call: &mut Call, rule: fn(&Call, u32, &mut [u64]))
 fn resetting(lent: &mut Lent, call: &mut Call) -> u32 {
     rewritten(lent, call, |call, number, eight| {
         if number == 0 && matches!(call, Call::Reset) {
-            eight.fill(1);
+            eight.fill(0);
         }
     })
 }
@@ -349,7 +349,7 @@ fn resetting(lent: &mut Lent, call: &mut Call) -> u32 {
 fn forgetting(lent: &mut Lent, call: &mut Call) -> u32 {
     rewritten(lent, call, |call, number, eight| {
         if let (0, Call::Setup { setup, .. }) = (number, call) {
-            eight[setup.channels..].fill(1);
+            eight[setup.channels..].fill(0);
         }
     })
 }
@@ -358,7 +358,7 @@ fn forgetting(lent: &mut Lent, call: &mut Call) -> u32 {
 fn refusing(lent: &mut Lent, call: &mut Call) -> u32 {
     rewritten(lent, call, |call, number, eight| {
         if number != 0 && matches!(call, Call::Setup { .. }) {
-            eight.fill(0);
+            eight.fill(1);
         }
     })
 }
@@ -368,7 +368,7 @@ fn strict(lent: &mut Lent, call: &mut Call) -> u32 {
     rewritten(lent, call, |call, number, eight| {
         if let (0, Call::Setup { setup, .. }) = (number, call) {
             if setup.left_out > 255 {
-                eight.fill(1);
+                eight.fill(0);
             }
         }
     })
@@ -403,13 +403,13 @@ fn mended(lent: &mut Lent, call: &mut Call, places: Range<usize>, mend: fn(u64) 
 
 #[test]
 fn words_that_no_state_has_are_found() {
-    const COUNTED: Range<usize> = at::COUNTED..at::USED;
+    const LEFT_OUT: Range<usize> = at::LEFT_OUT..at::USED;
     let sides: [Side; 4] = [
         // Whatever is not 0 is yes.
-        |l, c| mended(l, c, COUNTED, |word| word.min(1)),
+        |l, c| mended(l, c, LEFT_OUT, |word| word.min(1)),
         // The last bit says it, or the last byte.
-        |l, c| mended(l, c, COUNTED, |word| word & 1),
-        |l, c| mended(l, c, COUNTED, |word| word & 255),
+        |l, c| mended(l, c, LEFT_OUT, |word| word & 1),
+        |l, c| mended(l, c, LEFT_OUT, |word| word & 255),
         // Nobody looks behind them.
         |l, c| mended(l, c, at::USED..at::WORDS, |_| 0),
     ];

@@ -12,8 +12,8 @@ word-at-requires c κs = search needs
 half-at-requires : tie.Need-half-at-requires
 half-at-requires c κs = search needs
 
-flag-at-requires : tie.Need-flag-at-requires
-flag-at-requires c κs = search needs
+word-at-requires-2 : tie.Need-word-at-requires-2
+word-at-requires-2 c κs = search needs
 
 returns : tie.Need-returns
 returns c = cc
@@ -21,4 +21,4 @@ returns c = cc
 pub threshold-in-spec : {M : Type 1} → statement M
 threshold-in-spec =
     tie.close
-    (tie.spec threshold-smoother-requires word-at-requires half-at-requires flag-at-requires returns)
+    (tie.spec threshold-smoother-requires word-at-requires half-at-requires word-at-requires-2 returns)

@@ -3,53 +3,53 @@ use borrow.Author.Needs.{needs}
 use Rattle.state_bytes.proofs.write.counts_out.Statement.{statement}
 use Rattle.state_bytes.proofs.write.counts_out.Tie as tie
 
-array-read-flag : tie.Need-array-read-flag
-array-read-flag c = search needs
+array-read-count-out : tie.Need-array-read-count-out
+array-read-count-out c = search needs
 
-flag-requires : tie.Need-flag-requires
-flag-requires c κs = search needs
+count-out-requires : tie.Need-count-out-requires
+count-out-requires c κs = search needs
 
-array-read-flag-2 : tie.Need-array-read-flag-2
-array-read-flag-2 c = search needs
+array-read-count-out-2 : tie.Need-array-read-count-out-2
+array-read-count-out-2 c = search needs
 
-flag-requires-2 : tie.Need-flag-requires-2
-flag-requires-2 c κs = search needs
+count-out-requires-2 : tie.Need-count-out-requires-2
+count-out-requires-2 c κs = search needs
 
-array-read-flag-3 : tie.Need-array-read-flag-3
-array-read-flag-3 c = search needs
+array-read-count-out-3 : tie.Need-array-read-count-out-3
+array-read-count-out-3 c = search needs
 
-flag-requires-3 : tie.Need-flag-requires-3
-flag-requires-3 c κs = search needs
+count-out-requires-3 : tie.Need-count-out-requires-3
+count-out-requires-3 c κs = search needs
 
-array-read-flag-4 : tie.Need-array-read-flag-4
-array-read-flag-4 c = search needs
+array-read-count-out-4 : tie.Need-array-read-count-out-4
+array-read-count-out-4 c = search needs
 
-flag-requires-4 : tie.Need-flag-requires-4
-flag-requires-4 c κs = search needs
+count-out-requires-4 : tie.Need-count-out-requires-4
+count-out-requires-4 c κs = search needs
 
-array-read-flag-5 : tie.Need-array-read-flag-5
-array-read-flag-5 c = search needs
+array-read-count-out-5 : tie.Need-array-read-count-out-5
+array-read-count-out-5 c = search needs
 
-flag-requires-5 : tie.Need-flag-requires-5
-flag-requires-5 c κs = search needs
+count-out-requires-5 : tie.Need-count-out-requires-5
+count-out-requires-5 c κs = search needs
 
-array-read-flag-6 : tie.Need-array-read-flag-6
-array-read-flag-6 c = search needs
+array-read-count-out-6 : tie.Need-array-read-count-out-6
+array-read-count-out-6 c = search needs
 
-flag-requires-6 : tie.Need-flag-requires-6
-flag-requires-6 c κs = search needs
+count-out-requires-6 : tie.Need-count-out-requires-6
+count-out-requires-6 c κs = search needs
 
-array-read-flag-7 : tie.Need-array-read-flag-7
-array-read-flag-7 c = search needs
+array-read-count-out-7 : tie.Need-array-read-count-out-7
+array-read-count-out-7 c = search needs
 
-flag-requires-7 : tie.Need-flag-requires-7
-flag-requires-7 c κs = search needs
+count-out-requires-7 : tie.Need-count-out-requires-7
+count-out-requires-7 c κs = search needs
 
-array-read-flag-8 : tie.Need-array-read-flag-8
-array-read-flag-8 c = search needs
+array-read-count-out-8 : tie.Need-array-read-count-out-8
+array-read-count-out-8 c = search needs
 
-flag-requires-8 : tie.Need-flag-requires-8
-flag-requires-8 c κs = search needs
+count-out-requires-8 : tie.Need-count-out-requires-8
+count-out-requires-8 c κs = search needs
 
 returns : tie.Need-returns
 returns c = cc
@@ -58,20 +58,20 @@ pub counts-out-spec : {M : Type 1} → statement M
 counts-out-spec =
     tie.close
     (tie.spec
-    array-read-flag
-    flag-requires
-    array-read-flag-2
-    flag-requires-2
-    array-read-flag-3
-    flag-requires-3
-    array-read-flag-4
-    flag-requires-4
-    array-read-flag-5
-    flag-requires-5
-    array-read-flag-6
-    flag-requires-6
-    array-read-flag-7
-    flag-requires-7
-    array-read-flag-8
-    flag-requires-8
+    array-read-count-out
+    count-out-requires
+    array-read-count-out-2
+    count-out-requires-2
+    array-read-count-out-3
+    count-out-requires-3
+    array-read-count-out-4
+    count-out-requires-4
+    array-read-count-out-5
+    count-out-requires-5
+    array-read-count-out-6
+    count-out-requires-6
+    array-read-count-out-7
+    count-out-requires-7
+    array-read-count-out-8
+    count-out-requires-8
     returns)

@@ -1,0 +1,13 @@
+-- `count_at`: a word that is 0.
+use borrow.Author.Needs.{needs}
+use Rattle.state_bytes.proofs.read.count_at.Statement.{statement}
+use Rattle.state_bytes.proofs.read.count_at.Tie as tie
+
+word-at-requires : tie.Need-word-at-requires
+word-at-requires c κs = search needs
+
+returns : tie.Need-returns
+returns c = cc
+
+pub count-at-spec : {M : Type 1} → statement M
+count-at-spec = tie.close (tie.spec word-at-requires returns)
