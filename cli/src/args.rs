@@ -114,6 +114,20 @@ pub fn parse(words: impl IntoIterator<Item = OsString>) -> Result<Command, Failu
             _ => Err(Failure::usage("demo takes the name of one file to write")),
         };
     }
+    let (input, output) = files(paths, dry_run)?;
+    Ok(Command::Limit(Job {
+        input,
+        output,
+        settings,
+        leave_out,
+        block,
+        report,
+        plot,
+    }))
+}
+
+/// The file to read and the one to write; none for a dry run.
+fn files(paths: Vec<PathBuf>, dry_run: bool) -> Result<(PathBuf, Option<PathBuf>), Failure> {
     let mut paths = paths.into_iter();
     let (input, output, more) = (paths.next(), paths.next(), paths.next());
     let input = input.ok_or_else(|| Failure::usage("no input file (see --help)"))?;
@@ -124,15 +138,7 @@ pub fn parse(words: impl IntoIterator<Item = OsString>) -> Result<Command, Failu
     if output.is_none() && !dry_run {
         return Err(Failure::usage("no output file (or --dry-run; see --help)"));
     }
-    Ok(Command::Limit(Job {
-        input,
-        output: output.filter(|_| !dry_run),
-        settings,
-        leave_out,
-        block,
-        report,
-        plot,
-    }))
+    Ok((input, output.filter(|_| !dry_run)))
 }
 
 fn channels(name: &str, value: OsString) -> Result<Vec<Named>, Failure> {

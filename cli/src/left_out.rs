@@ -106,12 +106,13 @@ fn why(name: Named, places: &[Option<Speaker>]) -> String {
         1 => "1 channel".into(),
         n => format!("{n} channels"),
     };
-    match name {
-        Named::Number(_) => format!("the file has {count}"),
-        Named::Place(_) if known.is_empty() => {
-            format!("the file does not tell the places of its {count}; a number does")
-        }
-        Named::Place(_) => format!("the file has {}", known.join(", ")),
+    match (name, places.len()) {
+        (Named::Place(_), _) if !known.is_empty() => format!("the file has {}", known.join(", ")),
+        (Named::Place(_), n @ 2..) => format!(
+            "the file does not tell the places of its {count}; \
+             name the channel by its number (1 to {n})"
+        ),
+        _ => format!("the file has {count}"),
     }
 }
 
@@ -170,7 +171,13 @@ mod tests {
             ("LFE", &stereo[..], "leave out LFE: the file has FL, FR"),
             ("1,3", &stereo, "leave out 3: the file has 2 channels"),
             ("2", &[None], "leave out 2: the file has 1 channel"),
-            ("lfe", &unknown, "not tell the places of its 6 channels"),
+            (
+                "lfe",
+                &unknown,
+                "the file does not tell the places of its 6 channels; \
+                 name the channel by its number (1 to 6)",
+            ),
+            ("lfe", &[None], "leave out LFE: the file has 1 channel"),
             ("FL,FR", &stereo, "every channel left out"),
             ("1,2", &stereo, "every channel left out"),
             ("1", &[None], "every channel left out"),

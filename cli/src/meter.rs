@@ -22,6 +22,11 @@ impl Peaks {
         self.sample.max(self.detector)
     }
 
+    /// The highest of many; 0 of none.
+    fn highest(many: impl Iterator<Item = Self>) -> Self {
+        many.fold(Self::default(), Self::with)
+    }
+
     /// The higher ones of both.
     fn with(self, other: Self) -> Self {
         Self {
@@ -111,7 +116,8 @@ impl Meter {
         let channels: Vec<Peaks> = self.channels.into_iter().map(Channel::finish).collect();
         let counted = channels.iter().zip(counts).filter(|(_, counts)| *counts);
         Measured {
-            peaks: counted.fold(Peaks::default(), |all, (peaks, _)| all.with(*peaks)),
+            counted: Peaks::highest(counted.map(|(peaks, _)| *peaks)),
+            all: Peaks::highest(channels.iter().copied()),
             channels,
             envelope: self.envelope,
             not_finite: self.not_finite,
@@ -123,7 +129,9 @@ impl Meter {
 #[derive(Clone, Debug)]
 pub struct Measured {
     /// The highest peaks of the channels that count.
-    pub peaks: Peaks,
+    pub counted: Peaks,
+    /// Those of all channels, whether they count or not.
+    pub all: Peaks,
     /// Those of each channel, whether it counts or not.
     pub channels: Vec<Peaks>,
     /// The higher of both peaks over time, in the channels that count.
@@ -143,7 +151,8 @@ mod tests {
         assert!(meter.take(&[0.0; 22]) < 0.5);
         assert_eq!(meter.take(&[0.0; 2]), 0.0);
         let seen = meter.finish();
-        assert_eq!(seen.peaks.sample, 0.5);
+        assert_eq!(seen.counted.sample, 0.5);
+        assert_eq!(seen.all, seen.counted);
         assert_eq!(seen.not_finite, 1);
         assert_eq!(seen.envelope.frames(), 14);
         assert_eq!([0, 1].map(|c| seen.channels[c].sample), [0.5, 0.25]);
@@ -155,7 +164,8 @@ mod tests {
         assert_eq!(meter.take(&[0.25, -8.0, f64::NAN, f64::NAN]), 0.25);
         assert!(meter.take(&[0.0; 22]) < 0.5);
         let seen = meter.finish();
-        assert_eq!((seen.peaks, seen.not_finite), (seen.channels[0], 2));
+        assert_eq!((seen.counted, seen.not_finite), (seen.channels[0], 2));
+        assert_eq!(seen.all, seen.channels[1]);
         assert_eq!([0, 1].map(|c| seen.channels[c].sample), [0.25, 8.0]);
         assert!(seen.channels[1].detector > 4.0);
         assert!(seen.envelope.points().all(|(_, peak)| peak < 0.5));
@@ -168,6 +178,7 @@ mod tests {
         meter.take(&[1.0, 0.5]);
         let seen = meter.finish();
         assert!(seen.channels[0].detector > 0.9);
-        assert!((0.45..0.5).contains(&seen.peaks.detector));
+        assert!((0.45..0.5).contains(&seen.counted.detector));
+        assert!(seen.all.detector > 0.9);
     }
 }

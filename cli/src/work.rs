@@ -33,16 +33,14 @@ pub fn run(job: &Job) -> Result<Report, Failure> {
     let mut limiter =
         Limiter::prepare(settings, spec).map_err(|e| Failure::at(&job.input, refused(e)))?;
     let (look, house_weights) = (limiter.latency(), limiter.has_house_weights());
-    let mut sound = job.output.as_deref().map(|p| Sound::start(p, &reader));
-    let mut sound = sound.take().transpose()?;
-    let mut numbers = job.report.as_deref().map(Pending::start).transpose()?;
-    let mut picture = job.plot.as_deref().map(Pending::start).transpose()?;
+    let mut files = Files::start(job, &reader)?;
     let limited = match format.encoding {
         // As f32, what is written is exactly what the limiter gave out.
         Encoding::Float => limited_as::<f32>,
         Encoding::Pcm(_) | Encoding::Double => limited_as::<f64>,
     };
-    let outcome = limited(&mut reader, &mut limiter, job.block, sound.as_mut())?;
+    let sound = files.sound.as_mut();
+    let outcome = limited(&mut reader, &mut limiter, job.block, sound)?;
     let report = Report {
         input: job.input.clone(),
         output: job.output.clone(),
@@ -53,24 +51,47 @@ pub fn run(job: &Job) -> Result<Report, Failure> {
         house_weights,
         outcome,
     };
-    let mut files = Vec::new();
-    if let Some(sound) = sound.take() {
-        files.push(sound.finish(report.frames())?);
-    }
-    if let Some(mut file) = numbers.take() {
-        file.write(&json(&report))?;
-        files.push(file);
-    }
-    if let Some(mut file) = picture.take() {
-        file.write(&svg(&report))?;
-        files.push(file);
-    }
-    for file in &files {
-        file.sync()?;
-    }
-    interrupt::check()?;
-    files.into_iter().try_for_each(Pending::publish)?;
+    files.publish(&report)?;
     Ok(report)
+}
+
+/// A job's files on their way.
+struct Files {
+    sound: Option<Sound>,
+    numbers: Option<Pending>,
+    picture: Option<Pending>,
+}
+
+impl Files {
+    fn start(job: &Job, reader: &Reader) -> Result<Self, Failure> {
+        let sound = job.output.as_deref().map(|p| Sound::start(p, reader));
+        Ok(Self {
+            sound: sound.transpose()?,
+            numbers: job.report.as_deref().map(Pending::start).transpose()?,
+            picture: job.plot.as_deref().map(Pending::start).transpose()?,
+        })
+    }
+
+    /// Brings all of them to the disk, then to their places.
+    fn publish(self, report: &Report) -> Result<(), Failure> {
+        let mut files = Vec::new();
+        if let Some(sound) = self.sound {
+            files.push(sound.finish(report.frames())?);
+        }
+        if let Some(mut file) = self.numbers {
+            file.write(&json(report))?;
+            files.push(file);
+        }
+        if let Some(mut file) = self.picture {
+            file.write(&svg(report))?;
+            files.push(file);
+        }
+        for file in &files {
+            file.sync()?;
+        }
+        interrupt::check()?;
+        files.into_iter().try_for_each(Pending::publish)
+    }
 }
 
 /// The limiter's settings for a file, and the channels that they leave out.

@@ -193,9 +193,8 @@ fn places_of_an_aiff() {
         .contains("\"channel\": 3, \"place\": \"LFE\""));
 }
 
-/// The report's peaks are those of the channels that count, and the bass has its own.
-#[test]
-fn the_report_tells_both() {
+/// A peak of 0.5 in the centre, which counts, and a higher one in the bass, which does not.
+fn told_of_both() -> Told {
     let folder = Folder::new();
     let (input, output) = (folder.at("in"), folder.at("out"));
     let mut samples = drama(0.1, 0.1);
@@ -203,33 +202,49 @@ fn the_report_tells_both() {
     samples[6 * 6000 + LFE] = -0.96875;
     surround(&input, WAVEX | PCM_24, &samples);
     let words = ["--leave-out", "LFE", text(&input), text(&output)];
-    let told = Told::by(&folder, &words);
+    Told::by(&folder, &words)
+}
 
+/// In JSON the peaks in and out are those of the whole file, beside those of the channels
+/// that count; the bass has its own.
+#[test]
+fn the_json_tells_both() {
+    let told = told_of_both();
+    let loud = 20.0 * 0.96875_f64.log10();
     for side in ["in", "out"] {
         let peak = told.level(side, "sample_peak_dbfs");
+        assert!((peak - loud).abs() < 1e-6, "{side}: {peak}");
+        let counted = format!("counted_{side}");
+        let peak = told.level(&counted, "sample_peak_dbfs");
         assert!((peak + 6.0206).abs() < 1e-3, "{side}: {peak}");
-        assert!(told.level(side, "detector_peak_dbfs") < -5.0);
+        assert!(told.level(&counted, "detector_peak_dbfs") < -5.0);
     }
     let bass = told.line("left_out");
-    assert!(bass.starts_with(
-        "[{ \"channel\": 3, \"place\": \"LFE\", \"in\": { \"sample_peak_dbfs\": -0.27"
-    ));
-    assert!(bass.ends_with(" }, \"passes_target\": true }]"), "{bass}");
-    let out = bass.split("\"out\": ").nth(1).expect("what came out");
-    let peak: f64 = member(out, "sample_peak_dbfs").parse().expect("a level");
-    assert!((peak - 20.0 * 0.96875_f64.log10()).abs() < 1e-6, "{peak}");
+    let own = ["in", "out"].map(|side| format!("\"{side}\": {}", told.line(side)));
+    let due = format!(
+        "[{{ \"channel\": 3, \"place\": \"LFE\", {}, ",
+        own.join(", ")
+    );
+    assert!(bass.starts_with(&due), "{bass}");
+    let above = told.level("left_out", "above_target_db");
+    assert!((above - (loud + 1.1)).abs() < 1e-6, "{above}");
     let highest = told.line("highest_peak");
     assert_eq!(
         (member(highest, "frame"), member(highest, "channel")),
         ("5000", "2")
     );
     assert_eq!(told.line("least_gain"), "null");
+}
 
+/// The lines and the picture show the channels that count, and the bass has a line.
+#[test]
+fn the_lines_and_the_picture_tell_both() {
+    let told = told_of_both();
     for line in [
         "left out        channel 4 (LFE); the next three lines are of the others",
         "sample peak     -6.02 dBFS in, -6.02 dBFS out",
         "highest peak    -6.02 dBFS in, at 00:00:00.104, channel 3, on a sample",
-        "not limited     channel 4 (LFE) comes out 0.82 dB above the target",
+        "above target    channel 4 (LFE) comes out 0.82 dB above the target",
     ] {
         assert!(
             told.lines.contains(&format!("\n{line}\n")),
@@ -246,6 +261,25 @@ fn the_report_tells_both() {
         .contains("peak in -6.02 dBFS, channel 3, on a sample"));
 }
 
+/// Less than 0.005 dB above the target is told in JSON alone.
+#[test]
+fn a_little_above_the_target_is_told_exactly() {
+    let folder = Folder::new();
+    let input = folder.at("in");
+    for due in [0.004, 0.006] {
+        let mut samples = drama(0.1, 0.1);
+        samples[6 * 6000 + LFE] = 10_f64.powf((due - 1.1) / 20.0);
+        surround(&input, WAVEX | DOUBLE, &samples);
+        let words = ["--dry-run", "--leave-out", "LFE", text(&input)];
+        let told = Told::by(&folder, &words);
+        let above = told.level("left_out", "above_target_db");
+        assert!((above - due).abs() < 1e-9, "{above}");
+        for told in [told.lines, told.svg] {
+            assert_eq!(told.contains("above the target"), due > 0.005, "{told}");
+        }
+    }
+}
+
 /// Without the option, and with a channel that has no place and passes nothing.
 #[test]
 fn what_there_is_not_is_not_told() {
@@ -254,6 +288,8 @@ fn what_there_is_not_is_not_told() {
     surround(&input, WAV | PCM_24, &drama(0.3, 0.2));
     let told = Told::by(&folder, &["--dry-run", text(&input)]);
     assert_eq!(told.line("left_out"), "[]");
+    assert_eq!(told.line("counted_in"), told.line("in"));
+    assert_eq!(told.line("counted_out"), told.line("out"));
     assert!(!told.lines.contains("left out") && !told.svg.contains("left out"));
 
     let words = ["--dry-run", "--leave-out", "4", text(&input)];
@@ -263,12 +299,12 @@ fn what_there_is_not_is_not_told() {
         bass.starts_with("[{ \"channel\": 3, \"place\": null, "),
         "{bass}"
     );
-    assert!(bass.ends_with("\"passes_target\": false }]"), "{bass}");
+    assert!(bass.ends_with("\"above_target_db\": 0 }]"), "{bass}");
     assert!(told.lines.contains("\nleft out        channel 4; "));
     assert!(told
         .lines
         .contains("\nchannel 4       sample peak -13.98 dBFS in, "));
-    assert!(!told.lines.contains("not limited"), "{}", told.lines);
+    assert!(!told.lines.contains("above target"), "{}", told.lines);
     assert!(told.svg.contains(">left out, peaks not drawn: channel 4<"));
 }
 
@@ -284,7 +320,7 @@ fn the_gains_are_those_of_the_others() {
         let gain = told.level("least_gain", "gain_db");
         let frame = told.level("least_gain", "frame");
         let below = told.line("frames_below_tenth_db").to_string();
-        assert!(told.level("out", "detector_peak_dbfs") < -1.1 + 1e-9);
+        assert!(told.level("counted_out", "detector_peak_dbfs") < -1.1 + 1e-9);
         (gain, frame, below)
     };
     let (silent, loud) = (told(0.0), told(400.0));
@@ -306,14 +342,15 @@ fn a_file_whose_other_channels_are_silent() {
     let words = ["--dry-run", "--leave-out", "LFE", text(&input)];
     let told = Told::by(&folder, &words);
     assert_eq!(told.line("highest_peak"), "null");
-    assert_eq!(member(told.line("in"), "sample_peak_dbfs"), "null");
+    assert_eq!(member(told.line("counted_in"), "sample_peak_dbfs"), "null");
+    assert!(told.level("in", "sample_peak_dbfs") > -1.0);
     assert!(told
         .lines
         .contains("\nsample peak     -inf dBFS in, -inf dBFS out\n"));
     assert!(told.lines.contains("\nleast gain      unity throughout\n"));
     assert!(told
         .lines
-        .contains("\nnot limited     channel 4 (LFE) comes out "));
+        .contains("\nabove target    channel 4 (LFE) comes out "));
 }
 
 /// Fails with a status and a line that says `said`; no file comes or goes.
@@ -341,7 +378,8 @@ fn channels_that_the_file_does_not_have() {
     refused(&folder, "lfe", 1, has);
     for number in [WAV | PCM_16, AIFF | PCM_16, FLAC | PCM_16] {
         surround(&input, number, &drama(0.3, 1.0));
-        let has = "in: cannot leave out LFE: the file does not tell the places of its 6 channels";
+        let has = "in: cannot leave out LFE: the file does not tell the places of its 6 channels; \
+                   name the channel by its number (1 to 6)";
         refused(&folder, "LFE", 1, has);
     }
 }

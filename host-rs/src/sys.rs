@@ -275,9 +275,12 @@ pub fn setup(
     setup_leaving_out(state, answer, settings, left_out, spec, house, stores)
 }
 
-/// [`setup`] with the channels that do not count told by bits, as the C function takes
-/// them, and not by the settings: bit `c` for channel `c`, and 0 where all count. Bits
-/// at and past the number of channels mean nothing.
+/// [`setup`] for a comparison with the C function, which takes the channels that do not
+/// count as bits: bit `c` for channel `c`, and 0 where all count. Bits at and past the
+/// number of channels mean nothing.
+///
+/// **The settings' own [`counts`](LimiterSettings#structfield.counts) are not read**: who
+/// is left out stands in `left_out` alone. A host calls [`setup`].
 pub fn setup_leaving_out(
     state: &mut [u8],
     answer: &mut [u64],
@@ -287,6 +290,39 @@ pub fn setup_leaving_out(
     house: bool,
     stores: SetupStores<'_>,
 ) -> u32 {
+    let LimiterSettings {
+        threshold_db,
+        true_peak_margin_db,
+        lookahead_ms,
+        release_ms,
+        counts: _, // see above
+    } = settings;
+    let floats = [threshold_db, true_peak_margin_db, lookahead_ms, release_ms];
+    let numbers = SetupNumbers {
+        floats: floats.map(f64::to_bits),
+        left_out,
+        spec,
+        house,
+    };
+    call_setup(state, answer, numbers, stores)
+}
+
+/// What the C function of a setup is told beside its slices.
+struct SetupNumbers {
+    /// Bits of threshold, margin, lookahead and release.
+    floats: [u64; 4],
+    left_out: u32,
+    spec: ProcessSpec,
+    house: bool,
+}
+
+fn call_setup(
+    state: &mut [u8],
+    answer: &mut [u64],
+    numbers: SetupNumbers,
+    stores: SetupStores<'_>,
+) -> u32 {
+    let ([threshold, margin, lookahead, release], spec) = (numbers.floats, numbers.spec);
     // SAFETY: pointers and lengths are those of slices that are borrowed apart.
     unsafe {
         daggeryuzu_setup(
@@ -294,17 +330,17 @@ pub fn setup_leaving_out(
             state.len(),
             answer.as_mut_ptr(),
             answer.len(),
-            settings.threshold_db.to_bits(),
-            settings.true_peak_margin_db.to_bits(),
-            settings.lookahead_ms.to_bits(),
-            settings.release_ms.to_bits(),
-            left_out,
+            threshold,
+            margin,
+            lookahead,
+            release,
+            numbers.left_out,
             spec.sample_rate,
             spec.channels,
             spec.max_block,
             u32::from(spec.max_memory.is_some()),
             spec.max_memory.unwrap_or_default(),
-            u32::from(house),
+            u32::from(numbers.house),
             stores.delay.as_mut_ptr(),
             stores.delay.len(),
             stores.marks.as_mut_ptr(),

@@ -12,30 +12,49 @@ use crate::left_out::Channel;
 use crate::meter::Peaks;
 use crate::words::{clock, db};
 
+/// A name and its value, which is JSON already.
+type Member = (&'static str, String);
+
 /// One object, one member to a line.
 #[must_use]
 pub fn json(report: &Report) -> String {
-    let (format, outcome) = (&report.format, &report.outcome);
-    let settings = &report.settings;
-    let least = outcome.gains.least().map(|l| least(report, l));
-    let highest = outcome.highest.map(|p| highest(report, &p));
-    let left_out = report.left_out.iter().map(|c| left_out_one(report, *c));
     let members = [
-        (
-            "program",
-            quoted(concat!("daggeryuzu ", env!("CARGO_PKG_VERSION"))),
-        ),
+        file(report),
+        limiter(report),
+        levels(report),
+        gains(report),
+        work(report),
+    ];
+    let lines: Vec<String> = members
+        .iter()
+        .flatten()
+        .map(|(name, value)| format!("  {}: {value}", quoted(name)))
+        .collect();
+    format!("{{\n{}\n}}\n", lines.join(",\n"))
+}
+
+/// What was read, and what was written.
+fn file(report: &Report) -> Vec<Member> {
+    let format = &report.format;
+    let program = concat!("daggeryuzu ", env!("CARGO_PKG_VERSION"));
+    let output = report.output.as_deref().map(path);
+    vec![
+        ("program", quoted(program)),
         ("input", path(&report.input)),
-        (
-            "output",
-            report.output.as_deref().map_or("null".into(), path),
-        ),
+        ("output", output.unwrap_or("null".into())),
         ("container", quoted(format.container())),
         ("encoding", quoted(&format.encoding.name())),
         ("rate", format.rate.to_string()),
         ("channels", format.channels.to_string()),
         ("frames", report.frames().to_string()),
         ("seconds", number(Some(report.seconds()))),
+    ]
+}
+
+/// What the limiter was set to.
+fn limiter(report: &Report) -> Vec<Member> {
+    let settings = &report.settings;
+    vec![
         ("threshold_db", number(Some(settings.threshold_db))),
         ("margin_db", number(Some(settings.true_peak_margin_db))),
         ("lookahead_ms", number(Some(settings.lookahead_ms))),
@@ -43,31 +62,43 @@ pub fn json(report: &Report) -> String {
         ("look_frames", report.look.to_string()),
         ("weights", quoted(report.weights())),
         ("target_dbfs", number(Some(report.target_db()))),
-        ("in", peaks(outcome.input.peaks)),
-        ("out", peaks(outcome.output.peaks)),
+    ]
+}
+
+/// The peaks of the whole file, for whoever checks what is delivered; beside them those of
+/// the channels that count, which alone are held to the target.
+fn levels(report: &Report) -> Vec<Member> {
+    let (input, output) = (&report.outcome.input, &report.outcome.output);
+    let left_out = report.left_out.iter().map(|c| left_out_one(report, *c));
+    let highest = report.outcome.highest.map(|p| highest(report, &p));
+    vec![
+        ("in", peaks(input.all)),
+        ("out", peaks(output.all)),
+        ("counted_in", peaks(input.counted)),
+        ("counted_out", peaks(output.counted)),
         ("left_out", list(left_out)),
         ("highest_peak", highest.unwrap_or("null".into())),
+    ]
+}
+
+fn gains(report: &Report) -> Vec<Member> {
+    let gains = &report.outcome.gains;
+    let least = gains.least().map(|l| least(report, l));
+    vec![
         ("least_gain", least.unwrap_or("null".into())),
-        (
-            "frames_below_unity",
-            outcome.gains.below_unity().to_string(),
-        ),
-        (
-            "frames_below_tenth_db",
-            outcome.gains.below_tenth().to_string(),
-        ),
+        ("frames_below_unity", gains.below_unity().to_string()),
+        ("frames_below_tenth_db", gains.below_tenth().to_string()),
+    ]
+}
+
+fn work(report: &Report) -> Vec<Member> {
+    let outcome = &report.outcome;
+    let elapsed = outcome.elapsed.as_secs_f64();
+    vec![
         ("samples_not_finite", outcome.input.not_finite.to_string()),
-        (
-            "elapsed_seconds",
-            number(Some(outcome.elapsed.as_secs_f64())),
-        ),
+        ("elapsed_seconds", number(Some(elapsed))),
         ("real_time_factor", number(Some(report.speed()))),
-    ];
-    let lines: Vec<String> = members
-        .iter()
-        .map(|(name, value)| format!("  {}: {value}", quoted(name)))
-        .collect();
-    format!("{{\n{}\n}}\n", lines.join(",\n"))
+    ]
 }
 
 fn peaks(peaks: Peaks) -> String {
@@ -81,13 +112,13 @@ fn peaks(peaks: Peaks) -> String {
 fn left_out_one(report: &Report, channel: Channel) -> String {
     let [input, output] = left_out::peaks(report, channel);
     let place = channel.place.map(|place| quoted(place.name()));
-    let passes = left_out::above(report, channel).is_some();
+    let above = left_out::above(report, channel);
     object(&[
         ("channel", channel.index.to_string()),
         ("place", place.unwrap_or("null".into())),
         ("in", peaks(input)),
         ("out", peaks(output)),
-        ("passes_target", passes.to_string()),
+        ("above_target_db", number(Some(above))),
     ])
 }
 
@@ -122,7 +153,7 @@ fn list(items: impl Iterator<Item = String>) -> String {
     format!("[{}]", items.collect::<Vec<_>>().join(", "))
 }
 
-fn object(members: &[(&str, String)]) -> String {
+fn object(members: &[Member]) -> String {
     let members: Vec<String> = members
         .iter()
         .map(|(name, value)| format!("{}: {value}", quoted(name)))

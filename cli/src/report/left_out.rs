@@ -1,12 +1,12 @@
-//! The channels that were left out. The report's peaks are those of the others, which are
-//! held to the target; each of these has its own.
+//! The channels that were left out. The lines and the picture show the peaks of the others,
+//! which are held to the target; each of these has its own.
 
 use super::Report;
 use crate::left_out::Channel;
 use crate::meter::Peaks;
 use crate::words::{db, level};
 
-/// Less above the target than this is not told: it would read as 0.00.
+/// Less above the target than this is not told in words: it would read as 0.00.
 const LEAST_TOLD: f64 = 0.005;
 
 /// The peaks of one, in and out.
@@ -15,11 +15,16 @@ pub(super) fn peaks(report: &Report, channel: Channel) -> [Peaks; 2] {
     [&outcome.input, &outcome.output].map(|measured| measured.channels[channel.index])
 }
 
-/// The dB by which one came out above the target, if it did.
-pub(super) fn above(report: &Report, channel: Channel) -> Option<f64> {
+/// The dB by which the higher of its two peaks came out above the target; 0 where neither
+/// did.
+pub(super) fn above(report: &Report, channel: Channel) -> f64 {
     let [_, out] = peaks(report, channel);
-    let above = db(out.higher())? - report.target_db();
-    (above >= LEAST_TOLD).then_some(above)
+    db(out.higher()).map_or(0.0, |out| (out - report.target_db()).max(0.0))
+}
+
+/// The same, where there is enough of it to be told in words.
+pub(super) fn told_above(report: &Report, channel: Channel) -> Option<f64> {
+    Some(above(report, channel)).filter(|above| *above >= LEAST_TOLD)
 }
 
 /// Their names; empty where there are none.
@@ -28,20 +33,23 @@ pub(super) fn names(report: &Report) -> String {
     names.join(", ")
 }
 
-/// Those that came out above the target, and by how much.
-pub(super) fn passing(report: &Report) -> Vec<String> {
+/// The names of lines and what they say: the peaks of each, then those that came out above
+/// the target.
+pub(super) fn lines(report: &Report) -> Vec<(String, String)> {
     let channels = report.left_out.iter();
-    let told = channels.filter_map(|channel| {
-        let above = above(report, *channel)?;
-        Some(format!(
-            "{channel} comes out {above:.2} dB above the target"
-        ))
+    let own = channels
+        .clone()
+        .map(|channel| (channel.to_string(), words(report, *channel)));
+    let above = channels.filter_map(|channel| {
+        let above = told_above(report, *channel)?;
+        let told = format!("{channel} comes out {above:.2} dB above the target");
+        Some(("above target".into(), told))
     });
-    told.collect()
+    own.chain(above).collect()
 }
 
 /// The peaks of one in words.
-pub(super) fn words(report: &Report, channel: Channel) -> String {
+fn words(report: &Report, channel: Channel) -> String {
     let [a, b] = peaks(report, channel);
     format!(
         "sample peak {} dBFS in, {} dBFS out; detector peak {} dBFS in, {} dBFS out",

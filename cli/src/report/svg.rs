@@ -93,7 +93,7 @@ impl Panel {
 pub fn svg(report: &Report) -> String {
     let outcome = &report.outcome;
     let frames = report.frames().max(1) as f64;
-    let loudest = db(outcome.input.peaks.higher());
+    let loudest = db(outcome.input.counted.higher());
     let least = outcome.gains.least().and_then(|l| db(l.gain));
     let levels = Panel {
         top: 92.0,
@@ -225,7 +225,7 @@ fn left_out_line(svg: &mut String, report: &Report) {
     let most = report
         .left_out
         .iter()
-        .filter_map(|c| left_out::above(report, *c))
+        .filter_map(|c| left_out::told_above(report, *c))
         .reduce(f64::max);
     let above = most.map(|db| format!("; up to {db:.2} dB above the target"));
     let _ = writeln!(

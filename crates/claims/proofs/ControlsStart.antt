@@ -1,5 +1,5 @@
--- The two starts of the controls, both at 8,000 frames a second, threshold and margin 0 dB (a target of 1), blocks of up to 64 frames. `mono`: look 11, one channel, one weight, release 0 (a coefficient of 1).
--- `stereo`: look 14, two channels, three weights, release 50 ms.
+-- The three starts of the controls, each at 8,000 frames a second, threshold and margin 0 dB (a target of 1), blocks of up to 64 frames. `mono`: look 11, one channel, one weight, release 0 (a coefficient of 1).
+-- `stereo`: look 14, two channels, three weights, release 50 ms. `besides`: `mono` with a second channel, which is left out.
 use Prim.Native.Nat.{ℕ, _+_, _*_}
 use mathlib.Core.Path.{_≡_, refl, ap, subst, _∙_}
 use mathlib.Core.Bool.{Bool, true, false}

@@ -4,7 +4,7 @@
 -- What it shares with the limiter are the rules of what was set up and of the call's sample type (`rulesOf`: taps, which channels count, output rule), formulas of document 01 and of its changes on plain arguments, and the table:
 --   setup: lookOf, rowOf, coefficientOf, targetOf, thresholdParam; weightsFor, by which the claim opens it (Change 6)
 --   a frame's peak and required gain: sumsOf and largestOf (the detector), heard, requiredGain, unitGain, finiteOrZero
---   where a peak sat, Change 5: phaseOf (the detector), seatOf (among the channels), placeOf (among a block's frames), and placeReply, which tells it
+--   where a peak sat, Change 5: phaseOf (the detector), seatOf (among the channels that count), placeOf (among a block's frames), and placeReply, which tells it
 --   mean and gain: meanOf (over the book's row and the weights that it opened with; it looks at the row's floors, at no tally), followed
 --   the threshold: smootherOf, targetSet, immediateSet, stepped, resetOne
 --   the table's refusals: eventsReply, reaches, the limits
@@ -67,7 +67,7 @@ sumsIn linking c fs = sumsOf (linking .taps) (latest silent (channelOf c fs))
 unfoldable pub between : Linking → ℕ → List Joined → Float
 between linking c fs = largestOf (sumsIn linking c fs)
 
--- the highest peak over k channels from channel c on, on the samples and between them
+-- the highest peak over those of k channels from channel c on that count, on the samples and between them
 unfoldable pub peakFrom : Linking → ℕ → ℕ → Float → List Joined → Float
 peakFrom linking c zero peak fs = peak
 peakFrom linking c (suc k) peak fs = peakFrom linking (c + 1) k (heard (linking .counts c) peak (getD (channelOf c fs) 0 Number.zero) (between linking c fs)) fs
@@ -79,7 +79,7 @@ voicesOf linking c zero fs = []
 voicesOf linking c (suc k) fs =
     record { counts = linking .counts c; sample = absOf (finiteOrZero (getD (channelOf c fs) 0 Number.zero)); answer = between linking c fs; phase = phaseOf (sumsIn linking c fs) } ∷ voicesOf linking (c + 1) k fs
 
--- the highest peak over so many channels, and where it sat
+-- the highest peak over those of so many channels that count, and where it sat
 unfoldable pub peakAtOf : Linking → ℕ → List Joined → PeakAt
 peakAtOf linking channels fs = peakAmong (peakFrom linking 0 channels Number.zero fs) (voicesOf linking 0 channels fs)
 
@@ -89,7 +89,7 @@ peaksJoining linking channels history [] = []
 peaksJoining linking channels history (f ∷ fs) = peakAtOf linking channels (f ∷ history) ∷ peaksJoining linking channels (f ∷ history) fs
 
 -- ---- required gains, floors
--- "the target divided by a frame's highest peak over all channels, kept within 0 and 1; in silence it is 1": of each frame
+-- "the target divided by a frame's highest peak over all channels, kept within 0 and 1; in silence it is 1", since Change 7 over those that count: of each frame
 unfoldable pub requiredOf : Linking → ℕ → List Joined → List Float
 requiredOf linking channels [] = []
 requiredOf linking channels (f ∷ fs) = unitGain (requiredGain (f .target) (peakFrom linking 0 channels Number.zero (f ∷ fs))) ∷ requiredOf linking channels fs

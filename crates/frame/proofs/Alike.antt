@@ -134,9 +134,9 @@ unfolding le
 zeros-alike ceiling zero = none
 zeros-alike ceiling (suc n) = some (record { same = inl refl; from-zero = (refl, refl); unsigned = (refl, refl) }) (zeros-alike ceiling n)
 
-alike-length : (ceiling : Float) (ps qs : List Float) → AllAlike ceiling ps qs → length ps ≡ length qs
-alike-length ceiling [] [] none = refl
-alike-length ceiling (p ∷ ps) (q ∷ qs) (some k ks) = ap suc (alike-length ceiling ps qs ks)
+pub alike-lengths : (ceiling : Float) (ps qs : List Float) → AllAlike ceiling ps qs → length qs ≡ length ps
+alike-lengths ceiling [] [] none = refl
+alike-lengths ceiling (p ∷ ps) (q ∷ qs) (some k ks) = ap suc (alike-lengths ceiling ps qs ks)
 
 -- a channel that does not count has no share
 heard-nothing : (ps xs answers : List Float) → length xs ≡ length ps → length answers ≡ length xs → heardAll false ps xs answers ≡ ps
@@ -164,7 +164,7 @@ module _ (settings : LimiterSettings) (c : ℕ) (store samples peaks : List Floa
   pub left-out : (level : Float) → length samples ≡ length peaks → countsIn settings c ≡ false → Shared level peaks
   left-out level n e =
       shared-by false e level peaks
-      (λ ceiling whole v k. subst (AllAlike ceiling peaks) (sym (heard-nothing whole samples (pushesOf taps store samples .peaks) (n ∙ alike-length ceiling peaks whole k) (pushes-length taps store samples))) k)
+      (λ ceiling whole v k. subst (AllAlike ceiling peaks) (sym (heard-nothing whole samples (pushesOf taps store samples .peaks) (n ∙ sym (alike-lengths ceiling peaks whole k)) (pushes-length taps store samples))) k)
 
   -- a quiet channel passed over
   pub passed-over : (level : Float) → length samples ≡ length peaks → countsIn settings c ≡ true → liesWithin store samples level ≡ true → Shared level peaks

@@ -21,6 +21,11 @@ use Rattle.frame.specs.Frame.{heard, Linked, linkedFrom, requiredGain, d
 use Rattle.frame.specs.Run.{Frames, frameFirst, framesOf, gainsOfFrames}
 use Rattle.frame.proofs.Keeps.{detector-length}
 
+-- frames of so many channels
+pub data Wide (channels : ℕ) : List (List Float) → Type 0 where
+  none : Wide channels []
+  some : {xs : List Float} {fs : List (List Float)} → length xs ≡ channels → Wide channels fs → Wide channels (xs ∷ fs)
+
 -- ---- entries past the number of channels mean nothing: a frame asks of its own channels alone
 module _ (taps : List (List Float)) (f g : ℕ → Bool) where
   abbrev by : (ℕ → Bool) → Linking
@@ -58,11 +63,6 @@ module _ (taps : List (List Float)) (f g : ℕ → Bool) where
     unfolding frameOf
     frame-same m xs h = rw (linked-same 0 Number.zero (m .detector) xs h, voices-same 0 (m .detector) xs h) refl
 
-    -- frames of so many channels
-    pub data Wide (channels : ℕ) : List (List Float) → Type 0 where
-      none : Wide channels []
-      some : {xs : List Float} {fs : List (List Float)} → length xs ≡ channels → Wide channels fs → Wide channels (xs ∷ fs)
-
     pub entries-past-channels : (channels : ℕ) (fs : List (List Float)) → Wide channels fs → Agree 0 channels → (m : Moving) → frames f m fs ≡ frames g m fs
     unfolding framesOf
     entries-past-channels channels [] none h m = refl
@@ -79,9 +79,9 @@ none-heard linking c peak detector (x ∷ xs) h =
     ap (λ (b : Bool). linkedFrom linking (c + 1) (heard b peak x (o .peak)) (drop remembered detector) xs .peak) (h c (omega arith) (omega arith))
     ∙ none-heard linking (c + 1) peak (drop remembered detector) xs (λ i a b. h i (omega arith) (omega arith))
 
-pub none-counted : (linking : Linking) (target : Float) (detector xs : List Float) → le Number.zero target ≡ true → ((i : ℕ) → i < length xs → linking .counts i ≡ false)
+pub gain-with-none : (linking : Linking) (target : Float) (detector xs : List Float) → le Number.zero target ≡ true → ((i : ℕ) → i < length xs → linking .counts i ≡ false)
     → requiredGain target (linkedFrom linking 0 Number.zero detector xs .peak) ≡ one
-none-counted linking target detector xs t h =
+gain-with-none linking target detector xs t h =
     ap (requiredGain target) (none-heard linking 0 Number.zero detector xs (λ i a b. h i (omega arith))) ∙ no-less-than-one target Number.zero refl t
 
 -- ---- what a channel that does not count carries changes no gain
@@ -145,20 +145,20 @@ module _ (linking : Linking) where
       (rw (later-part c p d x xs D, later-part c q e y ys E) (stores-heard (c + 1) _ _ (drop remembered d) (drop remembered e) xs ys M N parts rest))
 
   -- ---- frames in turn, of so many channels: from the same envelope, and the same in the stores of those that count
+  pub data SameFrames (channels : ℕ) : List (List Float) → List (List Float) → Type 0 where
+    none : SameFrames channels [] []
+    some : {xs ys : List Float} {fs gs : List (List Float)} → length xs ≡ channels → SameSamples 0 xs ys → SameFrames channels fs gs → SameFrames channels (xs ∷ fs) (ys ∷ gs)
+
+  pub record SameMoving (channels : ℕ) (m n : Moving) : Type 0 where
+    pub env : m .env ≡ n .env
+    pub stores : SameStores 0 channels (m .detector) (n .detector)
+    pub long : (length (m .detector) ≡ channels * remembered) × (length (n .detector) ≡ channels * remembered)
+
   module _ (leaves : Float → Float) (weights : List Float) (coeff : Float) (look : ℕ) (target : Float) (channels : ℕ) where
     abbrev run : Moving → List (List Float) → Frames
     run m fs = framesOf (record { linking = linking; leaves = leaves }) weights coeff look target m fs
 
-    pub data SameFrames : List (List Float) → List (List Float) → Type 0 where
-      none : SameFrames [] []
-      some : {xs ys : List Float} {fs gs : List (List Float)} → length xs ≡ channels → SameSamples 0 xs ys → SameFrames fs gs → SameFrames (xs ∷ fs) (ys ∷ gs)
-
-    pub record SameMoving (m n : Moving) : Type 0 where
-      pub env : m .env ≡ n .env
-      pub stores : SameStores 0 channels (m .detector) (n .detector)
-      pub long : (length (m .detector) ≡ channels * remembered) × (length (n .detector) ≡ channels * remembered)
-
-    pub left-out-unheard : (fs gs : List (List Float)) → SameFrames fs gs → (m n : Moving) → SameMoving m n → gainsOfFrames (run m fs .frames) ≡ gainsOfFrames (run n gs .frames)
+    pub left-out-unheard : (fs gs : List (List Float)) → SameFrames channels fs gs → (m n : Moving) → SameMoving channels m n → gainsOfFrames (run m fs .frames) ≡ gainsOfFrames (run n gs .frames)
     unfolding framesOf frameOf
     left-out-unheard [] [] none m n s = refl
     left-out-unheard (xs ∷ fs) (ys ∷ gs) (some w t later) m n s =

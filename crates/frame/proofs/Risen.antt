@@ -19,6 +19,7 @@ use Rattle.frame.specs.Passes.{voicesPass, placesFrom, anyAbove, Risen, 
 use Rattle.frame.specs.Alike.{ceilingOf, Alike, AllAlike, none, some}
 use Rattle.frame.specs.declared.highest.Seat.{Seat}
 use Rattle.frame.specs.declared.highest.Highest.{Highest}
+use Rattle.frame.proofs.Alike.{alike-lengths}
 
 -- ---- peaks alike
 -- nothing that is at most a ceiling is above a height
@@ -82,10 +83,6 @@ none-rises i r (p ∷ ps) h = go (lt (r .peak) p) refl h (λ k. none-rises (i + 
     go : (b : Bool) → lt (r .peak) p ≡ b → b || anyAbove (r .peak) ps ≡ false → (anyAbove (r .peak) ps ≡ false → risenFrom (i + 1) r ps ≡ r) → risenFrom i r (p ∷ ps) ≡ r
     go true e k on = clash true refl k
     go false e k on = passed i r p ps e ∙ on k
-
-alike-lengths : (ceiling : Float) (ps qs : List Float) → AllAlike ceiling ps qs → length qs ≡ length ps
-alike-lengths ceiling [] [] none = refl
-alike-lengths ceiling (p ∷ ps) (q ∷ qs) (some k ks) = ap suc (alike-lengths ceiling ps qs ks)
 
 -- ---- what a risen peak tells of a run of n frames, the first of which is frame `first` of its block
 module _ (linking : Linking) (channels n first : ℕ) (detector audio : List Float) (h : Highest) where

@@ -23,8 +23,8 @@ use Rattle.frame.specs.declared.highest.Seat.{Seat}
 use Rattle.frame.proofs.Channels.{one-more}
 
 -- the code's test of a channel is the definition's
-pub same-test : (b k t : Bool) (x y peak : Float) → b ≡ k → x ≡ y → (b && eq x peak) ≡ t → (k && eq y peak) ≡ t
-same-test b k t x y peak e f g = sym (ap (λ (z : Bool). z && eq x peak) e ∙ ap (λ (z : Float). k && eq z peak) f) ∙ g
+pub counted-test : (b k t : Bool) (x y peak : Float) → b ≡ k → x ≡ y → (b && eq x peak) ≡ t → (k && eq y peak) ≡ t
+counted-test b k t x y peak e f g = sym (ap (λ (z : Bool). z && eq x peak) e ∙ ap (λ (z : Float). k && eq z peak) f) ∙ g
 
 module _ (settings : LimiterSettings) (channels at : ℕ) (detector audio : List Float) where
   -- the channels from c on

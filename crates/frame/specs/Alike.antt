@@ -1,4 +1,4 @@
--- Peaks that nobody tells apart who asks only for what is above a ceiling: the definition's, and those from which a share that is at most the ceiling may be left out.
+-- Peaks that nobody tells apart who asks only for what is above a ceiling: the definition's, and those from which a share that is at most the ceiling may be missing.
 use mathlib.Core.Path.{_≡_}
 use mathlib.Core.Logic.{_⊎_}
 use mathlib.Core.Bool.{true, false, cond}

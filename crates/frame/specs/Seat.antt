@@ -1,4 +1,4 @@
--- Change 5: where a frame's linked peak sat, among the channels.
+-- Change 5: where a frame's linked peak sat, among the channels that count.
 use Prim.Native.Nat.{ℕ, _+_}
 use mathlib.Core.Bool.{Bool, cond, _&&_}
 use mathlib.Core.List.{List, [], _∷_}

@@ -1,7 +1,7 @@
 // One run of frames through the limiter (`render` and `flush` of limiter.rs): linked peak, required gain,
 // gain step, delayed output.
 
-// The linked peak over the channels.
+// The linked peak over the counted channels.
 mod peaks;
 // The highest of them so far.
 pub mod highest;

@@ -127,7 +127,7 @@ unfolding targetOf expOf add sub mul div neg lt le ofInt ofBits toBits toUnsigne
 margin-taken-off = (refl, refl)
 
 -- ---- the settings
--- two fields exchanged: of any four floats
+-- two fields exchanged
 pub fields-in-place : (a b c d : Float) (e : List Bool)
     → let s = settingsOf a b c d e in
     (s .«threshold_db» ≡ a) × (s .«true_peak_margin_db» ≡ b) × (s .«lookahead_ms» ≡ c) × (s .«release_ms» ≡ d) × (s .counts ≡ e)
@@ -140,7 +140,7 @@ pub mask-in-place :
     × (countsOf 0 ≡ allCount) × (countsOf 256 ≡ allCount) × (countsOf 255 ≡ replicate 8 false)
 mask-in-place = (refl, refl, refl, refl, refl)
 
--- another default than −1, 1/10, 3/2 and 50, with a channel left out
+-- another default than −1, 1/10, 3/2 and 50, or a channel left out by default
 abbrev whole : ℕ → Float
 whole n = ofInt binary64 (pos n)
 

@@ -22,6 +22,7 @@ pub fn counts_of(left_out: u32) -> [bool; 8]
     ]
 }
 
+// The entry of channel c, out of the array alone, whose length is then at hand.
 fn counts_at(counts: [bool; 8], c: usize) -> bool
     requires { ⌜ c < 8 ⌝ }
     ensures { λ r. ⌜ r ≡ getD counts c false ⌝ }

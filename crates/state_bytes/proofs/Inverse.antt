@@ -1,6 +1,6 @@
 -- A state's words and the limiter with its bank: each is had back from the other.
 use mathlib.Core.Path.{_≡_, refl, sym, ap, _∙_}
-use mathlib.Core.Bool.{Bool, true, false, not, _&&_}
+use mathlib.Core.Bool.{Bool, true, false, cond, not, _&&_}
 use mathlib.Core.List.{List, [], _∷_, _++_, map}
 use Prim.Native.Nat.{ℕ, zero, suc, _+_, _^_, _≤_, _<_}
 use native.Mathlib.Nat.{mod-eq-of-lt}
@@ -14,13 +14,14 @@ use borrow.Author.Tests.{eqb-true, ltb-true, lt-ltb, leb-true}
 use Rattle.arithmetic.specs.Number.{bits}
 use Rattle.arithmetic.proofs.Order.{and-true}
 use Rattle.bank.specs.Bank.{slotAt}
+use Rattle.settings.specs.Settings.{allCount}
 use Rattle.driver.specs.declared.state.KernelProcessor.{KernelProcessor}
 use Rattle.audio.specs.Bytes.{wordOf, cut, wordsIn, bytesOut}
 use Rattle.audio.proofs.Numbers.{cut-length, out-length, words-of-bytes, bytes-of-words}
 use Rattle.bank.specs.Words.{smootherIn, shapeWord}
 use Rattle.bank.specs.declared.param.Smoothing.{Smoothing}
 use Rattle.bank.specs.declared.param.Smoothing.the-variants.{Step, Linear, OnePole}
-use Rattle.state_bytes.specs.State.{layout, stateBytes, stateWords, zerosAt, flagsAt, holdsState, isState, limiterIn, bankIn, stateIn, flagOut, countOut, eight, wordsOut, processorIn, stateOut}
+use Rattle.state_bytes.specs.State.{layout, stateBytes, stateWords, allAt, zerosAt, flagsAt, holdsState, isState, limiterIn, bankIn, stateIn, countedOut, choiceIn, choiceOut, eight, wordsOut, processorIn, stateOut}
 use Rattle.bank.proofs.Shapes.{shape-back, shape-small, shape-word}
 use Rattle.state_bytes.proofs.Stored.{read-held}
 use Rattle.state_bytes.proofs.Storable.{Fits, Storable}
@@ -29,11 +30,11 @@ use Rattle.state_bytes.proofs.Storable.{Fits, Storable}
 back : (x : Float) → Fits x → bits (toBits binary64 x) ≡ x
 back x f = ofBits-toBits binary64 x f
 
-flag-back : (b : Bool) → not (eqb (flagOut b) 0) ≡ b
+flag-back : (b : Bool) → not (eqb (cond b 1 0) 0) ≡ b
 flag-back true = refl
 flag-back false = refl
 
-counts-back : (bs : List Bool) → map (λ (b : Bool). eqb (countOut b) 0) bs ≡ bs
+counts-back : (bs : List Bool) → map (λ (b : Bool). eqb (countedOut b) 0) bs ≡ bs
 counts-back [] = refl
 counts-back (true ∷ bs) = rw (counts-back bs) refl
 counts-back (false ∷ bs) = rw (counts-back bs) refl
@@ -105,7 +106,7 @@ shape-word-small Step = omega arith
 shape-word-small Linear = omega arith
 shape-word-small OnePole = omega arith
 
-flag-small : (b : Bool) → flagOut b < 2 ^ 64
+flag-small : (b : Bool) → cond b 1 0 < 2 ^ 64
 flag-small true = omega arith
 flag-small false = omega arith
 
@@ -127,7 +128,7 @@ zeros-small : (n : ℕ) → AllSmall (replicate n 0)
 zeros-small zero = none
 zeros-small (suc n) = zero-small ∷< zeros-small n
 
-counts-small : (bs : List Bool) {ws : List ℕ} → AllSmall ws → AllSmall (map countOut bs ++ ws)
+counts-small : (bs : List Bool) {ws : List ℕ} → AllSmall ws → AllSmall (map countedOut bs ++ ws)
 counts-small [] h = h
 counts-small (true ∷ bs) h = zero-small ∷< counts-small bs h
 counts-small (false ∷ bs) h = flag-small true ∷< counts-small bs h
@@ -151,12 +152,12 @@ abbrev allFlags : List ℕ → Bool
 allFlags [] = true
 allFlags (w ∷ ws) = leb w 1 && allFlags ws
 
-counts-are : (bs : List Bool) → allFlags (map countOut bs) ≡ true
+counts-are : (bs : List Bool) → allFlags (map countedOut bs) ≡ true
 counts-are [] = refl
 counts-are (true ∷ bs) = counts-are bs
 counts-are (false ∷ bs) = counts-are bs
 
-flags-are : (ready : Bool) (bs : List Bool) → allFlags (flagOut ready ∷ map countOut bs) ≡ true
+flags-are : (ready : Bool) (bs : List Bool) → allFlags (cond ready 1 0 ∷ map countedOut bs) ≡ true
 flags-are true bs = counts-are bs
 flags-are false bs = counts-are bs
 
@@ -170,7 +171,7 @@ module _ (p : KernelProcessor) (h : Storable p) where
   out-words = words-of-bytes 8 (wordsOut p) (words-small p h)
 
   out-holds : holdsState (wordsOut p) ≡ true
-  unfolding holdsState wordsOut zerosAt flagsAt
+  unfolding holdsState wordsOut allAt
   out-holds =
       rw (
         lt-ltb (p .limiter .rate) (2 ^ 32) (h .numbers .rate),
@@ -204,7 +205,7 @@ spread ws k (suc n) h =
     drop-cons ws k 0 (omega arith) ∙ ap (λ (t : List ℕ). getD ws k 0 ∷ t) (ap (λ (j : ℕ). drop j ws) f ∙ spread ws (k + 1) n (omega arith) ∙ ap (λ (j : ℕ). placesFrom ws (k + 1) n ++ drop j ws) e)
 
 zeros-are : (ws : List ℕ) (k n : ℕ) → zerosAt ws k n ≡ true → placesFrom ws k n ≡ replicate n 0
-unfolding zerosAt
+unfolding allAt
 zeros-are ws k zero h = refl
 zeros-are ws k (suc n) h =
     let z = and-true (eqb (getD ws k 0) 0) (zerosAt ws (k + 1) n) h in
@@ -215,24 +216,24 @@ infixr 67 _∷≡_
 _∷≡_ : {a b : ℕ} {xs ys : List ℕ} → a ≡ b → xs ≡ ys → a ∷ xs ≡ b ∷ ys
 _∷≡_ {a} {b} {xs} {ys} e f = ap (λ (c : ℕ). c ∷ xs) e ∙ ap (λ (t : List ℕ). b ∷ t) f
 
-flag-word : (w : ℕ) → w ≤ 1 → flagOut (not (eqb w 0)) ≡ w
+flag-word : (w : ℕ) → w ≤ 1 → cond (not (eqb w 0)) 1 0 ≡ w
 flag-word zero h = refl
 flag-word (suc zero) h = refl
 flag-word (suc (suc w)) h = absurd (omega arith)
 
-count-word : (w : ℕ) → w ≤ 1 → countOut (eqb w 0) ≡ w
+count-word : (w : ℕ) → w ≤ 1 → countedOut (eqb w 0) ≡ w
 count-word zero h = refl
 count-word (suc zero) h = refl
 count-word (suc (suc w)) h = absurd (omega arith)
 
 -- the first of n + 1 flags, and the others
 flags-then : (ws : List ℕ) (k n : ℕ) → flagsAt ws k (suc n) ≡ true → (getD ws k 0 ≤ 1) × (flagsAt ws (k + 1) n ≡ true)
-unfolding flagsAt
+unfolding allAt
 flags-then ws k n h =
     let z = and-true (leb (getD ws k 0) 1) (flagsAt ws (k + 1) n) h in
     (leb-true (getD ws k 0) 1 (z .0), z .1)
 
-count-words : (ws : List ℕ) (k n : ℕ) → flagsAt ws k n ≡ true → map (λ (w : ℕ). countOut (eqb w 0)) (placesFrom ws k n) ≡ placesFrom ws k n
+count-words : (ws : List ℕ) (k n : ℕ) → flagsAt ws k n ≡ true → map (λ (w : ℕ). countedOut (eqb w 0)) (placesFrom ws k n) ≡ placesFrom ws k n
 count-words ws k zero h = refl
 count-words ws k (suc n) h =
     let z = flags-then ws k n h in
@@ -264,7 +265,7 @@ module _ (ws : List ℕ) (n : length ws ≡ stateWords) (h : holdsState ws ≡ t
   ready : (getD ws 33 0 ≤ 1) × (flagsAt ws 34 8 ≡ true)
   ready = flags-then ws 33 8 (tests .5)
 
-  counts : map (λ (w : ℕ). countOut (eqb w 0)) (placesFrom ws 34 8) ++ replicate 22 0 ≡ drop 34 ws
+  counts : map (λ (w : ℕ). countedOut (eqb w 0)) (placesFrom ws 34 8) ++ replicate 22 0 ≡ drop 34 ws
   counts =
       ap (λ (t : List ℕ). t ++ replicate 22 0) (count-words ws 34 8 (ready .1))
       ∙ ap (λ (t : List ℕ). placesFrom ws 34 8 ++ t) rest
@@ -290,3 +291,31 @@ written-read bytes s b o =
     let l = eqb-true (length bytes) stateBytes (t .0) in
     let n = length-map (cut 8 stateWords bytes) wordOf ∙ cut-length 8 stateWords bytes in
     ap (λ (p : KernelProcessor). bytesOut 8 (wordsOut p)) (read-held bytes l (t .1)) ∙ ap (bytesOut 8) (words-of-state ws n (t .1) o) ∙ bytes-of-words 8 stateWords bytes l b
+
+-- ---- a state that was kept since before Change 7 has nothing from word 34 on
+both : (test : ℕ → Bool) (ws : List ℕ) (k n m : ℕ) → allAt test ws k (n + m) ≡ true → (allAt test ws k n ≡ true) × (allAt test ws (k + n) m ≡ true)
+unfolding allAt
+both test ws k zero m h = let e : k + 0 ≡ k = omega arith in let f : 0 + m ≡ m = omega arith in (refl, rw e (sym (ap (allAt test ws k) f) ∙ h))
+both test ws k (suc n) m h =
+    let f : suc n + m ≡ suc (n + m) = omega arith in
+    let z = and-true (test (getD ws k 0)) (allAt test ws (k + 1) (n + m)) (sym (ap (allAt test ws k) f) ∙ h) in
+    let later = both test ws (k + 1) n m (z .1) in
+    let e : k + suc n ≡ k + 1 + n = omega arith in
+    (rw (z .0) (later .0), rw e (later .1))
+
+zero-flags : (ws : List ℕ) (k n : ℕ) → zerosAt ws k n ≡ true → flagsAt ws k n ≡ true
+unfolding allAt
+zero-flags ws k zero h = refl
+zero-flags ws k (suc n) h =
+    let z = and-true (eqb (getD ws k 0) 0) (zerosAt ws (k + 1) n) h in
+    rw (eqb-true (getD ws k 0) 0 (z .0), zero-flags ws (k + 1) n (z .1)) refl
+
+-- it is a state still, if it was one, and every channel counts, as it did
+pub kept-from-before : (ws : List ℕ) → zerosAt ws 34 30 ≡ true → (flagsAt ws 34 8 ≡ true) × (zerosAt ws 42 22 ≡ true) × (choiceIn ws ≡ allCount)
+kept-from-before ws h =
+    let z = both (λ (w : ℕ). eqb w 0) ws 34 8 22 h in
+    (zero-flags ws 34 8 (z .0), z .1, ap (map (λ (w : ℕ). eqb w 0)) (zeros-are ws 34 8 (z .0)))
+
+-- and what is written where every channel counts is what was written before
+pub all-counted-as-before : choiceOut allCount ++ replicate 22 0 ≡ replicate 30 0
+all-counted-as-before = refl

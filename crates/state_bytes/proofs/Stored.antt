@@ -6,7 +6,7 @@ use mathlib.Core.List.{List, [], _∷_, _++_, map, append-assoc, append-nil}
 use Prim.Native.Nat.{ℕ, zero, suc, _+_, _-_, _*_, _≤_, _<_}
 use native.Mathlib.Numerals.{add-one}
 use native.Mathlib.Omega.{arith}
-use lib.Dec.{eqb, leb}
+use lib.Dec.{eqb}
 use lib.ListN.{length, getD, take, drop, replicate, length-append, drop-of-length-le, take-append-drop}
 use lib.Seq.{take-all, take-at, drop-drop, drop-cons, length-take-le}
 use borrow.Author.Tests.{eqb-true, eq-eqb, ne-eqb}
@@ -25,7 +25,7 @@ use Rattle.driver.specs.Answers.{machineAt}
 use Rattle.driver.specs.Parts.{shownOf, bankWith}
 use Rattle.driver.specs.declared.state.KernelProcessor.{KernelProcessor}
 use Rattle.driver.specs.declared.state.Threshold.{Threshold}
-use Rattle.state_bytes.specs.State.{layout, stateWords, stateBytes, zerosAt, flagsAt, holdsState, isState, limiterIn, bankIn, stateIn, limiterOut, flagOut, countsOut, wordsOut, never, processorIn, stateOut}
+use Rattle.state_bytes.specs.State.{layout, stateWords, stateBytes, allAt, zerosAt, holdsState, isState, limiterIn, bankIn, stateIn, limiterOut, choiceOut, wordsOut, never, processorIn, stateOut}
 
 and-assoc : (a b c : Bool) → ((a && b) && c) ≡ (a && (b && c))
 and-assoc true b c = refl
@@ -61,7 +61,7 @@ zero-word (b ∷ bs) =
     ∙ ap (λ (t : Bool). eqb b 0 && t) (zero-word bs)
 
 zero-words : (bytes : List ℕ) (n k : ℕ) → length bytes ≡ stateBytes → k + n ≡ stateWords → allZero (drop (8 * k) bytes) ≡ zerosAt (wordsIn 8 stateWords bytes) k n
-unfolding zerosAt
+unfolding allAt
 zero-words bytes zero k l e = let past : length bytes ≤ 8 * k = omega (arith, l, e) in rw (drop-of-length-le bytes {i = 8 * k} past) refl
 zero-words bytes (suc n) k l e =
     let d = drop (8 * k) bytes in
@@ -93,15 +93,15 @@ module _ (bytes : List ℕ) (l : length bytes ≡ stateBytes) (i : ℕ) (p : Boo
       go true e = rw (drop-of-length-le bytes {i = i} past) at e
       go false e = e
 
--- ---- the flags, word by word
-module _ (ws : List ℕ) (k n : ℕ) (p total : Bool) (e : p && flagsAt ws k n ≡ total) where
-  pub flags-more : (m : ℕ) → n ≡ suc m → (p && leb (getD ws k 0) 1) && flagsAt ws (k + 1) m ≡ total
-  unfolding flagsAt
-  flags-more m h = and-assoc p (leb (getD ws k 0) 1) (flagsAt ws (k + 1) m) ∙ ap (λ (j : ℕ). p && flagsAt ws k j) (sym h) ∙ e
+-- ---- a test of words in turn
+module _ (test : ℕ → Bool) (ws : List ℕ) (k n : ℕ) (p total : Bool) (e : p && allAt test ws k n ≡ total) where
+  pub all-more : (m : ℕ) → n ≡ suc m → (p && test (getD ws k 0)) && allAt test ws (k + 1) m ≡ total
+  unfolding allAt
+  all-more m h = and-assoc p (test (getD ws k 0)) (allAt test ws (k + 1) m) ∙ ap (λ (j : ℕ). p && allAt test ws k j) (sym h) ∙ e
 
-  pub flags-done : n ≡ 0 → p ≡ total
-  unfolding flagsAt
-  flags-done h = sym (and-yes p) ∙ ap (λ (j : ℕ). p && flagsAt ws k j) (sym h) ∙ e
+  pub all-done : n ≡ 0 → p ≡ total
+  unfolding allAt
+  all-done h = sym (and-yes p) ∙ ap (λ (j : ℕ). p && allAt test ws k j) (sym h) ∙ e
 
 -- ---- reading
 -- by what it holds with any stores
@@ -182,7 +182,7 @@ stored-parts (part ∷ parts) state k e =
 -- a state's, of a limiter and what its bank shows
 abbrev pub partsOf : Limiter → Threshold → List (List ℕ)
 partsOf l t =
-    (layout ∷ []) ∷ limiterOut l ∷ smootherOut (t .smoother) ∷ (t .count ∷ t .rate ∷ flagOut (t .ready) ∷ []) ∷ countsOut (l .settings .counts) ∷ replicate 22 0 ∷ []
+    (layout ∷ []) ∷ limiterOut l ∷ smootherOut (t .smoother) ∷ (t .count ∷ t .rate ∷ cond (t .ready) 1 0 ∷ []) ∷ choiceOut (l .settings .counts) ∷ replicate 22 0 ∷ []
 
 state-stored : (l : Limiter) (t : Threshold) (state : List ℕ) → length state ≡ stateBytes → (b : SmootherBank) → shownOf b ≡ t → stored state 0 (partsOf l t) ≡ stateOut (record { limiter = l; bank = b })
 unfolding stateOut wordsOut joined
@@ -191,6 +191,6 @@ state-stored l t state n b e = ap (λ (t : Threshold). stored state 0 (partsOf l
 -- as the code stores them: each part's words as their function made them, into the bytes that the part before left
 pub written : (l : Limiter) (t : Threshold) (state : List ℕ) → length state ≡ stateBytes → (s1 s2 s3 s4 s5 s6 own smoother counts : List ℕ) (ready : ℕ)
     → s1 ≡ put state 0 (bytesOut 8 (layout ∷ [])) → own ≡ limiterOut l → s2 ≡ put s1 (8 * 1) (bytesOut 8 own) → smoother ≡ smootherOut (t .smoother) → s3 ≡ put s2 (8 * 19) (bytesOut 8 smoother)
-    → ready ≡ flagOut (t .ready) → s4 ≡ put s3 (8 * 31) (bytesOut 8 (t .count ∷ t .rate ∷ ready ∷ [])) → counts ≡ countsOut (l .settings .counts) → s5 ≡ put s4 (8 * 34) (bytesOut 8 counts)
+    → ready ≡ cond (t .ready) 1 0 → s4 ≡ put s3 (8 * 31) (bytesOut 8 (t .count ∷ t .rate ∷ ready ∷ [])) → counts ≡ choiceOut (l .settings .counts) → s5 ≡ put s4 (8 * 34) (bytesOut 8 counts)
     → s6 ≡ put s5 (8 * 42) (bytesOut 8 (replicate 22 0)) → (b : SmootherBank) → shownOf b ≡ t → s6 ≡ stateOut (record { limiter = l; bank = b })
 written l t state n s1 s2 s3 s4 s5 s6 own smoother counts ready e1 o e2 m e3 r e4 k e5 e6 b e = rw (e6, e5, k, e4, r, e3, m, e2, o, e1) (state-stored l t state n b e)

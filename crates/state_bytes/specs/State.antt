@@ -29,15 +29,18 @@ stateWords = 64
 abbrev pub stateBytes : ℕ
 stateBytes = 512
 
--- n words from a place on are 0
-unfoldable pub zerosAt : List ℕ → ℕ → ℕ → Bool
-zerosAt ws k zero = true
-zerosAt ws k (suc n) = eqb (getD ws k 0) 0 && zerosAt ws (k + 1) n
+-- n words from a place on pass a test
+unfoldable pub allAt : (ℕ → Bool) → List ℕ → ℕ → ℕ → Bool
+allAt test ws k zero = true
+allAt test ws k (suc n) = test (getD ws k 0) && allAt test ws (k + 1) n
 
--- n words from a place on are each a yes or a no
-unfoldable pub flagsAt : List ℕ → ℕ → ℕ → Bool
-flagsAt ws k zero = true
-flagsAt ws k (suc n) = leb (getD ws k 0) 1 && flagsAt ws (k + 1) n
+-- are each 0
+abbrev pub zerosAt : List ℕ → ℕ → ℕ → Bool
+zerosAt ws k n = allAt (λ (w : ℕ). eqb w 0) ws k n
+
+-- are each a yes or a no
+abbrev pub flagsAt : List ℕ → ℕ → ℕ → Bool
+flagsAt ws k n = allAt (λ (w : ℕ). leb w 1) ws k n
 
 -- the layout's word, 32 bits for each rate and for the id, a shape, nine flags (the bank's, and one a channel), and nothing in the room to grow
 unfoldable pub holdsState : List ℕ → Bool
@@ -49,19 +52,15 @@ unfoldable pub isState : List ℕ → Bool
 isState bytes = eqb (length bytes) stateBytes && holdsState (wordsIn 8 stateWords bytes)
 
 -- ---- out of words
--- a yes is 1, a no is 0
-abbrev pub flagIn : List ℕ → ℕ → Bool
-flagIn ws k = not (eqb (getD ws k 0) 0)
-
 -- a channel that is left out has 1, one that counts 0
-abbrev pub countIn : List ℕ → ℕ → Bool
-countIn ws k = eqb (getD ws k 0) 0
+abbrev pub countedIn : List ℕ → ℕ → Bool
+countedIn ws k = eqb (getD ws k 0) 0
 
-abbrev pub countsIn : List ℕ → List Bool
-countsIn ws = countIn ws 34 ∷ countIn ws 35 ∷ countIn ws 36 ∷ countIn ws 37 ∷ countIn ws 38 ∷ countIn ws 39 ∷ countIn ws 40 ∷ countIn ws 41 ∷ []
+abbrev pub choiceIn : List ℕ → List Bool
+choiceIn ws = countedIn ws 34 ∷ countedIn ws 35 ∷ countedIn ws 36 ∷ countedIn ws 37 ∷ countedIn ws 38 ∷ countedIn ws 39 ∷ countedIn ws 40 ∷ countedIn ws 41 ∷ []
 
 abbrev pub settingsIn : List ℕ → LimiterSettings
-settingsIn ws = settingsOf (floatIn ws 1) (floatIn ws 2) (floatIn ws 3) (floatIn ws 4) (countsIn ws)
+settingsIn ws = settingsOf (floatIn ws 1) (floatIn ws 2) (floatIn ws 3) (floatIn ws 4) (choiceIn ws)
 
 abbrev pub envelopeIn : List ℕ → Envelope
 envelopeIn ws = record {
@@ -88,7 +87,7 @@ abbrev pub slotsWith : Smoother → List Smoother
 slotsWith s = s ∷ vacant ∷ vacant ∷ vacant ∷ vacant ∷ vacant ∷ vacant ∷ vacant ∷ []
 
 abbrev pub bankIn : List ℕ → SmootherBank
-bankIn ws = record { smoothers = slotsWith (smootherIn ws 19); count = getD ws 31 0; rate = halfIn ws 32; ready = flagIn ws 33 }
+bankIn ws = record { smoothers = slotsWith (smootherIn ws 19); count = getD ws 31 0; rate = halfIn ws 32; ready = not (eqb (getD ws 33 0) 0) }
 
 unfoldable pub stateIn : List ℕ → KernelProcessor
 stateIn ws = record { limiter = limiterIn ws; bank = bankIn ws }
@@ -100,24 +99,21 @@ limiterOut l =
     ∷ l .rate ∷ l .channels ∷ l .«max_block» ∷ floatOut (l .«release_coeff») ∷ l .env .keeper .look ∷ l .env .keeper .head ∷ l .env .keeper .len ∷ l .env .keeper .frame
     ∷ l .env .attack .pos ∷ l .env .attack .tally ∷ floatOut (l .env .gain) ∷ l .«delay_pos» ∷ floatOut (l .target) ∷ l .drained ∷ []
 
-abbrev pub flagOut : Bool → ℕ
-flagOut b = cond b 1 0
-
 abbrev pub bankOut : SmootherBank → List ℕ
-bankOut b = smootherOut (slotAt 0 (b .smoothers)) ++ (b .count ∷ b .rate ∷ flagOut (b .ready) ∷ [])
+bankOut b = smootherOut (slotAt 0 (b .smoothers)) ++ (b .count ∷ b .rate ∷ cond (b .ready) 1 0 ∷ [])
 
 -- eight entries, in order
 abbrev pub eight : List Bool → List Bool
 eight bs = getD bs 0 false ∷ getD bs 1 false ∷ getD bs 2 false ∷ getD bs 3 false ∷ getD bs 4 false ∷ getD bs 5 false ∷ getD bs 6 false ∷ getD bs 7 false ∷ []
 
-abbrev pub countOut : Bool → ℕ
-countOut b = cond b 0 1
+abbrev pub countedOut : Bool → ℕ
+countedOut b = cond b 0 1
 
-abbrev pub countsOut : List Bool → List ℕ
-countsOut bs = map countOut (eight bs)
+abbrev pub choiceOut : List Bool → List ℕ
+choiceOut bs = map countedOut (eight bs)
 
 unfoldable pub wordsOut : KernelProcessor → List ℕ
-wordsOut p = layout ∷ limiterOut (p .limiter) ++ bankOut (p .bank) ++ countsOut (p .limiter .settings .counts) ++ replicate 22 0
+wordsOut p = layout ∷ limiterOut (p .limiter) ++ bankOut (p .bank) ++ choiceOut (p .limiter .settings .counts) ++ replicate 22 0
 
 -- ---- read and written
 -- the part of a machine that the bytes hold; its stores are lent beside them

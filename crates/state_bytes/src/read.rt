@@ -5,7 +5,7 @@ ghost use lib.ListN.{length, getD};
 ghost use Rattle.audio.specs.Bytes.{wordsIn};
 ghost use Rattle.bank.specs.Words.{floatIn, halfIn, smootherIn};
 ghost use Rattle.driver.specs.Parts.{shownOf};
-ghost use Rattle.state_bytes.specs.State.{stateWords, stateBytes, zerosAt, flagsAt, holdsState, isState, countIn, countsIn, settingsIn, envelopeIn, limiterIn, bankIn, processorIn};
+ghost use Rattle.state_bytes.specs.State.{stateWords, stateBytes, zerosAt, flagsAt, holdsState, isState, countedIn, choiceIn, settingsIn, envelopeIn, limiterIn, bankIn, processorIn};
 use crate::block::bank_with;
 use arithmetic::pattern::from_bits;
 use audio::words::word;
@@ -46,29 +46,29 @@ fn half_at(state: &[u8], k: usize) -> u32
     (word_at(state, k) % 4294967296) as u32
 }
 
-// Whether a channel counts: 1 leaves it out.
-fn count_at(state: &[u8], k: usize) -> bool
+// Whether the channel of a place counts: 1 leaves it out.
+fn counted_at(state: &[u8], k: usize) -> bool
     requires { ⌜ length (now state) ≡ stateBytes ⌝ }
     requires { ⌜ k < stateWords ⌝ }
-    ensures { λ r. ⌜ r ≡ countIn (wordsIn 8 stateWords (now (state .entry))) k ⌝ }
+    ensures { λ r. ⌜ r ≡ countedIn (wordsIn 8 stateWords (now (state .entry))) k ⌝ }
 {
     word_at(state, k) == 0
 }
 
 // Whether each channel counts.
-fn counts_in(state: &[u8]) -> [bool; 8]
+fn choice_in(state: &[u8]) -> [bool; 8]
     requires { ⌜ length (now state) ≡ stateBytes ⌝ }
-    ensures { λ r. ⌜ r ≡ countsIn (wordsIn 8 stateWords (now (state .entry))) ⌝ }
+    ensures { λ r. ⌜ r ≡ choiceIn (wordsIn 8 stateWords (now (state .entry))) ⌝ }
 {
     [
-        count_at(state, 34),
-        count_at(state, 35),
-        count_at(state, 36),
-        count_at(state, 37),
-        count_at(state, 38),
-        count_at(state, 39),
-        count_at(state, 40),
-        count_at(state, 41),
+        counted_at(state, 34),
+        counted_at(state, 35),
+        counted_at(state, 36),
+        counted_at(state, 37),
+        counted_at(state, 38),
+        counted_at(state, 39),
+        counted_at(state, 40),
+        counted_at(state, 41),
     ]
 }
 
@@ -76,7 +76,7 @@ fn settings_in(state: &[u8]) -> LimiterSettings
     requires { ⌜ length (now state) ≡ stateBytes ⌝ }
     ensures { λ r. ⌜ r ≡ settingsIn (wordsIn 8 stateWords (now (state .entry))) ⌝ }
 {
-    let counts = counts_in(state);
+    let counts = choice_in(state);
     LimiterSettings {
         threshold_db: float_at(state, 1),
         true_peak_margin_db: float_at(state, 2),

@@ -6,7 +6,7 @@ ghost use Rattle.audio.specs.Bytes.{bytesOut};
 ghost use Rattle.audio.specs.Inner.{put};
 ghost use Rattle.bank.specs.declared.smoother_bank.SmootherBank.{SmootherBank};
 ghost use Rattle.driver.specs.Parts.{shownOf};
-ghost use Rattle.state_bytes.specs.State.{stateBytes, limiterOut, countOut, countsOut, stateOut};
+ghost use Rattle.state_bytes.specs.State.{stateBytes, limiterOut, countedOut, choiceOut, stateOut};
 use arithmetic::pattern::to_bits;
 use audio::words::write_words;
 use bank::words::flag;
@@ -42,24 +42,24 @@ fn limiter_out(l: Limiter) -> [u64; 18]
 }
 
 // A channel that counts as 0, one that is left out as 1.
-fn count_out(counts: bool) -> u64
-    ensures { λ r. ⌜ r ≡ countOut counts ⌝ }
+fn counted_out(counts: bool) -> u64
+    ensures { λ r. ⌜ r ≡ countedOut counts ⌝ }
 {
     if counts { 0 } else { 1 }
 }
 
-fn counts_out(counts: [bool; 8]) -> [u64; 8]
-    ensures { λ r. ⌜ r ≡ countsOut counts ⌝ }
+fn choice_out(counts: [bool; 8]) -> [u64; 8]
+    ensures { λ r. ⌜ r ≡ choiceOut counts ⌝ }
 {
     [
-        count_out(counts[0]),
-        count_out(counts[1]),
-        count_out(counts[2]),
-        count_out(counts[3]),
-        count_out(counts[4]),
-        count_out(counts[5]),
-        count_out(counts[6]),
-        count_out(counts[7]),
+        counted_out(counts[0]),
+        counted_out(counts[1]),
+        counted_out(counts[2]),
+        counted_out(counts[3]),
+        counted_out(counts[4]),
+        counted_out(counts[5]),
+        counted_out(counts[6]),
+        counted_out(counts[7]),
     ]
 }
 
@@ -85,7 +85,7 @@ pub fn write_parts(state: &mut [u8], limiter: Limiter, t: Threshold)
     put_words(state, 1, &limiter_out(limiter));
     put_words(state, 19, &smoother_out(smoother));
     put_words(state, 31, &[t.count as u64, t.rate as u64, flag(t.ready)]);
-    put_words(state, 34, &counts_out(counts));
+    put_words(state, 34, &choice_out(counts));
     put_words(state, 42, &[0u64; 22]);
 }
 

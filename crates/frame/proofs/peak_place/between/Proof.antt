@@ -1,5 +1,5 @@
 -- `between`: what the channels from c on tell stays what they all do.
-use Rattle.frame.proofs.Seats.{same-test, voicesSince, all-voices, answers-here, between-found, between-passed, between-none}
+use Rattle.frame.proofs.Seats.{counted-test, voicesSince, all-voices, answers-here, between-found, between-passed, between-none}
 use Rattle.frame.specs.Passes.{voicesPass}
 use Rattle.frame.specs.Seat.{betweenFrom}
 use Rattle.frame.specs.Rules.{linkingOf}
@@ -87,7 +87,7 @@ returns c =
     let x = now (a .audio) in
     let here = answers-here (a .settings) (a .channels) (a .at) d x (a .n) i (i * 12 + 12 - i * 12) (i * 32 + a .n - i * 32) (search needs) (omega arith) (omega arith) in
     between-found (a .settings) (a .channels) (a .at) d x (a .peak) i (o .result .phase) (c .heard-by .result) (search needs)
-    (same-test (k .result) _ true (o .result .peak) _ (a .peak) (k .ensures) (o .ensures .0 ∙ ap (λ (p : Pushed). p .peak) here) (c .before .if1 .taken)) (o .ensures .1 ∙ ap (λ (p : Pushed). p .phase) here) (c .heard-by .ensures) ∙ l .loop .inv .1
+    (counted-test (k .result) _ true (o .result .peak) _ (a .peak) (k .ensures) (o .ensures .0 ∙ ap (λ (p : Pushed). p .peak) here) (c .before .if1 .taken)) (o .ensures .1 ∙ ap (λ (p : Pushed). p .phase) here) (c .heard-by .ensures) ∙ l .loop .inv .1
 
 add-c : tie.Need-add-c Inv-loop μ-loop
 add-c c = search needs
@@ -107,7 +107,7 @@ loop-again c =
     let here = answers-here (a .settings) (a .channels) (a .at) d x (a .n) i (i * 12 + 12 - i * 12) (i * 32 + a .n - i * 32) (search needs) (omega arith) (omega arith) in (
       search needs,
       between-passed (a .settings) (a .channels) (a .at) d x (a .peak) i (search needs)
-          (same-test (k .result) _ false (o .result .peak) _ (a .peak) (k .ensures) (o .ensures .0 ∙ ap (λ (p : Pushed). p .peak) here) (c .if1 .left)) ∙ l .loop .inv .1,
+          (counted-test (k .result) _ false (o .result .peak) _ (a .peak) (k .ensures) (o .ensures .0 ∙ ap (λ (p : Pushed). p .peak) here) (c .if1 .left)) ∙ l .loop .inv .1,
     )
 
 returns-2 : tie.Need-returns-2 Inv-loop μ-loop

@@ -1,5 +1,5 @@
 -- `seat_at`: a sample as high among the channels from c on, or else what `between` tells.
-use Rattle.frame.proofs.Seats.{same-test, voicesSince, sample-found, sample-passed, sample-none, seat-none, seat-some}
+use Rattle.frame.proofs.Seats.{counted-test, voicesSince, sample-found, sample-passed, sample-none, seat-none, seat-some}
 use Rattle.frame.specs.declared.highest.Seat.{Seat}
 use Rattle.frame.specs.Passes.{voicesPass}
 use Rattle.frame.specs.Seat.{betweenFrom, sampleFrom}
@@ -67,7 +67,7 @@ returns-2 c =
     let same = c .before .before .abs .ensures ∙ ap absOf (c .before .before .before .finite-or-zero .ensures) in
     let other = betweenFrom (a .peak) 0 (voicesPass (linkingOf (a .settings)) 0 (a .channels) (a .at) d x) in
     seat-some (a .settings) (a .channels) (a .at) d x (a .peak) (Seat.OnSample i) (l .before .if1 .left)
-    (sample-found (a .settings) (a .channels) (a .at) d x (a .peak) i y (search needs) refl other (same-test (k .result) _ true (c .before .before .abs .result) _ (a .peak) (k .ensures) same (c .if2 .taken)) ∙ l .loop .inv .1 other)
+    (sample-found (a .settings) (a .channels) (a .at) d x (a .peak) i y (search needs) refl other (counted-test (k .result) _ true (c .before .before .abs .result) _ (a .peak) (k .ensures) same (c .if2 .taken)) ∙ l .loop .inv .1 other)
 
 add-c : tie.Need-add-c Inv-loop μ-loop
 add-c c = search needs
@@ -85,7 +85,7 @@ loop-again c =
     let y = getD x (i * runLength + a .at) nan in
     let k = c .before .counts-in in
     let same = c .before .before .abs .ensures ∙ ap absOf (c .before .before .before .finite-or-zero .ensures) in
-    (search needs, λ other. sample-passed (a .settings) (a .channels) (a .at) d x (a .peak) i y (search needs) refl other (same-test (k .result) _ false (c .before .before .abs .result) _ (a .peak) (k .ensures) same (c .if2 .left)) ∙ l .loop .inv .1 other)
+    (search needs, λ other. sample-passed (a .settings) (a .channels) (a .at) d x (a .peak) i y (search needs) refl other (counted-test (k .result) _ false (c .before .before .abs .result) _ (a .peak) (k .ensures) same (c .if2 .left)) ∙ l .loop .inv .1 other)
 
 between-requires : tie.Need-between-requires Inv-loop μ-loop
 between-requires c κs = search needs

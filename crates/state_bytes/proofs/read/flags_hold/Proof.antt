@@ -8,7 +8,7 @@ use borrow.Author.Needs.{needs}
 use lib.Dec.{leb}
 use Rattle.audio.specs.Bytes.{wordsIn}
 use Rattle.state_bytes.specs.State.{stateWords, flagsAt}
-use Rattle.state_bytes.proofs.Stored.{flags-more, flags-done}
+use Rattle.state_bytes.proofs.Stored.{all-more, all-done}
 use Rattle.state_bytes.proofs.read.flags_hold.Statement.{statement}
 use Rattle.state_bytes.proofs.read.flags_hold.Tie as tie
 
@@ -36,14 +36,14 @@ loop-again c =
     let ws = wordsIn 8 stateWords (now (c .before .before .before .before .args .state)) in (
       search needs,
       ap (λ (w : ℕ). (l .ok && leb w 1) && flagsAt ws (l .k + 1) (42 - (l .k + 1))) (c .word-at .ensures)
-          ∙ flags-more ws (l .k) (42 - l .k) (l .ok) (flagsAt ws 33 9) (l .inv .1) (42 - (l .k + 1)) (omega arith),
+          ∙ all-more (λ (w : ℕ). leb w 1) ws (l .k) (42 - l .k) (l .ok) (flagsAt ws 33 9) (l .inv .1) (42 - (l .k + 1)) (omega arith),
     )
 
 returns : tie.Need-returns Inv-loop μ-loop
 returns c =
     let l = c .before .loop in
     let ws = wordsIn 8 stateWords (now (c .before .before .before .args .state)) in
-    flags-done ws (l .k) (42 - l .k) (l .ok) (flagsAt ws 33 9) (l .inv .1) (omega arith)
+    all-done (λ (w : ℕ). leb w 1) ws (l .k) (42 - l .k) (l .ok) (flagsAt ws 33 9) (l .inv .1) (omega arith)
 
 pub flags-hold-spec : {M : Type 1} → statement M
 flags-hold-spec =

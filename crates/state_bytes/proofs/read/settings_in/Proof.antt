@@ -3,8 +3,8 @@ use borrow.Author.Needs.{needs}
 use Rattle.state_bytes.proofs.read.settings_in.Statement.{statement}
 use Rattle.state_bytes.proofs.read.settings_in.Tie as tie
 
-counts-in-requires : tie.Need-counts-in-requires
-counts-in-requires c κs = search needs
+choice-in-requires : tie.Need-choice-in-requires
+choice-in-requires c κs = search needs
 
 float-at-requires : tie.Need-float-at-requires
 float-at-requires c κs = search needs
@@ -25,7 +25,7 @@ pub settings-in-spec : {M : Type 1} → statement M
 settings-in-spec =
     tie.close
     (tie.spec
-    counts-in-requires
+    choice-in-requires
     float-at-requires
     float-at-requires-2
     float-at-requires-3

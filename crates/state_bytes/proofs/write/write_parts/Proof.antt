@@ -43,8 +43,8 @@ slice-aggregate-put-words-4 c = search needs
 put-words-requires-4 : tie.Need-put-words-requires-4
 put-words-requires-4 c κs = search needs
 
-counts-out-requires : tie.Need-counts-out-requires
-counts-out-requires c κs = search needs
+choice-out-requires : tie.Need-choice-out-requires
+choice-out-requires c κs = search needs
 
 slice-aggregate-put-words-5 : tie.Need-slice-aggregate-put-words-5
 slice-aggregate-put-words-5 c = search needs
@@ -96,7 +96,7 @@ returns c =
     (c .before .before .before .before .before .before .before .before .before .before .before .before .before .before .before .before .before .before .before .before .put-words3 .ensures)
     (c .before .before .before .before .before .before .before .before .before .before .before .before .before .before .before .flag .ensures)
     (c .before .before .before .before .before .before .before .before .before .before .before .before .before .put-words4 .ensures)
-    (c .before .before .before .before .before .before .before .before .before .counts-out .ensures)
+    (c .before .before .before .before .before .before .before .before .before .choice-out .ensures)
     (c .before .before .before .before .before .before .before .put-words5 .ensures)
     (c .before .before .put-words6 .ensures)
 
@@ -116,7 +116,7 @@ write-parts-spec =
     flag-requires
     slice-aggregate-put-words-4
     put-words-requires-4
-    counts-out-requires
+    choice-out-requires
     slice-aggregate-put-words-5
     put-words-requires-5
     slice-aggregate-put-words-6
