@@ -1,5 +1,5 @@
 //! The channels that are left out, as they cross: the bits that setup is told, and the
-//! state's words, which carry them.
+//! state's word, which carries them.
 
 use daggeryuzu::sys::{self, LentStores, SetupStores, ANSWER, STATE};
 use daggeryuzu::{LimiterSettings, ProcessSpec};
@@ -9,10 +9,8 @@ const LOOK: usize = 16;
 const L: usize = LOOK - 11;
 const WEIGHTS: [f64; L] = [0.125, 0.1875, 0.375, 0.1875, 0.125];
 
-/// The first of the state's eight words that say whether a channel is left out, and the word
-/// behind the last of them.
+/// The state's word that says which channels are left out, a bit each.
 const LEFT_OUT: usize = 34;
-const BEHIND: usize = LEFT_OUT + 8;
 
 /// Settings that look 16 frames ahead at 48,000.
 fn settings() -> LimiterSettings {
@@ -93,12 +91,10 @@ impl Lent {
         &mut self.state[8 * at..8 * (at + 1)]
     }
 
-    /// The words that say whether a channel is left out.
-    fn left_out(&mut self) -> [u64; 8] {
-        std::array::from_fn(|c| {
-            let word = &*self.word(LEFT_OUT + c);
-            u64::from_le_bytes(word.try_into().expect("a word"))
-        })
+    /// The word that says which channels are left out.
+    fn left_out(&mut self) -> u64 {
+        let word = &*self.word(LEFT_OUT);
+        u64::from_le_bytes(word.try_into().expect("a word"))
     }
 }
 
@@ -150,31 +146,27 @@ fn played(lent: &mut Lent, channels: usize) -> Vec<Left> {
 
 #[test]
 fn the_settings_are_told_as_bits_and_the_state_carries_them() {
-    assert_eq!(Lent::with(8, settings()).left_out(), [0; 8]);
+    assert_eq!(Lent::with(8, settings()).left_out(), 0);
     assert_eq!(Lent::with(8, settings()), Lent::leaving_out(8, 0));
     for channel in 0..8 {
         let mut lent = Lent::with(8, settings().leave_out(channel));
         assert_eq!(lent, Lent::leaving_out(8, 1 << channel));
-        let mut due = [0; 8];
-        due[channel] = 1;
-        assert_eq!(lent.left_out(), due);
+        assert_eq!(lent.left_out(), 1 << channel);
         // and it is nowhere else
-        lent.word(LEFT_OUT + channel)[0] = 0;
+        lent.word(LEFT_OUT)[0] = 0;
         assert_eq!(lent, Lent::with(8, settings()));
     }
     let mut none = Lent::with(8, settings().counts([false; 8]));
     assert_eq!(none, Lent::leaving_out(8, 0xff));
-    assert_eq!(none.left_out(), [1; 8]);
+    assert_eq!(none.left_out(), 0xff);
 }
 
-/// A state that was kept since before there were such words has 0 there: every channel
+/// A state that was kept since before there was such a word has 0 there: every channel
 /// counts, as it did.
 #[test]
-fn words_of_nothing_but_0_leave_out_none() {
+fn a_word_of_0_leaves_out_none() {
     let mut kept = Lent::leaving_out(2, 3);
-    for word in LEFT_OUT..BEHIND {
-        kept.word(word).fill(0);
-    }
+    kept.word(LEFT_OUT).fill(0);
     assert_eq!(kept, Lent::leaving_out(2, 0));
 }
 
@@ -226,16 +218,16 @@ fn delay_and_detector_go_on() {
 fn a_reset_and_a_parameter_keep_the_words() {
     for left_out in [0, 0b101, 0xff] {
         let mut lent = Lent::leaving_out(3, left_out);
-        let (started, words) = (lent.clone(), lent.left_out());
+        let (started, word) = (lent.clone(), lent.left_out());
         let first = played(&mut lent, 3);
-        assert_eq!(lent.left_out(), words);
+        assert_eq!(lent.left_out(), word);
         let (state, stores) = lent.parts();
         assert_eq!(sys::reset(state, &mut [], stores), 0);
         assert!(lent.state == started.state);
         assert!(played(&mut lent, 3) == first);
         let value = (-3.0_f64).to_bits();
         assert_eq!(sys::set_parameter(&mut lent.state, &mut [], 0, value), 0);
-        assert_eq!(lent.left_out(), words);
+        assert_eq!(lent.left_out(), word);
     }
 }
 
@@ -259,8 +251,8 @@ fn refused_everywhere(lent: &Lent) -> [u32; 6] {
     calls
 }
 
-/// A word that is neither 0 nor 1, also for a channel that there is not, makes bytes that
-/// are no state; so does a word behind them that is not 0.
+/// A ninth channel left out makes bytes that are no state; so does a word behind that is
+/// not 0.
 #[test]
 fn other_words_are_no_state() {
     let good = Lent::leaving_out(2, 1);
@@ -270,8 +262,8 @@ fn other_words_are_no_state() {
                 let mut lent = good.clone();
                 let changed = &mut lent.word(word)[byte];
                 *changed ^= bit;
-                // a channel's 0 and 1 are both good
-                if word < BEHIND && byte == 0 && bit == 1 {
+                // any choice of eight channels is good
+                if word == LEFT_OUT && byte == 0 {
                     continue;
                 }
                 assert_eq!(refused_everywhere(&lent), [18; 6], "{word}, {byte}, {bit}");

@@ -51,12 +51,11 @@ pub mod state {
     pub const COUNT: usize = SMOOTHER + smoother::WORDS;
     pub const BANK_RATE: usize = COUNT + 1;
     pub const READY: usize = COUNT + 2;
-    /// The first of eight, one for each channel that there can be: whether it
-    /// is left out of the linked peak.
+    /// The channels that are left out of the linked peak, a bit each.
     pub const LEFT_OUT: usize = COUNT + 3;
 
     /// The words that hold something; those behind them are 0.
-    pub const USED: usize = LEFT_OUT + crate::model::setup::CHANNELS;
+    pub const USED: usize = LEFT_OUT + 1;
     pub const WORDS: usize = 64;
 
     /// Whether a word is a float.

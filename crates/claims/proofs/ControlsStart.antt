@@ -2,7 +2,7 @@
 -- `stereo`: look 14, two channels, three weights, release 50 ms. `besides`: `mono` with a second channel, which is left out.
 use Prim.Native.Nat.{ℕ, _+_, _*_}
 use mathlib.Core.Path.{_≡_, refl, ap, subst, _∙_}
-use mathlib.Core.Bool.{Bool, true, false}
+use mathlib.Core.Bool.{true, false}
 use mathlib.Core.List.{List, [], _∷_}
 use lib.ListN.{length, replicate}
 use lib.Ieee.{Float, ofBits, toBits, toUnsigned, lt, le, eq, ne, isNan, neg, add, sub, mul, div, ofInt}
@@ -110,14 +110,14 @@ setting = ⊥
 pub record Start : Type 0 where
   pub lookahead : Float
   pub release : Float
-  pub counts : List Bool
+  pub leftOut : ℕ
   pub channels : ℕ
   pub weights : List Float
   pub look : ℕ
   pub coeff : Float
 
 abbrev pub settingsIn : Start → LimiterSettings
-settingsIn s = settingsOf Number.zero Number.zero (s .lookahead) (s .release) (s .counts)
+settingsIn s = settingsOf Number.zero Number.zero (s .lookahead) (s .release) (s .leftOut)
 
 abbrev pub specIn : Start → ProcessSpec
 specIn s = processSpec 8000 (s .channels) 64 Cap.Unlimited false
@@ -193,14 +193,14 @@ from s starts l same claim calls =
 -- ---- the three
 -- 1.375 ms
 abbrev pub mono : Start
-mono = record { lookahead = bits 0x3ff6_0000_0000_0000; release = Number.zero; counts = allCount; channels = 1; weights = one ∷ []; look = 11; coeff = one }
+mono = record { lookahead = bits 0x3ff6_0000_0000_0000; release = Number.zero; leftOut = allCount; channels = 1; weights = one ∷ []; look = 11; coeff = one }
 
 -- 1.75 ms, 50 ms; 0.25, 0.5, 0.25 + 2^-50: the ends differ, so that reading them in reverse shows
 abbrev pub stereo : Start
 stereo = record {
   lookahead = bits 0x3ffc_0000_0000_0000;
   release = bits 0x4049_0000_0000_0000;
-  counts = allCount;
+  leftOut = allCount;
   channels = 2;
   weights = bits 0x3fd0_0000_0000_0000 ∷ bits 0x3fe0_0000_0000_0000 ∷ bits 0x3fd0_0000_0000_0010 ∷ [];
   look = 14;
@@ -212,7 +212,7 @@ abbrev pub besides : Start
 besides = record {
   lookahead = mono .lookahead;
   release = mono .release;
-  counts = true ∷ false ∷ true ∷ true ∷ true ∷ true ∷ true ∷ true ∷ [];
+  leftOut = 2;
   channels = 2;
   weights = mono .weights;
   look = mono .look;

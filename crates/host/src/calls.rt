@@ -2,14 +2,13 @@
 ghost use mathlib.Core.Path.{_≡_};
 ghost use mathlib.Core.Bool.{cond};
 ghost use mathlib.Core.List.{List, [], _∷_};
-ghost use Prim.Native.Nat.{ℕ};
+ghost use Prim.Native.Nat.{ℕ, _%_};
 ghost use lib.Dec.{eqb};
 ghost use lib.Ieee.{Float};
 ghost use lib.ListN.{length};
 ghost use Rattle.arithmetic.specs.Number.{bits};
 ghost use Rattle.arithmetic.specs.Reply.{refused, count};
 ghost use Rattle.settings.specs.Settings.{settingsOf, processSpec};
-ghost use Rattle.settings.specs.Counted.{countsOf};
 ghost use Rattle.settings.specs.Derived.{lookOf};
 ghost use Rattle.settings.specs.House.{houseFits};
 ghost use Rattle.limiter.specs.Stores.{Stores, atEntry, atExit};
@@ -41,7 +40,6 @@ use driver::process::judge_block;
 use driver::state::KernelProcessor;
 use settings::LimiterSettings;
 use settings::ProcessSpec;
-use settings::counted::counts_of;
 use settings::memory::Cap;
 use state_bytes::block::RenderedBlock;
 use state_bytes::block::render_block;
@@ -469,7 +467,7 @@ fn keep(state: &mut [u8], p: KernelProcessor)
 }
 
 // Sets a limiter up on lent stores; the settings' floats as their bits. Bit c of `left_out` leaves channel c out of the
-// linked peak. A `house` other than 0 asks for a house table.
+// linked peak; bits past the eighth are not read. A `house` other than 0 asks for a house table.
 #[no_mangle]
 pub extern "C" fn daggeryuzu_setup(
     state: &mut [u8],
@@ -493,17 +491,16 @@ pub extern "C" fn daggeryuzu_setup(
     detector: &mut [f64],
 ) -> u32
     ensures { λ r. ⌜ returnedAt r (now (answer .exit)) (now (state .exit)) (atExit delay marks minima weights row detector)
-        ≡ setupBy (settingsOf (bits «threshold_db») (bits «true_peak_margin_db») (bits «lookahead_ms») (bits «release_ms») (countsOf «left_out»))
+        ≡ setupBy (settingsOf (bits «threshold_db») (bits «true_peak_margin_db») (bits «lookahead_ms») (bits «release_ms») («left_out» % 256))
         (processSpec rate channels «max_block» (capOf capped cap) (askedOf house))
         (now (answer .entry)) (now (state .entry)) (atEntry delay marks minima weights row detector) ⌝ }
 {
-    let counts = counts_of(left_out);
     let s = LimiterSettings {
         threshold_db: from_bits(threshold_db),
         true_peak_margin_db: from_bits(true_peak_margin_db),
         lookahead_ms: from_bits(lookahead_ms),
         release_ms: from_bits(release_ms),
-        counts,
+        left_out: (left_out % 256) as u8,
     };
     let most = cap_of(capped, cap);
     let spec = ProcessSpec {

@@ -10,7 +10,6 @@ use borrow.Author.Tests.{eqb-true, eqb-false, eq-eqb}
 use Rattle.arithmetic.specs.Number.{bits}
 use Rattle.arithmetic.specs.Reply.{Reply, numbered}
 use Rattle.settings.specs.Settings.{settingsOf}
-use Rattle.settings.specs.Counted.{countsOf}
 use Rattle.settings.specs.House.{weightsFor}
 use Rattle.settings.specs.declared.LimiterSettings.{LimiterSettings}
 use Rattle.settings.specs.declared.ProcessSpec.{ProcessSpec}
@@ -222,8 +221,8 @@ host-claim = record {
   call-handed-on = λ call answer state stores bytes. call-handed-on call answer state stores (read-storable state bytes);
   gain-handed-on = λ gain answer state stores bytes. gain-handed-on gain answer state stores (read-storable state bytes);
   after-setup = λ threshold margin lookahead release leftOut spec answer state stores z made.
-      let s = settingsOf (bits threshold) (bits margin) (bits lookahead) (bits release) (countsOf leftOut) in
-      setup-holds s spec answer state stores (record { threshold = bits-fit threshold; margin = bits-fit margin; lookahead = bits-fit lookahead; release = bits-fit release; counts = refl }) z made;
+      let s = settingsOf (bits threshold) (bits margin) (bits lookahead) (bits release) (leftOut % 256) in
+      setup-holds s spec answer state stores (record { threshold = bits-fit threshold; margin = bits-fit margin; lookahead = bits-fit lookahead; release = bits-fit release; leftOut = mod-lt leftOut (omega arith) }) z made;
   after-refused = λ s spec answer state stores some. (
     refused-stores s spec answer state stores some,
     λ l.

@@ -14,7 +14,6 @@ use lib.ListN.{length, getD}
 use Rattle.arithmetic.specs.Number.{bits}
 use Rattle.arithmetic.specs.Reply.{Reply, numbered}
 use Rattle.settings.specs.Settings.{settingsOf}
-use Rattle.settings.specs.Counted.{countsOf}
 use Rattle.settings.specs.House.{weightsFor}
 use Rattle.settings.specs.declared.LimiterSettings.{LimiterSettings}
 use Rattle.settings.specs.declared.ProcessSpec.{ProcessSpec}
@@ -118,7 +117,7 @@ pub record HostClaim (l : Limiting) (step : GainStepping) (host : Hosting) : Typ
       → (let r = host .gains gain answer state stores in machineIn (r .state) (r .stores) ≡ step (machineIn state stores) (bits gain) .machine)
   -- every list after a finished setup, whatever the bits of its settings and whichever channels it leaves out, on the host's weights or the house's
   pub after-setup : (threshold margin lookahead release leftOut : ℕ) (spec : ProcessSpec) (answer state : List ℕ) (stores : Stores)
-      → (let s = settingsOf (bits threshold) (bits margin) (bits lookahead) (bits release) (countsOf leftOut) in
+      → (let s = settingsOf (bits threshold) (bits margin) (bits lookahead) (bits release) (leftOut % 256) in
       let r = host .setups s spec answer state stores in
       r .number ≡ 0 → (made : List Made) → HostHolds l host 0 (openedNew s spec (weightsFor s spec (stores .weights))) (r .state) (r .stores) made)
   -- a refused setup leaves the stores alone; in a buffer of a state's length it leaves a limiter that is not set up: 18 to every list after it, and to the lone gain step

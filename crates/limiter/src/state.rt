@@ -47,7 +47,7 @@ impl Limiter {
                 true_peak_margin_db: 0.0,
                 lookahead_ms: 0.0,
                 release_ms: 0.0,
-                counts: [true; 8],
+                left_out: 0,
             },
             rate: 0,
             channels: 0,

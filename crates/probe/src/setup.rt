@@ -65,7 +65,7 @@ pub extern "C" fn probe_refusal(
         true_peak_margin_db: margin,
         lookahead_ms: lookahead,
         release_ms: release,
-        counts: [true; 8],
+        left_out: 0,
     };
     let spec = ProcessSpec {
         rate,

@@ -5,7 +5,6 @@ use audio::format::Format;
 use records::words::next;
 use settings::LimiterSettings;
 use settings::ProcessSpec;
-use settings::counted::counts_of;
 use settings::memory::Cap;
 
 pub struct Head {
@@ -53,7 +52,7 @@ fn settings(fd: i32) -> LimiterSettings {
         true_peak_margin_db,
         lookahead_ms,
         release_ms: float(fd),
-        counts: [true; 8],
+        left_out: 0,
     }
 }
 
@@ -74,7 +73,7 @@ pub fn read(fd: i32, first: u64) -> Head
     let kind = next(fd).word;
     let max_block = count(fd, 65536) as usize;
     let house = count(fd, 1) == 1;
-    let left_out = count(fd, 255) as u32;
+    let left_out = count(fd, 255) as u8;
     let spec = ProcessSpec {
         rate,
         channels,
@@ -84,7 +83,7 @@ pub fn read(fd: i32, first: u64) -> Head
     };
     Head {
         format: format(first),
-        settings: s.counts(counts_of(left_out)),
+        settings: s.left_out(left_out),
         spec,
         look,
         rows,

@@ -1,7 +1,7 @@
 -- Inputs at which the wrong programs of ARCHITECTURE.md's table would answer otherwise: each row computes what the definition answers there, and its comment names the wrong program.
 use Prim.Native.Nat.{ℕ, _+_, _-_, _/_, _^_}
 use mathlib.Core.Path.{_≡_, refl}
-use mathlib.Core.Bool.{Bool, true, false, cond}
+use mathlib.Core.Bool.{true, false, cond}
 use mathlib.Core.List.{List, [], _∷_, reverse, map}
 use lib.Dec.{eqb}
 use lib.ListN.{length, getD, replicate}
@@ -11,7 +11,7 @@ use Rattle.arithmetic.specs.Number
 use Rattle.arithmetic.specs.Number.{bits, one, thousandth, largest}
 use Rattle.arithmetic.specs.Exp.{expOf}
 use Rattle.settings.specs.Settings.{settingsOf, allCount, defaults, processSpec}
-use Rattle.settings.specs.Counted.{countsOf}
+use Rattle.settings.specs.Counted.{countsIn}
 use Rattle.settings.specs.Derived.{lookOf, rowOf, coefficientAt, coefficientOf}
 use Rattle.settings.specs.Memory.{needed, capJudged, leftOf}
 use Rattle.settings.specs.Weights.{rising, firstHalf, accepted}
@@ -128,17 +128,17 @@ margin-taken-off = (refl, refl)
 
 -- ---- the settings
 -- two fields exchanged
-pub fields-in-place : (a b c d : Float) (e : List Bool)
+pub fields-in-place : (a b c d : Float) (e : ℕ)
     → let s = settingsOf a b c d e in
-    (s .«threshold_db» ≡ a) × (s .«true_peak_margin_db» ≡ b) × (s .«lookahead_ms» ≡ c) × (s .«release_ms» ≡ d) × (s .counts ≡ e)
+    (s .«threshold_db» ≡ a) × (s .«true_peak_margin_db» ≡ b) × (s .«lookahead_ms» ≡ c) × (s .«release_ms» ≡ d) × (s .«left_out» ≡ e)
 fields-in-place a b c d e = (refl, refl, refl, refl, refl)
 
--- a mask read from the highest channel down, one that names the channels that count, one that reads a ninth bit: 1 leaves out channel 0, 8 channel 3, and 256 none
+-- a mask read from the highest channel down, or one that names the channels that count: 8 leaves out channel 3 alone
 pub mask-in-place :
-    (countsOf 1 ≡ false ∷ true ∷ true ∷ true ∷ true ∷ true ∷ true ∷ true ∷ [])
-    × (countsOf 8 ≡ true ∷ true ∷ true ∷ false ∷ true ∷ true ∷ true ∷ true ∷ [])
-    × (countsOf 0 ≡ allCount) × (countsOf 256 ≡ allCount) × (countsOf 255 ≡ replicate 8 false)
-mask-in-place = (refl, refl, refl, refl, refl)
+    let s = settingsOf Number.zero Number.zero Number.zero Number.zero 8 in
+    map (λ (c : ℕ). countsIn s c) (0 ∷ 1 ∷ 2 ∷ 3 ∷ 4 ∷ 5 ∷ 6 ∷ 7 ∷ []) ≡ true ∷ true ∷ true ∷ false ∷ true ∷ true ∷ true ∷ true ∷ []
+unfolding countsIn
+mask-in-place = refl
 
 -- another default than −1, 1/10, 3/2 and 50, or a channel left out by default
 abbrev whole : ℕ → Float
@@ -146,7 +146,7 @@ whole n = ofInt binary64 (pos n)
 
 pub default-values :
     (defaults .«threshold_db» ≡ neg (whole 1)) × (defaults .«true_peak_margin_db» ≡ div binary64 (whole 1) (whole 10))
-    × (defaults .«lookahead_ms» ≡ div binary64 (whole 3) (whole 2)) × (defaults .«release_ms» ≡ whole 50) × (defaults .counts ≡ true ∷ true ∷ true ∷ true ∷ true ∷ true ∷ true ∷ true ∷ [])
+    × (defaults .«lookahead_ms» ≡ div binary64 (whole 3) (whole 2)) × (defaults .«release_ms» ≡ whole 50) × (defaults .«left_out» ≡ 0)
 unfolding div neg ofInt ofBits
 default-values = (refl, refl, refl, refl, refl)
 

@@ -1,20 +1,18 @@
--- The settings: one record of four floats and a yes or no per channel, by value; and what setup is told beside them.
+-- The settings: one record of four floats and a bit per channel, by value; and what setup is told beside them.
 use Prim.Native.Nat.{ℕ}
-use mathlib.Core.Bool.{Bool, true}
-use mathlib.Core.List.{List}
-use lib.ListN.{replicate}
+use mathlib.Core.Bool.{Bool}
 use lib.Ieee.{Float}
 use Rattle.arithmetic.specs.Number.{bits}
 use Rattle.settings.specs.declared.LimiterSettings.{LimiterSettings}
 use Rattle.settings.specs.declared.ProcessSpec.{ProcessSpec}
 use Rattle.settings.specs.declared.memory.Cap.{Cap}
 
-abbrev pub settingsOf : Float → Float → Float → Float → List Bool → LimiterSettings
-settingsOf threshold margin lookahead release counts = record { «threshold_db» = threshold; «true_peak_margin_db» = margin; «lookahead_ms» = lookahead; «release_ms» = release; counts = counts }
+abbrev pub settingsOf : Float → Float → Float → Float → ℕ → LimiterSettings
+settingsOf threshold margin lookahead release leftOut = record { «threshold_db» = threshold; «true_peak_margin_db» = margin; «lookahead_ms» = lookahead; «release_ms» = release; «left_out» = leftOut }
 
--- Change 7: "The default is yes for all"
-abbrev pub allCount : List Bool
-allCount = replicate 8 true
+-- Change 7: "The default is yes for all": no channel's bit leaves it out
+abbrev pub allCount : ℕ
+allCount = 0
 
 -- the Rust's defaults: −1 dBFS, 0.1 dB, 1.5 ms, 50 ms
 abbrev pub defaults : LimiterSettings

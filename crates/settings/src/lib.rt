@@ -32,8 +32,8 @@ pub struct LimiterSettings {
     pub lookahead_ms: f64,
     // Release in milliseconds; 0 releases at once.
     pub release_ms: f64,
-    // Whether each channel counts in the linked peak; entries past the number of channels mean nothing.
-    pub counts: [bool; 8],
+    // The channels that do not count in the linked peak, bit c for channel c; bits past the channels mean nothing.
+    pub left_out: u8,
 }
 
 // What setup is told beside the settings (`ProcessSpec` of contract/spec.rs).
@@ -58,43 +58,43 @@ impl LimiterSettings {
             true_peak_margin_db: 0.1,
             lookahead_ms: 1.5,
             release_ms: 50.0,
-            counts: [true; 8],
+            left_out: 0,
         }
     }
 
     // Each setter hands the settings back with one field changed.
     pub fn threshold_db(mut self, threshold_db: f64) -> Self
-        ensures { λ r. ⌜ r ≡ settingsOf «threshold_db» (self .«true_peak_margin_db») (self .«lookahead_ms») (self .«release_ms») (self .counts) ⌝ }
+        ensures { λ r. ⌜ r ≡ settingsOf «threshold_db» (self .«true_peak_margin_db») (self .«lookahead_ms») (self .«release_ms») (self .«left_out») ⌝ }
     {
         self.threshold_db = threshold_db;
         self
     }
 
     pub fn true_peak_margin_db(mut self, true_peak_margin_db: f64) -> Self
-        ensures { λ r. ⌜ r ≡ settingsOf (self .«threshold_db») «true_peak_margin_db» (self .«lookahead_ms») (self .«release_ms») (self .counts) ⌝ }
+        ensures { λ r. ⌜ r ≡ settingsOf (self .«threshold_db») «true_peak_margin_db» (self .«lookahead_ms») (self .«release_ms») (self .«left_out») ⌝ }
     {
         self.true_peak_margin_db = true_peak_margin_db;
         self
     }
 
     pub fn lookahead_ms(mut self, lookahead_ms: f64) -> Self
-        ensures { λ r. ⌜ r ≡ settingsOf (self .«threshold_db») (self .«true_peak_margin_db») «lookahead_ms» (self .«release_ms») (self .counts) ⌝ }
+        ensures { λ r. ⌜ r ≡ settingsOf (self .«threshold_db») (self .«true_peak_margin_db») «lookahead_ms» (self .«release_ms») (self .«left_out») ⌝ }
     {
         self.lookahead_ms = lookahead_ms;
         self
     }
 
     pub fn release_ms(mut self, release_ms: f64) -> Self
-        ensures { λ r. ⌜ r ≡ settingsOf (self .«threshold_db») (self .«true_peak_margin_db») (self .«lookahead_ms») «release_ms» (self .counts) ⌝ }
+        ensures { λ r. ⌜ r ≡ settingsOf (self .«threshold_db») (self .«true_peak_margin_db») (self .«lookahead_ms») «release_ms» (self .«left_out») ⌝ }
     {
         self.release_ms = release_ms;
         self
     }
 
-    pub fn counts(mut self, counts: [bool; 8]) -> Self
-        ensures { λ r. ⌜ r ≡ settingsOf (self .«threshold_db») (self .«true_peak_margin_db») (self .«lookahead_ms») (self .«release_ms») counts ⌝ }
+    pub fn left_out(mut self, left_out: u8) -> Self
+        ensures { λ r. ⌜ r ≡ settingsOf (self .«threshold_db») (self .«true_peak_margin_db») (self .«lookahead_ms») (self .«release_ms») «left_out» ⌝ }
     {
-        self.counts = counts;
+        self.left_out = left_out;
         self
     }
 }

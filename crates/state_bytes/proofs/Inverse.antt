@@ -1,8 +1,8 @@
 -- A state's words and the limiter with its bank: each is had back from the other.
 use mathlib.Core.Path.{_≡_, refl, sym, ap, _∙_}
-use mathlib.Core.Bool.{Bool, true, false, cond, not, _&&_}
-use mathlib.Core.List.{List, [], _∷_, _++_, map}
-use Prim.Native.Nat.{ℕ, zero, suc, _+_, _^_, _≤_, _<_}
+use mathlib.Core.Bool.{Bool, true, false, cond, not}
+use mathlib.Core.List.{List, [], _∷_, _++_}
+use Prim.Native.Nat.{ℕ, zero, suc, _+_, _%_, _^_, _≤_, _<_}
 use native.Mathlib.Nat.{mod-eq-of-lt}
 use native.Mathlib.Omega.{arith}
 use lib.Dec.{T, eqb, leb, ltb}
@@ -21,7 +21,7 @@ use Rattle.audio.proofs.Numbers.{cut-length, out-length, words-of-bytes, bytes-
 use Rattle.bank.specs.Words.{smootherIn, shapeWord}
 use Rattle.bank.specs.declared.param.Smoothing.{Smoothing}
 use Rattle.bank.specs.declared.param.Smoothing.the-variants.{Step, Linear, OnePole}
-use Rattle.state_bytes.specs.State.{layout, stateBytes, stateWords, allAt, zerosAt, flagsAt, holdsState, isState, limiterIn, bankIn, stateIn, countedOut, choiceIn, choiceOut, eight, wordsOut, processorIn, stateOut}
+use Rattle.state_bytes.specs.State.{layout, stateBytes, stateWords, zerosAt, holdsState, isState, limiterIn, bankIn, stateIn, wordsOut, processorIn, stateOut}
 use Rattle.bank.proofs.Shapes.{shape-back, shape-small, shape-word}
 use Rattle.state_bytes.proofs.Stored.{read-held}
 use Rattle.state_bytes.proofs.Storable.{Fits, Storable}
@@ -30,14 +30,9 @@ use Rattle.state_bytes.proofs.Storable.{Fits, Storable}
 back : (x : Float) → Fits x → bits (toBits binary64 x) ≡ x
 back x f = ofBits-toBits binary64 x f
 
-flag-back : (b : Bool) → not (eqb (cond b 1 0) 0) ≡ b
-flag-back true = refl
-flag-back false = refl
-
-counts-back : (bs : List Bool) → map (λ (b : Bool). eqb (countedOut b) 0) bs ≡ bs
-counts-back [] = refl
-counts-back (true ∷ bs) = rw (counts-back bs) refl
-counts-back (false ∷ bs) = rw (counts-back bs) refl
+ready-back : (b : Bool) → not (eqb (cond b 1 0) 0) ≡ b
+ready-back true = refl
+ready-back false = refl
 
 module _ (p : KernelProcessor) (h : Storable p) where
   limiter-back : limiterIn (wordsOut p) ≡ p .limiter
@@ -51,7 +46,7 @@ module _ (p : KernelProcessor) (h : Storable p) where
           «true_peak_margin_db» = back (l .settings .«true_peak_margin_db») (f .margin) i;
           «lookahead_ms» = back (l .settings .«lookahead_ms») (f .lookahead) i;
           «release_ms» = back (l .settings .«release_ms») (f .release) i;
-          counts = (counts-back (eight (l .settings .counts)) ∙ sym (f .counts)) i;
+          «left_out» = mod-eq-of-lt (f .leftOut) i;
         };
         rate = mod-eq-of-lt (h .numbers .rate) i;
         channels = l .channels;
@@ -85,7 +80,7 @@ module _ (p : KernelProcessor) (h : Storable p) where
 
   bank-back : bankIn (wordsOut p) ≡ p .bank
   unfolding wordsOut
-  bank-back = rw (smoother-back, ← h .bank .slots, mod-eq-of-lt (h .bank .rate), flag-back (p .bank .ready)) refl
+  bank-back = rw (smoother-back, ← h .bank .slots, mod-eq-of-lt (h .bank .rate), ready-back (p .bank .ready)) refl
 
   pub state-of-words : stateIn (wordsOut p) ≡ p
   unfolding stateIn
@@ -97,6 +92,9 @@ bits-small x h = toBits-lt binary64 x h
 
 half-small : {n : ℕ} → n < 2 ^ 32 → n < 2 ^ 64
 half-small h = omega arith
+
+choice-small : {n : ℕ} → n < 256 → n < 2 ^ 64
+choice-small h = omega arith
 
 layout-small : layout < 2 ^ 64
 layout-small = omega arith
@@ -128,11 +126,6 @@ zeros-small : (n : ℕ) → AllSmall (replicate n 0)
 zeros-small zero = none
 zeros-small (suc n) = zero-small ∷< zeros-small n
 
-counts-small : (bs : List Bool) {ws : List ℕ} → AllSmall ws → AllSmall (map countedOut bs ++ ws)
-counts-small [] h = h
-counts-small (true ∷ bs) h = zero-small ∷< counts-small bs h
-counts-small (false ∷ bs) h = flag-small true ∷< counts-small bs h
-
 words-small : (p : KernelProcessor) → Storable p → (i : ℕ) → getD (wordsOut p) i 0 < 2 ^ 64
 unfolding wordsOut
 words-small p h =
@@ -145,21 +138,12 @@ words-small p h =
     ∷< n .pos ∷< n .tally ∷< bits-small _ (f .gain) ∷< n .delay ∷< bits-small _ (f .target) ∷< n .drained
     ∷< half-small (s .id) ∷< bits-small _ (s .cur) ∷< bits-small _ (s .target) ∷< bits-small _ (s .low) ∷< bits-small _ (s .high) ∷< bits-small _ (s .default) ∷< bits-small _ (s .steps)
     ∷< s .left ∷< bits-small _ (s .delta) ∷< shape-word-small (slotAt 0 (p .bank .smoothers) .shape) ∷< bits-small _ (s .coeff) ∷< bits-small _ (s .time)
-    ∷< h .bank .count ∷< half-small (h .bank .rate) ∷< flag-small (p .bank .ready) ∷< counts-small (eight (p .limiter .settings .counts)) (zeros-small 22))
+    ∷< h .bank .count ∷< half-small (h .bank .rate) ∷< flag-small (p .bank .ready) ∷< choice-small (f .leftOut) ∷< zeros-small 29)
 
 -- ---- the same by bytes
-abbrev allFlags : List ℕ → Bool
-allFlags [] = true
-allFlags (w ∷ ws) = leb w 1 && allFlags ws
-
-counts-are : (bs : List Bool) → allFlags (map countedOut bs) ≡ true
-counts-are [] = refl
-counts-are (true ∷ bs) = counts-are bs
-counts-are (false ∷ bs) = counts-are bs
-
-flags-are : (ready : Bool) (bs : List Bool) → allFlags (cond ready 1 0 ∷ map countedOut bs) ≡ true
-flags-are true bs = counts-are bs
-flags-are false bs = counts-are bs
+ready-small : (b : Bool) → leb (cond b 1 0) 1 ≡ true
+ready-small true = refl
+ready-small false = refl
 
 module _ (p : KernelProcessor) (h : Storable p) where
   state-length : length (stateOut p) ≡ stateBytes
@@ -171,14 +155,16 @@ module _ (p : KernelProcessor) (h : Storable p) where
   out-words = words-of-bytes 8 (wordsOut p) (words-small p h)
 
   out-holds : holdsState (wordsOut p) ≡ true
-  unfolding holdsState wordsOut allAt
+  unfolding holdsState wordsOut zerosAt
   out-holds =
       rw (
         lt-ltb (p .limiter .rate) (2 ^ 32) (h .numbers .rate),
         lt-ltb (slotAt 0 (p .bank .smoothers) .id) (2 ^ 32) (h .bank .first .id),
         lt-ltb (p .bank .rate) (2 ^ 32) (h .bank .rate),
         shape-small (slotAt 0 (p .bank .smoothers) .shape),
-      ) (ap (λ (t : Bool). t && true) (flags-are (p .bank .ready) (eight (p .limiter .settings .counts))))
+        ready-small (p .bank .ready),
+        lt-ltb (p .limiter .settings .«left_out») 256 (h .floats .leftOut),
+      ) refl
 
   -- what was written is read
   pub read-written : processorIn (stateOut p) ≡ p
@@ -205,7 +191,7 @@ spread ws k (suc n) h =
     drop-cons ws k 0 (omega arith) ∙ ap (λ (t : List ℕ). getD ws k 0 ∷ t) (ap (λ (j : ℕ). drop j ws) f ∙ spread ws (k + 1) n (omega arith) ∙ ap (λ (j : ℕ). placesFrom ws (k + 1) n ++ drop j ws) e)
 
 zeros-are : (ws : List ℕ) (k n : ℕ) → zerosAt ws k n ≡ true → placesFrom ws k n ≡ replicate n 0
-unfolding allAt
+unfolding zerosAt
 zeros-are ws k zero h = refl
 zeros-are ws k (suc n) h =
     let z = and-true (eqb (getD ws k 0) 0) (zerosAt ws (k + 1) n) h in
@@ -216,28 +202,10 @@ infixr 67 _∷≡_
 _∷≡_ : {a b : ℕ} {xs ys : List ℕ} → a ≡ b → xs ≡ ys → a ∷ xs ≡ b ∷ ys
 _∷≡_ {a} {b} {xs} {ys} e f = ap (λ (c : ℕ). c ∷ xs) e ∙ ap (λ (t : List ℕ). b ∷ t) f
 
-flag-word : (w : ℕ) → w ≤ 1 → cond (not (eqb w 0)) 1 0 ≡ w
-flag-word zero h = refl
-flag-word (suc zero) h = refl
-flag-word (suc (suc w)) h = absurd (omega arith)
-
-count-word : (w : ℕ) → w ≤ 1 → countedOut (eqb w 0) ≡ w
-count-word zero h = refl
-count-word (suc zero) h = refl
-count-word (suc (suc w)) h = absurd (omega arith)
-
--- the first of n + 1 flags, and the others
-flags-then : (ws : List ℕ) (k n : ℕ) → flagsAt ws k (suc n) ≡ true → (getD ws k 0 ≤ 1) × (flagsAt ws (k + 1) n ≡ true)
-unfolding allAt
-flags-then ws k n h =
-    let z = and-true (leb (getD ws k 0) 1) (flagsAt ws (k + 1) n) h in
-    (leb-true (getD ws k 0) 1 (z .0), z .1)
-
-count-words : (ws : List ℕ) (k n : ℕ) → flagsAt ws k n ≡ true → map (λ (w : ℕ). countedOut (eqb w 0)) (placesFrom ws k n) ≡ placesFrom ws k n
-count-words ws k zero h = refl
-count-words ws k (suc n) h =
-    let z = flags-then ws k n h in
-    count-word (getD ws k 0) (z .0) ∷≡ count-words ws (k + 1) n (z .1)
+ready-word : (w : ℕ) → w ≤ 1 → cond (not (eqb w 0)) 1 0 ≡ w
+ready-word zero h = refl
+ready-word (suc zero) h = refl
+ready-word (suc (suc w)) h = absurd (omega arith)
 
 -- the places of floats
 abbrev pub floatPlaces : List ℕ
@@ -245,7 +213,7 @@ floatPlaces = 1 ∷ 2 ∷ 3 ∷ 4 ∷ 8 ∷ 15 ∷ 17 ∷ 20 ∷ 21 ∷ 22 ∷ 2
 
 module _ (ws : List ℕ) (n : length ws ≡ stateWords) (h : holdsState ws ≡ true) (o : (i : ℕ) → Own (getD ws (getD floatPlaces i 1) 0)) where
   tests : (eqb (getD ws 0 0) layout ≡ true) × (ltb (getD ws 5 0) (2 ^ 32) ≡ true) × (ltb (getD ws 19 0) (2 ^ 32) ≡ true) × (ltb (getD ws 32 0) (2 ^ 32) ≡ true) × (leb (getD ws 28 0) 2 ≡ true)
-      × (flagsAt ws 33 9 ≡ true) × (zerosAt ws 42 22 ≡ true)
+      × (leb (getD ws 33 0) 1 ≡ true) × (ltb (getD ws 34 0) 256 ≡ true) × (zerosAt ws 35 29 ≡ true)
   unfolding holdsState
   tests =
       let h0 = and-true (eqb (getD ws 0 0) layout) _ h in
@@ -253,23 +221,15 @@ module _ (ws : List ℕ) (n : length ws ≡ stateWords) (h : holdsState ws ≡ t
       let h2 = and-true (ltb (getD ws 19 0) (2 ^ 32)) _ (h1 .1) in
       let h3 = and-true (ltb (getD ws 32 0) (2 ^ 32)) _ (h2 .1) in
       let h4 = and-true (leb (getD ws 28 0) 2) _ (h3 .1) in
-      let h5 = and-true (flagsAt ws 33 9) _ (h4 .1) in
-      (h0 .0, h1 .0, h2 .0, h3 .0, h4 .0, h5 .0, h5 .1)
+      let h5 = and-true (leb (getD ws 33 0) 1) _ (h4 .1) in
+      let h6 = and-true (ltb (getD ws 34 0) 256) _ (h5 .1) in
+      (h0 .0, h1 .0, h2 .0, h3 .0, h4 .0, h5 .0, h6 .0, h6 .1)
 
-  rest : replicate 22 0 ≡ drop 42 ws
+  rest : replicate 29 0 ≡ drop 35 ws
   rest =
-      sym (spread ws 42 22 (omega (arith, n))
-      ∙ ap (λ (t : List ℕ). t ++ drop 64 ws) (zeros-are ws 42 22 (tests .6))
-      ∙ ap (λ (t : List ℕ). replicate 22 0 ++ t) (drop-of-length-le ws {i = 64} (omega (arith, n))))
-
-  ready : (getD ws 33 0 ≤ 1) × (flagsAt ws 34 8 ≡ true)
-  ready = flags-then ws 33 8 (tests .5)
-
-  counts : map (λ (w : ℕ). countedOut (eqb w 0)) (placesFrom ws 34 8) ++ replicate 22 0 ≡ drop 34 ws
-  counts =
-      ap (λ (t : List ℕ). t ++ replicate 22 0) (count-words ws 34 8 (ready .1))
-      ∙ ap (λ (t : List ℕ). placesFrom ws 34 8 ++ t) rest
-      ∙ sym (spread ws 34 8 (omega (arith, n)))
+      sym (spread ws 35 29 (omega (arith, n))
+      ∙ ap (λ (t : List ℕ). t ++ drop 64 ws) (zeros-are ws 35 29 (tests .7))
+      ∙ ap (λ (t : List ℕ). replicate 29 0 ++ t) (drop-of-length-le ws {i = 64} (omega (arith, n))))
 
   pub words-of-state : wordsOut (stateIn ws) ≡ ws
   unfolding wordsOut stateIn
@@ -279,8 +239,8 @@ module _ (ws : List ℕ) (n : length ws ≡ stateWords) (h : holdsState ws ≡ t
       ∷≡ (mod-eq-of-lt (ltb-true (getD ws 19 0) (2 ^ 32) (tests .2))) ∷≡ o 7 ∷≡ o 8 ∷≡ o 9 ∷≡ o 10 ∷≡ o 11 ∷≡ o 12 ∷≡ refl ∷≡ o 13
       ∷≡ (shape-word (getD ws 28 0) (leb-true (getD ws 28 0) 2 (tests .4))) ∷≡ o 14 ∷≡ o 15 ∷≡ refl
       ∷≡ (mod-eq-of-lt (ltb-true (getD ws 32 0) (2 ^ 32) (tests .3)))
-      ∷≡ flag-word (getD ws 33 0) (ready .0) ∷≡ counts)
-      ∙ sym (spread ws 0 34 (omega (arith, n)))
+      ∷≡ (ready-word (getD ws 33 0) (leb-true (getD ws 33 0) 1 (tests .5))) ∷≡ (mod-eq-of-lt (ltb-true (getD ws 34 0) 256 (tests .6))) ∷≡ rest)
+      ∙ sym (spread ws 0 35 (omega (arith, n)))
 
 -- the same by bytes
 pub written-read : (bytes : List ℕ) → isState bytes ≡ true → ((i : ℕ) → getD bytes i 0 < 256) → ((i : ℕ) → Own (getD (wordsIn 8 stateWords bytes) (getD floatPlaces i 1) 0)) → stateOut (processorIn bytes) ≡ bytes
@@ -292,30 +252,9 @@ written-read bytes s b o =
     let n = length-map (cut 8 stateWords bytes) wordOf ∙ cut-length 8 stateWords bytes in
     ap (λ (p : KernelProcessor). bytesOut 8 (wordsOut p)) (read-held bytes l (t .1)) ∙ ap (bytesOut 8) (words-of-state ws n (t .1) o) ∙ bytes-of-words 8 stateWords bytes l b
 
--- ---- a state that was kept since before Change 7 has nothing from word 34 on
-both : (test : ℕ → Bool) (ws : List ℕ) (k n m : ℕ) → allAt test ws k (n + m) ≡ true → (allAt test ws k n ≡ true) × (allAt test ws (k + n) m ≡ true)
-unfolding allAt
-both test ws k zero m h = let e : k + 0 ≡ k = omega arith in let f : 0 + m ≡ m = omega arith in (refl, rw e (sym (ap (allAt test ws k) f) ∙ h))
-both test ws k (suc n) m h =
-    let f : suc n + m ≡ suc (n + m) = omega arith in
-    let z = and-true (test (getD ws k 0)) (allAt test ws (k + 1) (n + m)) (sym (ap (allAt test ws k) f) ∙ h) in
-    let later = both test ws (k + 1) n m (z .1) in
-    let e : k + suc n ≡ k + 1 + n = omega arith in
-    (rw (z .0) (later .0), rw e (later .1))
-
-zero-flags : (ws : List ℕ) (k n : ℕ) → zerosAt ws k n ≡ true → flagsAt ws k n ≡ true
-unfolding allAt
-zero-flags ws k zero h = refl
-zero-flags ws k (suc n) h =
-    let z = and-true (eqb (getD ws k 0) 0) (zerosAt ws (k + 1) n) h in
-    rw (eqb-true (getD ws k 0) 0 (z .0), zero-flags ws (k + 1) n (z .1)) refl
-
--- it is a state still, if it was one, and every channel counts, as it did
-pub kept-from-before : (ws : List ℕ) → zerosAt ws 34 30 ≡ true → (flagsAt ws 34 8 ≡ true) × (zerosAt ws 42 22 ≡ true) × (choiceIn ws ≡ allCount)
+-- ---- a state that was kept since before Change 7, with nothing from word 34 on, leaves out no channel and has nothing in the room that is left
+pub kept-from-before : (ws : List ℕ) → zerosAt ws 34 30 ≡ true → (stateIn ws .limiter .settings .«left_out» ≡ allCount) × (zerosAt ws 35 29 ≡ true)
+unfolding zerosAt stateIn
 kept-from-before ws h =
-    let z = both (λ (w : ℕ). eqb w 0) ws 34 8 22 h in
-    (zero-flags ws 34 8 (z .0), z .1, ap (map (λ (w : ℕ). eqb w 0)) (zeros-are ws 34 8 (z .0)))
-
--- and what is written where every channel counts is what was written before
-pub all-counted-as-before : choiceOut allCount ++ replicate 22 0 ≡ replicate 30 0
-all-counted-as-before = refl
+    let z = and-true (eqb (getD ws 34 0) 0) (zerosAt ws 35 29) h in
+    (ap (λ (w : ℕ). w % 256) (eqb-true (getD ws 34 0) 0 (z .0)), z .1)

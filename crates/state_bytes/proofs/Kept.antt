@@ -54,7 +54,7 @@ use Rattle.driver.specs.declared.state.KernelProcessor.{KernelProcessor}
 use Rattle.driver.proofs.Judged.{prepared-is as machine-prepared}
 use Rattle.driver.specs.declared.answers.Answer.{Answer}
 use Rattle.driver.proofs.Stepped.{gain-fit, gain-ready}
-use Rattle.state_bytes.specs.State.{stateWords, isState, stateIn, eight, never, processorIn, processorOf}
+use Rattle.state_bytes.specs.State.{stateWords, isState, stateIn, never, processorIn, processorOf}
 use Rattle.state_bytes.proofs.Storable.{Fits, LimiterFits, LimiterSmall, Storable}
 use Rattle.arithmetic.proofs.Fitting.{zero-fits}
 use Rattle.state_bytes.proofs.Floats.{bits-fit, one-fits, target-fits, coefficient-fits, mean-fits, followed-fits}
@@ -120,14 +120,14 @@ started-small s spec h =
       drained = omega arith;
     }
 
--- ---- floats, and the channels' flags
+-- ---- floats, and the channels left out
 -- the settings' are handed on; all others are computed
 pub record SettingsFit (s : LimiterSettings) : Type 0 where
   pub threshold : Fits (s .«threshold_db»)
   pub margin : Fits (s .«true_peak_margin_db»)
   pub lookahead : Fits (s .«lookahead_ms»)
   pub release : Fits (s .«release_ms»)
-  pub counts : s .counts ≡ eight (s .counts)
+  pub leftOut : s .«left_out» < 256
 
 started-fits : (s : LimiterSettings) (spec : ProcessSpec) → SettingsFit s → LimiterFits (started s spec)
 started-fits s spec h = record {
@@ -135,14 +135,14 @@ started-fits s spec h = record {
   margin = h .margin;
   lookahead = h .lookahead;
   release = h .release;
-  counts = h .counts;
+  leftOut = h .leftOut;
   coeff = coefficient-fits (s .«release_ms») (spec .rate);
   gain = one-fits;
   target = target-fits (s .«threshold_db») (s .«true_peak_margin_db»);
 }
 
 moved-fits : (l : Limiter) (e : Envelope) (pos : ℕ) (target : Float) (drained : ℕ) → LimiterFits l → Fits (e .gain) → Fits target → LimiterFits (movedOn l e pos target drained)
-moved-fits l e pos target drained h g t = record { threshold = h .threshold; margin = h .margin; lookahead = h .lookahead; release = h .release; counts = h .counts; coeff = h .coeff; gain = g; target = t }
+moved-fits l e pos target drained h g t = record { threshold = h .threshold; margin = h .margin; lookahead = h .lookahead; release = h .release; leftOut = h .leftOut; coeff = h .coeff; gain = g; target = t }
 
 step-gain : (weights : List Float) (coeff : Float) (e : Enveloped) (x : Float) → Fits (gainStepOf weights coeff e x .env .gain)
 unfolding gainStepOf
@@ -217,7 +217,7 @@ module _ (m : Machine) (h : Stored m) where
       let b = eqb (resetRefusal m) 0 in
       record {
         floats = chosen (λ (n : Machine). LimiterFits (n .limiter)) b (resetDone m) m
-            (λ _. started-fits (l .settings) (specOf l) (record { threshold = h .floats .threshold; margin = h .floats .margin; lookahead = h .floats .lookahead; release = h .floats .release; counts = h .floats .counts })) (h .floats);
+            (λ _. started-fits (l .settings) (specOf l) (record { threshold = h .floats .threshold; margin = h .floats .margin; lookahead = h .floats .lookahead; release = h .floats .release; leftOut = h .floats .leftOut })) (h .floats);
         numbers = chosen (λ (n : Machine). LimiterSmall (n .limiter)) b (resetDone m) m
             (λ z. started-small (l .settings) (specOf l) (reset-prepared l (machine-prepared l (m .bank) (reset-set-up m (eqb-true (resetRefusal m) 0 z)) .kernel))) (h .numbers);
         bank = reset-bank m (h .bank);
@@ -253,7 +253,7 @@ module _ (m : Machine) (h : Stored m) where
 
 -- ---- setup
 never-fits : LimiterFits notSetUp
-never-fits = record { threshold = zero-fits; margin = zero-fits; lookahead = zero-fits; release = zero-fits; counts = refl; coeff = zero-fits; gain = one-fits; target = zero-fits }
+never-fits = record { threshold = zero-fits; margin = zero-fits; lookahead = zero-fits; release = zero-fits; leftOut = omega arith; coeff = zero-fits; gain = one-fits; target = zero-fits }
 
 never-small : LimiterSmall notSetUp
 never-small = record {
@@ -323,7 +323,7 @@ read-storable state bytes =
     let held = stateIn (wordsIn 8 stateWords state) in
     record {
       floats = chosen (λ (p : KernelProcessor). LimiterFits (p .limiter)) (isState state) held never
-          (λ _. record { threshold = bits-fit _; margin = bits-fit _; lookahead = bits-fit _; release = bits-fit _; counts = refl; coeff = bits-fit _; gain = bits-fit _; target = bits-fit _ }) never-fits;
+          (λ _. record { threshold = bits-fit _; margin = bits-fit _; lookahead = bits-fit _; release = bits-fit _; leftOut = mod-lt _ (omega arith); coeff = bits-fit _; gain = bits-fit _; target = bits-fit _ }) never-fits;
       numbers = chosen (λ (p : KernelProcessor). LimiterSmall (p .limiter)) (isState state) held never
           (λ _. record {
             rate = mod-lt _ (omega arith);

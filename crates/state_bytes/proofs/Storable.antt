@@ -1,4 +1,4 @@
--- What 512 bytes can hold of a limiter with its bank: floats of binary64, numbers within their words, eight flags, and a bank whose slots past the first are empty.
+-- What 512 bytes can hold of a limiter with its bank: floats of binary64, numbers within their words, and a bank whose slots past the first are empty.
 use mathlib.Core.Path.{_≡_}
 use Prim.Native.Nat.{_^_, _<_}
 use lib.Dec.{T}
@@ -8,19 +8,19 @@ use Rattle.bank.specs.Bank.{slotAt}
 use Rattle.bank.specs.declared.smoother.Smoother.{Smoother}
 use Rattle.bank.specs.declared.smoother_bank.SmootherBank.{SmootherBank}
 use Rattle.driver.specs.declared.state.KernelProcessor.{KernelProcessor}
-use Rattle.state_bytes.specs.State.{slotsWith, eight}
+use Rattle.state_bytes.specs.State.{slotsWith}
 
 -- a value of binary64, which its 64 bits give back
 abbrev pub Fits : Float → Type 0
 Fits x = T (fits binary64 x)
 
--- ---- the limiter: its floats, and a yes or no for eight channels
+-- ---- the limiter: its floats, and a bit for each of eight channels
 pub record LimiterFits (l : Limiter) : Type 0 where
   pub threshold : Fits (l .settings .«threshold_db»)
   pub margin : Fits (l .settings .«true_peak_margin_db»)
   pub lookahead : Fits (l .settings .«lookahead_ms»)
   pub release : Fits (l .settings .«release_ms»)
-  pub counts : l .settings .counts ≡ eight (l .settings .counts)
+  pub leftOut : l .settings .«left_out» < 256
   pub coeff : Fits (l .«release_coeff»)
   pub gain : Fits (l .env .gain)
   pub target : Fits (l .target)

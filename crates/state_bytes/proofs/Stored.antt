@@ -10,7 +10,7 @@ use lib.Dec.{eqb}
 use lib.ListN.{length, getD, take, drop, replicate, length-append, drop-of-length-le, take-append-drop}
 use lib.Seq.{take-all, take-at, drop-drop, drop-cons, length-take-le}
 use borrow.Author.Tests.{eqb-true, eq-eqb, ne-eqb}
-use Rattle.arithmetic.proofs.Order.{and-true, and-yes, same-test}
+use Rattle.arithmetic.proofs.Order.{and-true, same-test}
 use Rattle.audio.specs.Bytes.{wordOf, bytesOf, cut, joined, wordsIn, bytesOut}
 use Rattle.audio.specs.Inner.{put}
 use Rattle.audio.proofs.Numbers.{cut-at, put-length, out-length}
@@ -25,7 +25,7 @@ use Rattle.driver.specs.Answers.{machineAt}
 use Rattle.driver.specs.Parts.{shownOf, bankWith}
 use Rattle.driver.specs.declared.state.KernelProcessor.{KernelProcessor}
 use Rattle.driver.specs.declared.state.Threshold.{Threshold}
-use Rattle.state_bytes.specs.State.{layout, stateWords, stateBytes, allAt, zerosAt, holdsState, isState, limiterIn, bankIn, stateIn, limiterOut, choiceOut, wordsOut, never, processorIn, stateOut}
+use Rattle.state_bytes.specs.State.{layout, stateWords, stateBytes, zerosAt, holdsState, isState, limiterIn, bankIn, stateIn, limiterOut, wordsOut, never, processorIn, stateOut}
 
 and-assoc : (a b c : Bool) → ((a && b) && c) ≡ (a && (b && c))
 and-assoc true b c = refl
@@ -61,7 +61,7 @@ zero-word (b ∷ bs) =
     ∙ ap (λ (t : Bool). eqb b 0 && t) (zero-word bs)
 
 zero-words : (bytes : List ℕ) (n k : ℕ) → length bytes ≡ stateBytes → k + n ≡ stateWords → allZero (drop (8 * k) bytes) ≡ zerosAt (wordsIn 8 stateWords bytes) k n
-unfolding allAt
+unfolding zerosAt
 zero-words bytes zero k l e = let past : length bytes ≤ 8 * k = omega (arith, l, e) in rw (drop-of-length-le bytes {i = 8 * k} past) refl
 zero-words bytes (suc n) k l e =
     let d = drop (8 * k) bytes in
@@ -71,37 +71,27 @@ zero-words bytes (suc n) k l e =
     ∙ ap (λ (t : Bool). t && allZero (drop 8 d)) (sym (zero-word (take 8 d)) ∙ ap (λ (w : ℕ). eqb w 0) (word-in bytes stateWords k (omega (arith, e))))
     ∙ ap (λ (t : Bool). eqb (getD (wordsIn 8 stateWords bytes) k 0) 0 && t) (ap allZero (drop-drop 8 (8 * k) bytes ∙ ap (λ (i : ℕ). drop i bytes) next) ∙ zero-words bytes n (k + 1) l (omega (arith, e)))
 
--- as the code reads it: byte by byte, from word 42 on
-module _ (bytes : List ℕ) (l : length bytes ≡ stateBytes) (i : ℕ) (p : Bool) (e : p && allZero (drop i bytes) ≡ allZero (drop 336 bytes)) where
-  pub zeros-more : i < stateBytes → (p && eqb (getD bytes i 0) 0) && allZero (drop (i + 1) bytes) ≡ allZero (drop 336 bytes)
+-- as the code reads it: byte by byte, from word 35 on
+module _ (bytes : List ℕ) (l : length bytes ≡ stateBytes) (i : ℕ) (p : Bool) (e : p && allZero (drop i bytes) ≡ allZero (drop 280 bytes)) where
+  pub zeros-more : i < stateBytes → (p && eqb (getD bytes i 0) 0) && allZero (drop (i + 1) bytes) ≡ allZero (drop 280 bytes)
   zeros-more h = go p e
     where
       split : drop i bytes ≡ getD bytes i 0 ∷ drop (i + 1) bytes
       split = rw (add-one i) (drop-cons bytes i 0 (omega (arith, l)))
 
-      go : (p : Bool) → p && allZero (drop i bytes) ≡ allZero (drop 336 bytes) → (p && eqb (getD bytes i 0) 0) && allZero (drop (i + 1) bytes) ≡ allZero (drop 336 bytes)
+      go : (p : Bool) → p && allZero (drop i bytes) ≡ allZero (drop 280 bytes) → (p && eqb (getD bytes i 0) 0) && allZero (drop (i + 1) bytes) ≡ allZero (drop 280 bytes)
       go true e = rw split at e
       go false e = e
 
-  pub zeros-done : stateBytes ≤ i → p ≡ zerosAt (wordsIn 8 stateWords bytes) 42 22
-  zeros-done h = go p e ∙ zero-words bytes 22 42 l refl
+  pub zeros-done : stateBytes ≤ i → p ≡ zerosAt (wordsIn 8 stateWords bytes) 35 29
+  zeros-done h = go p e ∙ zero-words bytes 29 35 l refl
     where
       past : length bytes ≤ i
       past = omega (arith, l)
 
-      go : (p : Bool) → p && allZero (drop i bytes) ≡ allZero (drop 336 bytes) → p ≡ allZero (drop 336 bytes)
+      go : (p : Bool) → p && allZero (drop i bytes) ≡ allZero (drop 280 bytes) → p ≡ allZero (drop 280 bytes)
       go true e = rw (drop-of-length-le bytes {i = i} past) at e
       go false e = e
-
--- ---- a test of words in turn
-module _ (test : ℕ → Bool) (ws : List ℕ) (k n : ℕ) (p total : Bool) (e : p && allAt test ws k n ≡ total) where
-  pub all-more : (m : ℕ) → n ≡ suc m → (p && test (getD ws k 0)) && allAt test ws (k + 1) m ≡ total
-  unfolding allAt
-  all-more m h = and-assoc p (test (getD ws k 0)) (allAt test ws (k + 1) m) ∙ ap (λ (j : ℕ). p && allAt test ws k j) (sym h) ∙ e
-
-  pub all-done : n ≡ 0 → p ≡ total
-  unfolding allAt
-  all-done h = sym (and-yes p) ∙ ap (λ (j : ℕ). p && allAt test ws k j) (sym h) ∙ e
 
 -- ---- reading
 -- by what it holds with any stores
@@ -182,15 +172,15 @@ stored-parts (part ∷ parts) state k e =
 -- a state's, of a limiter and what its bank shows
 abbrev pub partsOf : Limiter → Threshold → List (List ℕ)
 partsOf l t =
-    (layout ∷ []) ∷ limiterOut l ∷ smootherOut (t .smoother) ∷ (t .count ∷ t .rate ∷ cond (t .ready) 1 0 ∷ []) ∷ choiceOut (l .settings .counts) ∷ replicate 22 0 ∷ []
+    (layout ∷ []) ∷ limiterOut l ∷ smootherOut (t .smoother) ∷ (t .count ∷ t .rate ∷ cond (t .ready) 1 0 ∷ l .settings .«left_out» ∷ []) ∷ replicate 29 0 ∷ []
 
 state-stored : (l : Limiter) (t : Threshold) (state : List ℕ) → length state ≡ stateBytes → (b : SmootherBank) → shownOf b ≡ t → stored state 0 (partsOf l t) ≡ stateOut (record { limiter = l; bank = b })
 unfolding stateOut wordsOut joined
 state-stored l t state n b e = ap (λ (t : Threshold). stored state 0 (partsOf l t)) (sym e) ∙ stored-parts (partsOf l (shownOf b)) state 0 n
 
 -- as the code stores them: each part's words as their function made them, into the bytes that the part before left
-pub written : (l : Limiter) (t : Threshold) (state : List ℕ) → length state ≡ stateBytes → (s1 s2 s3 s4 s5 s6 own smoother counts : List ℕ) (ready : ℕ)
+pub written : (l : Limiter) (t : Threshold) (state : List ℕ) → length state ≡ stateBytes → (s1 s2 s3 s4 s5 own smoother : List ℕ) (ready : ℕ)
     → s1 ≡ put state 0 (bytesOut 8 (layout ∷ [])) → own ≡ limiterOut l → s2 ≡ put s1 (8 * 1) (bytesOut 8 own) → smoother ≡ smootherOut (t .smoother) → s3 ≡ put s2 (8 * 19) (bytesOut 8 smoother)
-    → ready ≡ cond (t .ready) 1 0 → s4 ≡ put s3 (8 * 31) (bytesOut 8 (t .count ∷ t .rate ∷ ready ∷ [])) → counts ≡ choiceOut (l .settings .counts) → s5 ≡ put s4 (8 * 34) (bytesOut 8 counts)
-    → s6 ≡ put s5 (8 * 42) (bytesOut 8 (replicate 22 0)) → (b : SmootherBank) → shownOf b ≡ t → s6 ≡ stateOut (record { limiter = l; bank = b })
-written l t state n s1 s2 s3 s4 s5 s6 own smoother counts ready e1 o e2 m e3 r e4 k e5 e6 b e = rw (e6, e5, k, e4, r, e3, m, e2, o, e1) (state-stored l t state n b e)
+    → ready ≡ cond (t .ready) 1 0 → s4 ≡ put s3 (8 * 31) (bytesOut 8 (t .count ∷ t .rate ∷ ready ∷ l .settings .«left_out» ∷ []))
+    → s5 ≡ put s4 (8 * 35) (bytesOut 8 (replicate 29 0)) → (b : SmootherBank) → shownOf b ≡ t → s5 ≡ stateOut (record { limiter = l; bank = b })
+written l t state n s1 s2 s3 s4 s5 own smoother ready e1 o e2 m e3 r e4 e5 b e = rw (e5, e4, r, e3, m, e2, o, e1) (state-stored l t state n b e)

@@ -1,7 +1,7 @@
--- The state as bytes: 64 words of eight bytes. Word 0 tells the layout, 1 to 18 are the limiter's, 19 to 30 the threshold's smoother, 31 to 33 the bank's, 34 to 41 tell of each channel whether it is left out of linking, and the rest is room to grow. What is taken from that room means at 0 what it was before: a state that was kept since then goes on as it did.
-use Prim.Native.Nat.{ℕ, zero, suc, _+_, _^_}
-use mathlib.Core.Bool.{Bool, true, false, cond, not, _&&_}
-use mathlib.Core.List.{List, [], _∷_, _++_, map}
+-- The state as bytes: 64 words of eight bytes. Word 0 tells the layout, 1 to 18 are the limiter's, 19 to 30 the threshold's smoother, 31 to 33 the bank's, 34 the channels that are left out of linking, and the rest is room to grow. What is taken from that room means at 0 what it was before: a state that was kept since then goes on as it did.
+use Prim.Native.Nat.{ℕ, zero, suc, _+_, _%_, _^_}
+use mathlib.Core.Bool.{Bool, true, cond, not, _&&_}
+use mathlib.Core.List.{List, [], _∷_, _++_}
 use lib.Dec.{eqb, leb, ltb}
 use lib.ListN.{length, getD, replicate}
 use Rattle.audio.specs.Bytes.{wordsIn, bytesOut}
@@ -29,38 +29,23 @@ stateWords = 64
 abbrev pub stateBytes : ℕ
 stateBytes = 512
 
--- n words from a place on pass a test
-unfoldable pub allAt : (ℕ → Bool) → List ℕ → ℕ → ℕ → Bool
-allAt test ws k zero = true
-allAt test ws k (suc n) = test (getD ws k 0) && allAt test ws (k + 1) n
+-- n words from a place on are 0
+unfoldable pub zerosAt : List ℕ → ℕ → ℕ → Bool
+zerosAt ws k zero = true
+zerosAt ws k (suc n) = eqb (getD ws k 0) 0 && zerosAt ws (k + 1) n
 
--- are each 0
-abbrev pub zerosAt : List ℕ → ℕ → ℕ → Bool
-zerosAt ws k n = allAt (λ (w : ℕ). eqb w 0) ws k n
-
--- are each a yes or a no
-abbrev pub flagsAt : List ℕ → ℕ → ℕ → Bool
-flagsAt ws k n = allAt (λ (w : ℕ). leb w 1) ws k n
-
--- the layout's word, 32 bits for each rate and for the id, a shape, nine flags (the bank's, and one a channel), and nothing in the room to grow
+-- the layout's word, 32 bits for each rate and for the id, a shape, a flag, a bit for each of eight channels, and nothing in the room to grow
 unfoldable pub holdsState : List ℕ → Bool
 holdsState ws =
     eqb (getD ws 0 0) layout && (ltb (getD ws 5 0) (2 ^ 32) && (ltb (getD ws 19 0) (2 ^ 32) && (ltb (getD ws 32 0) (2 ^ 32)
-    && (leb (getD ws 28 0) 2 && (flagsAt ws 33 9 && zerosAt ws 42 22)))))
+    && (leb (getD ws 28 0) 2 && (leb (getD ws 33 0) 1 && (ltb (getD ws 34 0) 256 && zerosAt ws 35 29))))))
 
 unfoldable pub isState : List ℕ → Bool
 isState bytes = eqb (length bytes) stateBytes && holdsState (wordsIn 8 stateWords bytes)
 
 -- ---- out of words
--- a channel that is left out has 1, one that counts 0
-abbrev pub countedIn : List ℕ → ℕ → Bool
-countedIn ws k = eqb (getD ws k 0) 0
-
-abbrev pub choiceIn : List ℕ → List Bool
-choiceIn ws = countedIn ws 34 ∷ countedIn ws 35 ∷ countedIn ws 36 ∷ countedIn ws 37 ∷ countedIn ws 38 ∷ countedIn ws 39 ∷ countedIn ws 40 ∷ countedIn ws 41 ∷ []
-
 abbrev pub settingsIn : List ℕ → LimiterSettings
-settingsIn ws = settingsOf (floatIn ws 1) (floatIn ws 2) (floatIn ws 3) (floatIn ws 4) (choiceIn ws)
+settingsIn ws = settingsOf (floatIn ws 1) (floatIn ws 2) (floatIn ws 3) (floatIn ws 4) (getD ws 34 0 % 256)
 
 abbrev pub envelopeIn : List ℕ → Envelope
 envelopeIn ws = record {
@@ -102,18 +87,8 @@ limiterOut l =
 abbrev pub bankOut : SmootherBank → List ℕ
 bankOut b = smootherOut (slotAt 0 (b .smoothers)) ++ (b .count ∷ b .rate ∷ cond (b .ready) 1 0 ∷ [])
 
--- eight entries, in order
-abbrev pub eight : List Bool → List Bool
-eight bs = getD bs 0 false ∷ getD bs 1 false ∷ getD bs 2 false ∷ getD bs 3 false ∷ getD bs 4 false ∷ getD bs 5 false ∷ getD bs 6 false ∷ getD bs 7 false ∷ []
-
-abbrev pub countedOut : Bool → ℕ
-countedOut b = cond b 0 1
-
-abbrev pub choiceOut : List Bool → List ℕ
-choiceOut bs = map countedOut (eight bs)
-
 unfoldable pub wordsOut : KernelProcessor → List ℕ
-wordsOut p = layout ∷ limiterOut (p .limiter) ++ bankOut (p .bank) ++ choiceOut (p .limiter .settings .counts) ++ replicate 22 0
+wordsOut p = layout ∷ limiterOut (p .limiter) ++ bankOut (p .bank) ++ (p .limiter .settings .«left_out» ∷ replicate 29 0)
 
 -- ---- read and written
 -- the part of a machine that the bytes hold; its stores are lent beside them

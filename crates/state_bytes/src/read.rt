@@ -5,7 +5,7 @@ ghost use lib.ListN.{length, getD};
 ghost use Rattle.audio.specs.Bytes.{wordsIn};
 ghost use Rattle.bank.specs.Words.{floatIn, halfIn, smootherIn};
 ghost use Rattle.driver.specs.Parts.{shownOf};
-ghost use Rattle.state_bytes.specs.State.{stateWords, stateBytes, zerosAt, flagsAt, holdsState, isState, countedIn, choiceIn, settingsIn, envelopeIn, limiterIn, bankIn, processorIn};
+ghost use Rattle.state_bytes.specs.State.{stateWords, stateBytes, zerosAt, holdsState, isState, settingsIn, envelopeIn, limiterIn, bankIn, processorIn};
 use crate::block::bank_with;
 use arithmetic::pattern::from_bits;
 use audio::words::word;
@@ -46,43 +46,16 @@ fn half_at(state: &[u8], k: usize) -> u32
     (word_at(state, k) % 4294967296) as u32
 }
 
-// Whether the channel of a place counts: 1 leaves it out.
-fn counted_at(state: &[u8], k: usize) -> bool
-    requires { ⌜ length (now state) ≡ stateBytes ⌝ }
-    requires { ⌜ k < stateWords ⌝ }
-    ensures { λ r. ⌜ r ≡ countedIn (wordsIn 8 stateWords (now (state .entry))) k ⌝ }
-{
-    word_at(state, k) == 0
-}
-
-// Whether each channel counts.
-fn choice_in(state: &[u8]) -> [bool; 8]
-    requires { ⌜ length (now state) ≡ stateBytes ⌝ }
-    ensures { λ r. ⌜ r ≡ choiceIn (wordsIn 8 stateWords (now (state .entry))) ⌝ }
-{
-    [
-        counted_at(state, 34),
-        counted_at(state, 35),
-        counted_at(state, 36),
-        counted_at(state, 37),
-        counted_at(state, 38),
-        counted_at(state, 39),
-        counted_at(state, 40),
-        counted_at(state, 41),
-    ]
-}
-
 fn settings_in(state: &[u8]) -> LimiterSettings
     requires { ⌜ length (now state) ≡ stateBytes ⌝ }
     ensures { λ r. ⌜ r ≡ settingsIn (wordsIn 8 stateWords (now (state .entry))) ⌝ }
 {
-    let counts = choice_in(state);
     LimiterSettings {
         threshold_db: float_at(state, 1),
         true_peak_margin_db: float_at(state, 2),
         lookahead_ms: float_at(state, 3),
         release_ms: float_at(state, 4),
-        counts,
+        left_out: (word_at(state, 34) % 256) as u8,
     }
 }
 
@@ -163,27 +136,13 @@ pub fn threshold_in(state: &[u8]) -> Threshold
 // Nothing in the room to grow: every byte is read, without a way out, several in one instruction.
 fn rest_is_zero(state: &[u8]) -> bool
     requires { ⌜ length (now state) ≡ stateBytes ⌝ }
-    ensures { λ r. ⌜ r ≡ zerosAt (wordsIn 8 stateWords (now (state .entry))) 42 22 ⌝ }
+    ensures { λ r. ⌜ r ≡ zerosAt (wordsIn 8 stateWords (now (state .entry))) 35 29 ⌝ }
 {
     let mut ok = true;
-    let mut i: usize = 336;
+    let mut i: usize = 280;
     while i < 512 {
         ok = ok & (state[i] == 0);
         i += 1;
-    }
-    ok
-}
-
-// The bank's flag and those of the channels left out are each a yes or a no.
-fn flags_hold(state: &[u8]) -> bool
-    requires { ⌜ length (now state) ≡ stateBytes ⌝ }
-    ensures { λ r. ⌜ r ≡ flagsAt (wordsIn 8 stateWords (now (state .entry))) 33 9 ⌝ }
-{
-    let mut ok = true;
-    let mut k: usize = 33;
-    while k < 42 {
-        ok = ok & (word_at(state, k) <= 1);
-        k += 1;
     }
     ok
 }
@@ -198,8 +157,9 @@ fn holds_state(state: &[u8]) -> bool
     let id = word_at(state, 19) < 4294967296;
     let bank = word_at(state, 32) < 4294967296;
     let shape = word_at(state, 28) <= 2;
-    let flags = flags_hold(state);
-    layout & (rate & (id & (bank & (shape & (flags & rest)))))
+    let ready = word_at(state, 33) <= 1;
+    let choice = word_at(state, 34) < 256;
+    layout & (rate & (id & (bank & (shape & (ready & (choice & rest))))))
 }
 
 pub fn is_state(state: &[u8]) -> bool

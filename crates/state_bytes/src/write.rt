@@ -6,7 +6,7 @@ ghost use Rattle.audio.specs.Bytes.{bytesOut};
 ghost use Rattle.audio.specs.Inner.{put};
 ghost use Rattle.bank.specs.declared.smoother_bank.SmootherBank.{SmootherBank};
 ghost use Rattle.driver.specs.Parts.{shownOf};
-ghost use Rattle.state_bytes.specs.State.{stateBytes, limiterOut, countedOut, choiceOut, stateOut};
+ghost use Rattle.state_bytes.specs.State.{stateBytes, limiterOut, stateOut};
 use arithmetic::pattern::to_bits;
 use audio::words::write_words;
 use bank::words::flag;
@@ -41,28 +41,6 @@ fn limiter_out(l: Limiter) -> [u64; 18]
     ]
 }
 
-// A channel that counts as 0, one that is left out as 1.
-fn counted_out(counts: bool) -> u64
-    ensures { λ r. ⌜ r ≡ countedOut counts ⌝ }
-{
-    if counts { 0 } else { 1 }
-}
-
-fn choice_out(counts: [bool; 8]) -> [u64; 8]
-    ensures { λ r. ⌜ r ≡ choiceOut counts ⌝ }
-{
-    [
-        counted_out(counts[0]),
-        counted_out(counts[1]),
-        counted_out(counts[2]),
-        counted_out(counts[3]),
-        counted_out(counts[4]),
-        counted_out(counts[5]),
-        counted_out(counts[6]),
-        counted_out(counts[7]),
-    ]
-}
-
 // These words, from word k on.
 fn put_words(state: &mut [u8], k: usize, words: &[u64])
     requires { ⌜ 8 * (k + length (now words)) ≤ length (now state) ⌝ }
@@ -79,14 +57,21 @@ pub fn write_parts(state: &mut [u8], limiter: Limiter, t: Threshold)
     ensures { λ _. ⌜ ((b : SmootherBank) → shownOf b ≡ t → now (state .exit) ≡ stateOut (record { limiter = limiter; bank = b })) ⌝ }
 {
     let smoother = t.smoother;
-    let settings = limiter.settings;
-    let counts = settings.counts;
     put_words(state, 0, &[0x1_7a75_7944]);
     put_words(state, 1, &limiter_out(limiter));
     put_words(state, 19, &smoother_out(smoother));
-    put_words(state, 31, &[t.count as u64, t.rate as u64, flag(t.ready)]);
-    put_words(state, 34, &choice_out(counts));
-    put_words(state, 42, &[0u64; 22]);
+    let settings = limiter.settings;
+    put_words(
+        state,
+        31,
+        &[
+            t.count as u64,
+            t.rate as u64,
+            flag(t.ready),
+            settings.left_out as u64,
+        ],
+    );
+    put_words(state, 35, &[0u64; 29]);
 }
 
 pub fn write_state(state: &mut [u8], p: KernelProcessor)

@@ -477,8 +477,7 @@ mod tests {
             Call::Read { id: 0 },
         ] {
             assert_eq!(told(&mut lent, asked).0, 0);
-            let left_out = &words(&lent.state)[at::LEFT_OUT..at::USED];
-            assert_eq!(left_out, [0, 1, 0, 1, 0, 0, 0, 0]);
+            assert_eq!(words(&lent.state)[at::LEFT_OUT], 0b1010);
         }
     }
 

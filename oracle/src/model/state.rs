@@ -1,7 +1,7 @@
 //! The state that crosses: 64 words of 8 bytes, low byte first, and what they
 //! stand for.
 
-use super::setup::{counts, kept, look, Setup, CHANNELS};
+use super::setup::{kept, look, Setup, CHANNELS};
 use super::threshold::{declared, Smoother};
 use crate::calls::{words, STATE};
 use crate::layout::{smoother, state as at};
@@ -102,21 +102,20 @@ impl State {
             && small(at::BANK_RATE)
             && words[at::SMOOTHER + smoother::SHAPE] <= 2
             && words[at::READY] <= 1
-            && words[at::LEFT_OUT..at::USED].iter().all(|&word| word <= 1)
+            && words[at::LEFT_OUT] < 1 << CHANNELS
             && words[at::USED..].iter().all(|&word| word == 0);
         told.then(|| Self::of(&words))
     }
 
     fn of(words: &[u64]) -> Self {
         let float = |at: usize| f64::from_bits(words[at]);
-        let left_out = |channel: usize| u32::from(words[at::LEFT_OUT + channel] == 1) << channel;
         Self {
             setup: Setup {
                 threshold: float(at::THRESHOLD),
                 margin: float(at::MARGIN),
                 lookahead: float(at::LOOKAHEAD),
                 release: float(at::RELEASE),
-                left_out: (0..CHANNELS).map(left_out).sum(),
+                left_out: words[at::LEFT_OUT] as u32,
                 rate: words[at::RATE] as u32,
                 channels: words[at::CHANNELS] as usize,
                 block: words[at::BLOCK] as usize,
@@ -144,9 +143,6 @@ impl State {
         let s = &self.setup;
         let mut words = [0; at::WORDS];
         words[at::SMOOTHER..at::COUNT].copy_from_slice(&self.threshold.words());
-        for (channel, word) in words[at::LEFT_OUT..at::USED].iter_mut().enumerate() {
-            *word = u64::from(!counts(s.left_out, channel));
-        }
         for (at, word) in [
             (at::LAYOUT, VERSION),
             (at::THRESHOLD, s.threshold.to_bits()),
@@ -170,6 +166,7 @@ impl State {
             (at::COUNT, self.count),
             (at::BANK_RATE, u64::from(self.bank_rate)),
             (at::READY, u64::from(self.ready)),
+            (at::LEFT_OUT, u64::from(kept(s.left_out))),
         ] {
             words[at] = word;
         }
@@ -187,8 +184,7 @@ mod tests {
         let words = (0..at::USED).map(|at| match at {
             at::LAYOUT => VERSION,
             SHAPE | at::READY => 1,
-            // Channels 0, 2, 3, 4, 5 and 6 count.
-            at::LEFT_OUT.. => u64::from(at == at::LEFT_OUT + 1 || at == at::LEFT_OUT + 7),
+            at::LEFT_OUT => 0b1000_0010,
             at => 1_000 + at as u64,
         });
         let mut bytes: Vec<u8> = words.flat_map(u64::to_le_bytes).collect();
@@ -199,23 +195,23 @@ mod tests {
         assert_eq!(state.setup.left_out, 0b1000_0010);
     }
 
-    /// Words 34 to 41, and 0 behind them.
+    /// Word 34, and 0 behind it.
     #[test]
-    fn who_is_left_out_stands_in_eight_words() {
+    fn who_is_left_out_stands_in_one_word() {
         let at = |left_out: u32| {
             let setup = Setup {
                 left_out,
                 ..State::NEVER.setup
             };
             let words = words(&State::started(&setup).bytes());
-            assert!(words[42..].iter().all(|&word| word == 0));
-            words[34..42].to_vec()
+            assert!(words[35..].iter().all(|&word| word == 0));
+            words[34]
         };
-        assert_eq!(at(0), [0; 8]);
-        assert_eq!(at(8), [0, 0, 0, 1, 0, 0, 0, 0]);
+        assert_eq!(at(0), 0);
+        assert_eq!(at(8), 8);
         // Bits past the eighth are not kept.
-        assert_eq!(at(0xffff_ff41), [1, 0, 0, 0, 0, 0, 1, 0]);
-        assert_eq!(words(&State::NEVER.bytes())[34..42], [0; 8]);
+        assert_eq!(at(0xffff_ff41), 0x41);
+        assert_eq!(words(&State::NEVER.bytes())[34], 0);
     }
 
     #[test]
@@ -235,8 +231,8 @@ mod tests {
             bytes.resize(length, 0);
             assert_eq!(State::read(&bytes), None);
         }
-        // The version; high halves; shape 4; ready 2; counts 3, 257, 2^63 + 1 in the
-        // first and the last; room to grow from its first word on.
+        // The version; high halves; shape 4; ready 2; a ninth channel left out, and a
+        // 64th; room to grow from its first word on.
         for (byte, bit) in [
             (4, 1),
             (44, 0),
@@ -244,13 +240,9 @@ mod tests {
             (260, 0),
             (224, 2),
             (264, 1),
-            (272, 1),
             (273, 0),
             (279, 7),
-            (328, 1),
-            (329, 0),
-            (335, 7),
-            (336, 0),
+            (280, 0),
             (511, 0),
         ] {
             let mut bytes = good.clone();

@@ -281,7 +281,7 @@ fn not_a_state(rng: &mut Rng) -> Fault {
                 at: rng.below(64) as usize,
             }
         }
-        5 => (choice(rng), neither(rng)),
+        5 => (state::LEFT_OUT, beyond(rng)),
         _ => return room(rng),
     };
     Fault::StateWord { at, word }
@@ -296,31 +296,28 @@ fn room(rng: &mut Rng) -> Fault {
     }
 }
 
-/// A word that says whether a channel is left out, or one that there is not.
-fn choice(rng: &mut Rng) -> usize {
-    state::LEFT_OUT + rng.below(CHANNELS as u64) as usize
+/// Channels left out that there cannot be.
+fn beyond(rng: &mut Rng) -> u64 {
+    let any = 256 + (rng.word() >> (1 + rng.below(55)));
+    rng.pick(&[256, 257, 511, 1 << 32, 1 << 63, u64::MAX, any])
 }
 
-/// Neither yes nor no.
-fn neither(rng: &mut Rng) -> u64 {
-    let any = 2 + (rng.word() >> (1 + rng.below(62)));
-    rng.pick(&[2, 3, 255, 256, 1 << 32, 1 << 63, u64::MAX, any])
-}
-
-/// Other channels that do not count: any of them, or one that may; or words that
-/// no state has, for a channel and behind them.
+/// Other channels that do not count: any of them, or one other; or words that no
+/// state has, there and behind.
 fn unlinked(rng: &mut Rng) -> Fault {
-    let (at, word) = match rng.below(6) {
-        0 => {
-            return Fault::LeftOut {
-                left_out: rng.below(1 << CHANNELS) as u32,
-            }
-        }
-        1..=3 => (choice(rng), rng.below(2)),
-        4 => (choice(rng), neither(rng)),
-        _ => return room(rng),
-    };
-    Fault::StateWord { at, word }
+    match rng.below(6) {
+        0 => Fault::LeftOut {
+            left_out: rng.below(1 << CHANNELS) as u32,
+        },
+        1..=3 => Fault::StateBit {
+            at: 64 * state::LEFT_OUT + rng.below(CHANNELS as u64) as usize,
+        },
+        4 => Fault::StateWord {
+            at: state::LEFT_OUT,
+            word: beyond(rng),
+        },
+        _ => room(rng),
+    }
 }
 
 /// A change of state or stores, aimed at what 18, 19 and 22 judge and at what

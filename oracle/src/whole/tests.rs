@@ -384,7 +384,7 @@ fn unjudged(lent: &mut Lent, call: &mut Call) -> u32 {
 #[test]
 fn damage_finds_what_sessions_do_not() {
     let (passed, text) = run(&DAMAGE, Some(unjudged));
-    assert!(!passed && text.contains("due 19, seen 0"), "{text}");
+    assert!(!passed && text.contains("at: 18"), "{text}");
 }
 
 /// Weights of which only range and sum are judged: those that pass are set up as

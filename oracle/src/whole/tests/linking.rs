@@ -51,7 +51,7 @@ fn every_choice_is_played() {
         );
         assert!(3 * choices.sessions > sessions, "{settings:?}: {choices:?}");
         assert!(4 * choices.frames > frames, "{settings:?}: {choices:?}");
-        assert!(40 * choices.none > frames, "{settings:?}: {choices:?}");
+        assert!(400 * choices.none > frames, "{settings:?}: {choices:?}");
         // Where one is left out it is often the one that would have been heard.
         assert!(3 * choices.louder > choices.frames, "{settings:?}");
     }
@@ -324,53 +324,45 @@ fn other_treatment_of_channels_left_out_is_found() {
     }
 }
 
-/// The model, and then words of ours where a call wrote who counts.
-fn rewritten(lent: &mut Lent, call: &mut Call, rule: fn(&Call, u32, &mut [u64])) -> u32 {
+/// The model, and then a word of ours where a call wrote who is left out.
+fn rewritten(lent: &mut Lent, call: &mut Call, rule: fn(&Call, u32, u64) -> u64) -> u32 {
     let number = model(lent, call);
     if lent.state.len() == STATE {
-        let mut eight = words(&lent.state[8 * at::LEFT_OUT..8 * at::USED]);
-        rule(call, number, &mut eight);
-        let bytes: Vec<u8> = eight.into_iter().flat_map(u64::to_le_bytes).collect();
-        lent.state[8 * at::LEFT_OUT..8 * at::USED].copy_from_slice(&bytes);
+        let word = rule(call, number, words(choice(lent))[0]);
+        choice(lent).copy_from_slice(&word.to_le_bytes());
     }
     number
 }
 
 /// A reset brings the default back.
 fn resetting(lent: &mut Lent, call: &mut Call) -> u32 {
-    rewritten(lent, call, |call, number, eight| {
-        if number == 0 && matches!(call, Call::Reset) {
-            eight.fill(0);
-        }
+    rewritten(lent, call, |call, number, word| match call {
+        Call::Reset if number == 0 => 0,
+        _ => word,
     })
 }
 
 /// Bits past the channels are not kept.
 fn forgetting(lent: &mut Lent, call: &mut Call) -> u32 {
-    rewritten(lent, call, |call, number, eight| {
-        if let (0, Call::Setup { setup, .. }) = (number, call) {
-            eight[setup.channels..].fill(0);
-        }
+    rewritten(lent, call, |call, number, word| match call {
+        Call::Setup { setup, .. } if number == 0 => word & u64::from(own(setup.channels)),
+        _ => word,
     })
 }
 
 /// A refused setup leaves that none counts.
 fn refusing(lent: &mut Lent, call: &mut Call) -> u32 {
-    rewritten(lent, call, |call, number, eight| {
-        if number != 0 && matches!(call, Call::Setup { .. }) {
-            eight.fill(1);
-        }
+    rewritten(lent, call, |call, number, word| match call {
+        Call::Setup { .. } if number != 0 => 255,
+        _ => word,
     })
 }
 
 /// A setup with bits that mean nothing leaves that all count.
 fn strict(lent: &mut Lent, call: &mut Call) -> u32 {
-    rewritten(lent, call, |call, number, eight| {
-        if let (0, Call::Setup { setup, .. }) = (number, call) {
-            if setup.left_out > 255 {
-                eight.fill(0);
-            }
-        }
+    rewritten(lent, call, |call, number, word| match call {
+        Call::Setup { setup, .. } if number == 0 && setup.left_out > 255 => 0,
+        _ => word,
     })
 }
 
@@ -379,7 +371,7 @@ fn other_words_are_found() {
     for side in [resetting as Side, forgetting, refusing, strict] {
         for settings in [WHOLE, DIRECT, DAMAGE] {
             let (_, split) = all(&settings, Some(side)).expect_err("a difference");
-            let told = (34..42).any(|at| split.report.contains(&format!("state[{at}]")));
+            let told = split.report.contains("state[34]");
             assert!(told, "{settings:?}: {split:?}");
         }
     }
@@ -404,13 +396,11 @@ fn mended(lent: &mut Lent, call: &mut Call, places: Range<usize>, mend: fn(u64) 
 #[test]
 fn words_that_no_state_has_are_found() {
     const LEFT_OUT: Range<usize> = at::LEFT_OUT..at::USED;
-    let sides: [Side; 4] = [
-        // Whatever is not 0 is yes.
-        |l, c| mended(l, c, LEFT_OUT, |word| word.min(1)),
-        // The last bit says it, or the last byte.
-        |l, c| mended(l, c, LEFT_OUT, |word| word & 1),
+    let sides: [Side; 3] = [
+        // The last byte says it, or there are at most so many.
         |l, c| mended(l, c, LEFT_OUT, |word| word & 255),
-        // Nobody looks behind them.
+        |l, c| mended(l, c, LEFT_OUT, |word| word.min(255)),
+        // Nobody looks behind it.
         |l, c| mended(l, c, at::USED..at::WORDS, |_| 0),
     ];
     for (at, side) in sides.into_iter().enumerate() {

@@ -1,13 +1,12 @@
 -- `daggeryuzu_setup`: the driver's setup through bytes, on as many weights as are lent.
 use mathlib.Core.Path.{_≡_, refl, ap, _∙_}
-use Prim.Native.Nat.{_-_}
+use Prim.Native.Nat.{_-_, _%_}
 use native.Mathlib.Omega.{arith}
 use lib.Dec.{eqb}
 use lib.ListN.{length, take}
 use denote.Ref.{now}
 use Rattle.arithmetic.specs.Number.{bits}
 use Rattle.settings.specs.Settings.{settingsOf, processSpec}
-use Rattle.settings.specs.Counted.{countsOf}
 use Rattle.settings.specs.declared.LimiterSettings.{LimiterSettings}
 use Rattle.settings.specs.declared.ProcessSpec.{ProcessSpec}
 use Rattle.settings.specs.declared.memory.Cap.{Cap}
@@ -38,8 +37,8 @@ from-bits-requires-3 c κs = search needs
 from-bits-requires-4 : tie.Need-from-bits-requires-4
 from-bits-requires-4 c κs = search needs
 
-counts-of-requires : tie.Need-counts-of-requires
-counts-of-requires c κs = search needs
+cast-t33 : tie.Need-cast-t33
+cast-t33 c = search needs
 
 cap-of-requires : tie.Need-cap-of-requires
 cap-of-requires c κs = search needs
@@ -56,7 +55,7 @@ part-prepare-start c = search needs
 part-prepare-end : tie.Need-part-prepare-end
 part-prepare-end c =
     let k = c .before .before .before in
-    let s = c .before .before .before .before .before .before .before .before .before .before .before .before .before .before .before .before .before .before in
+    let s = c .before .before .before .before .before .before .before .before .before .before .before .before .before .before .before .before .before in
     lent-within (eqb (length (now (s .args .state))) stateBytes) (k .lent .result) (length (now (s .args .weights))) (k .lent .ensures)
 
 prepare-requires : tie.Need-prepare-requires
@@ -107,15 +106,14 @@ returns c =
     let k8 = c .before .before .before .before .before .before .before .before .before .before .before .before .before .before .before .before .before .before .before .before .before .before .before .before .before .before .before .before .before .before .before .before in
     let k9 = c .before .before .before .before .before .before .before .before .before .before .before .before .before .before .before .before .before .before .before .before .before .before .before .before .before .before .before .before .before .before .before .before .before in
     let k10 = c .before .before .before .before .before .before .before .before .before .before .before .before .before .before .before .before .before .before .before .before .before .before .before .before .before .before .before .before .before .before .before .before .before .before in
-    let k12 = c .before .before .before .before .before .before .before .before .before .before .before .before .before .before .before .before .before .before .before .before .before .before .before .before .before .before .before .before .before .before .before .before .before .before .before in
-    let k11 = c .before .before .before .before .before .before .before .before .before .before .before .before .before .before .before .before .before .before .before .before .before .before .before .before .before .before .before .before .before .before .before .before .before .before .before .before .before .before .before .before .before .before .before .before in
+    let k11 = c .before .before .before .before .before .before .before .before .before .before .before .before .before .before .before .before .before .before .before .before .before .before .before .before .before .before .before .before .before .before .before .before .before .before .before .before .before .before .before .before .before .before .before in
     let s = stores (k11) in
     let fits = eqb (length (now (k11 .args .state))) stateBytes in
     let part = take (k5 .lent .result - 0) (now (k11 .args .weights)) in
-    let told = settingsOf (bits (k11 .args .threshold-db)) (bits (k11 .args .true-peak-margin-db)) (bits (k11 .args .lookahead-ms)) (bits (k11 .args .release-ms)) (countsOf (k11 .args .left-out)) in
+    let told = settingsOf (bits (k11 .args .threshold-db)) (bits (k11 .args .true-peak-margin-db)) (bits (k11 .args .lookahead-ms)) (bits (k11 .args .release-ms)) (k11 .args .left-out % 256) in
     let spec : Cap → ProcessSpec = λ x. processSpec (k11 .args .rate) (k11 .args .channels) (k11 .args .max-block) x (askedOf (k11 .args .house)) in
-    let given : settingsOf (k10 .from-bits .result) (k9 .from-bits2 .result) (k8 .from-bits3 .result) (k7 .from-bits4 .result) (k12 .counts-of .result) ≡ told =
-    rw (k10 .from-bits .ensures, k9 .from-bits2 .ensures, k8 .from-bits3 .ensures, k7 .from-bits4 .ensures, k12 .counts-of .ensures) refl
+    let given : settingsOf (k10 .from-bits .result) (k9 .from-bits2 .result) (k8 .from-bits3 .result) (k7 .from-bits4 .result) (k11 .args .left-out % 256) ≡ told =
+    rw (k10 .from-bits .ensures, k9 .from-bits2 .ensures, k8 .from-bits3 .ensures, k7 .from-bits4 .ensures) refl
     in
     let asked = spec (capOf (k11 .args .capped) (k11 .args .cap)) in
     let p = k4 .prepare in
@@ -134,11 +132,11 @@ pub daggeryuzu-setup-spec : {M : Type 1} → statement M
 daggeryuzu-setup-spec =
     tie.close
     (tie.spec
-    counts-of-requires
     from-bits-requires
     from-bits-requires-2
     from-bits-requires-3
     from-bits-requires-4
+    cast-t33
     cap-of-requires
     lent-requires
     sub-prepare

@@ -22,8 +22,11 @@ word-at-requires-4 c κs = search needs
 word-at-requires-5 : tie.Need-word-at-requires-5
 word-at-requires-5 c κs = search needs
 
-flags-hold-requires : tie.Need-flags-hold-requires
-flags-hold-requires c κs = search needs
+word-at-requires-6 : tie.Need-word-at-requires-6
+word-at-requires-6 c κs = search needs
+
+word-at-requires-7 : tie.Need-word-at-requires-7
+word-at-requires-7 c κs = search needs
 
 returns : tie.Need-returns
 unfolding holdsState
@@ -39,5 +42,6 @@ holds-state-spec =
     word-at-requires-3
     word-at-requires-4
     word-at-requires-5
-    flags-hold-requires
+    word-at-requires-6
+    word-at-requires-7
     returns)

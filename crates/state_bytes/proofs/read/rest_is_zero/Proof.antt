@@ -10,7 +10,7 @@ use Rattle.state_bytes.proofs.read.rest_is_zero.Statement.{statement}
 use Rattle.state_bytes.proofs.read.rest_is_zero.Tie as tie
 
 abbrev Inv-loop : tie.InvT-loop
-Inv-loop state ok₀ i₀ ok i = (i ≤ 512) × (ok && allZero (drop i state) ≡ allZero (drop 336 state))
+Inv-loop state ok₀ i₀ ok i = (i ≤ 512) × (ok && allZero (drop i state) ≡ allZero (drop 280 state))
 
 abbrev μ-loop : tie.MeasureT-loop
 μ-loop state ok₀ i₀ ok i = 512 - i

@@ -31,20 +31,20 @@ slice-aggregate-put-words-3 c = search needs
 put-words-requires-3 : tie.Need-put-words-requires-3
 put-words-requires-3 c κs = search needs
 
-cast-t30 : tie.Need-cast-t30
-cast-t30 c = search needs
+cast-t29 : tie.Need-cast-t29
+cast-t29 c = search needs
 
 flag-requires : tie.Need-flag-requires
 flag-requires c κs = search needs
+
+cast-t31 : tie.Need-cast-t31
+cast-t31 c = search needs
 
 slice-aggregate-put-words-4 : tie.Need-slice-aggregate-put-words-4
 slice-aggregate-put-words-4 c = search needs
 
 put-words-requires-4 : tie.Need-put-words-requires-4
 put-words-requires-4 c κs = search needs
-
-choice-out-requires : tie.Need-choice-out-requires
-choice-out-requires c κs = search needs
 
 slice-aggregate-put-words-5 : tie.Need-slice-aggregate-put-words-5
 slice-aggregate-put-words-5 c = search needs
@@ -53,52 +53,34 @@ put-words-requires-5 : tie.Need-put-words-requires-5
 put-words-requires-5 c κs =
     omega (
       arith,
-      c .before .before .before .before .before .put-words4 .kept .0,
-      c .before .before .before .before .before .before .before .before .before .before .before .before .put-words3 .kept .0,
-      c .before .before .before .before .before .before .before .before .before .before .before .before .before .before .before .before .before .before .put-words2 .kept .0,
-      c .before .before .before .before .before .before .before .before .before .before .before .before .before .before .before .before .before .before .before .before .before .before .before .before .put-words .kept .0,
-      c .before .before .before .before .before .before .before .before .before .before .before .before .before .before .before .before .before .before .before .before .before .before .before .before .before .before .before .before .before .before .before .pre,
-    )
-
-slice-aggregate-put-words-6 : tie.Need-slice-aggregate-put-words-6
-slice-aggregate-put-words-6 c = search needs
-
-put-words-requires-6 : tie.Need-put-words-requires-6
-put-words-requires-6 c κs =
-    omega (
-      arith,
-      c .before .before .before .before .put-words5 .kept .0,
-      c .before .before .before .before .before .before .before .before .before .before .put-words4 .kept .0,
-      c .before .before .before .before .before .before .before .before .before .before .before .before .before .before .before .before .before .put-words3 .kept .0,
-      c .before .before .before .before .before .before .before .before .before .before .before .before .before .before .before .before .before .before .before .before .before .before .before .put-words2 .kept .0,
-      c .before .before .before .before .before .before .before .before .before .before .before .before .before .before .before .before .before .before .before .before .before .before .before .before .before .before .before .before .before .put-words .kept .0,
-      c .before .before .before .before .before .before .before .before .before .before .before .before .before .before .before .before .before .before .before .before .before .before .before .before .before .before .before .before .before .before .before .before .before .before .before .before .pre,
+      c .before .before .before .before .put-words4 .kept .0,
+      c .before .before .before .before .before .before .before .before .before .before .before .before .before .put-words3 .kept .0,
+      c .before .before .before .before .before .before .before .before .before .before .before .before .before .before .before .before .before .before .before .put-words2 .kept .0,
+      c .before .before .before .before .before .before .before .before .before .before .before .before .before .before .before .before .before .before .before .before .before .before .before .before .before .put-words .kept .0,
+      c .before .before .before .before .before .before .before .before .before .before .before .before .before .before .before .before .before .before .before .before .before .before .before .before .before .before .before .before .before .before .pre,
     )
 
 same-length : tie.Need-same-length
 same-length c =
-    c .before .before .put-words6 .kept .0
-    ∙ c .before .before .before .before .before .before .before .put-words5 .kept .0
-    ∙ c .before .before .before .before .before .before .before .before .before .before .before .before .before .put-words4 .kept .0
-    ∙ c .before .before .before .before .before .before .before .before .before .before .before .before .before .before .before .before .before .before .before .before .put-words3 .kept .0
-    ∙ c .before .before .before .before .before .before .before .before .before .before .before .before .before .before .before .before .before .before .before .before .before .before .before .before .before .before .put-words2 .kept .0
-    ∙ c .before .before .before .before .before .before .before .before .before .before .before .before .before .before .before .before .before .before .before .before .before .before .before .before .before .before .before .before .before .before .before .before .put-words .kept .0
+    c .before .before .put-words5 .kept .0
+    ∙ c .before .before .before .before .before .before .before .put-words4 .kept .0
+    ∙ c .before .before .before .before .before .before .before .before .before .before .before .before .before .before .before .before .put-words3 .kept .0
+    ∙ c .before .before .before .before .before .before .before .before .before .before .before .before .before .before .before .before .before .before .before .before .before .before .put-words2 .kept .0
+    ∙ c .before .before .before .before .before .before .before .before .before .before .before .before .before .before .before .before .before .before .before .before .before .before .before .before .before .before .before .before .put-words .kept .0
 
 returns : tie.Need-returns
 returns c =
-    let s = c .before .before .before .before .before .before .before .before .before .before .before .before .before .before .before .before .before .before .before .before .before .before .before .before .before .before .before .before .before .before .before .before .before .before .before .before .before .before .before in
+    let s = c .before .before .before .before .before .before .before .before .before .before .before .before .before .before .before .before .before .before .before .before .before .before .before .before .before .before .before .before .before .before .before .before .before in
     let a = s .args in
-    written (a .limiter) (a .t) (now (a .state)) (s .pre) _ _ _ _ _ _ _ _ _ _
-    (c .before .before .before .before .before .before .before .before .before .before .before .before .before .before .before .before .before .before .before .before .before .before .before .before .before .before .before .before .before .before .before .before .put-words .ensures)
-    (c .before .before .before .before .before .before .before .before .before .before .before .before .before .before .before .before .before .before .before .before .before .before .before .before .before .before .before .before .limiter-out .ensures)
-    (c .before .before .before .before .before .before .before .before .before .before .before .before .before .before .before .before .before .before .before .before .before .before .before .before .before .before .put-words2 .ensures)
-    (c .before .before .before .before .before .before .before .before .before .before .before .before .before .before .before .before .before .before .before .before .before .before .smoother-out .ensures)
-    (c .before .before .before .before .before .before .before .before .before .before .before .before .before .before .before .before .before .before .before .before .put-words3 .ensures)
-    (c .before .before .before .before .before .before .before .before .before .before .before .before .before .before .before .flag .ensures)
-    (c .before .before .before .before .before .before .before .before .before .before .before .before .before .put-words4 .ensures)
-    (c .before .before .before .before .before .before .before .before .before .choice-out .ensures)
-    (c .before .before .before .before .before .before .before .put-words5 .ensures)
-    (c .before .before .put-words6 .ensures)
+    written (a .limiter) (a .t) (now (a .state)) (s .pre) _ _ _ _ _ _ _ _
+    (c .before .before .before .before .before .before .before .before .before .before .before .before .before .before .before .before .before .before .before .before .before .before .before .before .before .before .before .before .put-words .ensures)
+    (c .before .before .before .before .before .before .before .before .before .before .before .before .before .before .before .before .before .before .before .before .before .before .before .before .limiter-out .ensures)
+    (c .before .before .before .before .before .before .before .before .before .before .before .before .before .before .before .before .before .before .before .before .before .before .put-words2 .ensures)
+    (c .before .before .before .before .before .before .before .before .before .before .before .before .before .before .before .before .before .before .smoother-out .ensures)
+    (c .before .before .before .before .before .before .before .before .before .before .before .before .before .before .before .before .put-words3 .ensures)
+    (c .before .before .before .before .before .before .before .before .before .before .flag .ensures)
+    (c .before .before .before .before .before .before .before .put-words4 .ensures)
+    (c .before .before .put-words5 .ensures)
 
 pub write-parts-spec : {M : Type 1} → statement M
 write-parts-spec =
@@ -112,14 +94,12 @@ write-parts-spec =
     smoother-out-requires
     slice-aggregate-put-words-3
     put-words-requires-3
-    cast-t30
+    cast-t29
     flag-requires
+    cast-t31
     slice-aggregate-put-words-4
     put-words-requires-4
-    choice-out-requires
     slice-aggregate-put-words-5
     put-words-requires-5
-    slice-aggregate-put-words-6
-    put-words-requires-6
     same-length
     returns)
