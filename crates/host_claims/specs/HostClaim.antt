@@ -5,7 +5,7 @@
 --   sentence of the claim holds. The book is the claim's own.
 --
 -- `machineIn state stores` is the limiter which the bytes hold, with its stores: what a C function reads before it calls. Bytes that are no state hold a limiter that was never set up.
-use Prim.Native.Nat.{ℕ, _<_}
+use Prim.Native.Nat.{ℕ, _%_, _<_}
 use mathlib.Core.Path.{_≡_}
 use mathlib.Core.Bool.{cond}
 use mathlib.Core.List.{List, [], _∷_}
