@@ -2,7 +2,7 @@
 use mathlib.Core.Path.{_≡_, refl, sym, ap, _∙_, subst}
 use mathlib.Core.Bool.{Bool, true, false}
 use mathlib.Core.List.{List, [], _∷_, _++_}
-use Prim.Native.Nat.{ℕ, zero, suc, _+_, _*_, _≤_, _<_}
+use Prim.Native.Nat.{ℕ, suc, _+_, _*_, _≤_, _<_}
 use native.Mathlib.Nat.{suc-mul}
 use native.Mathlib.Omega.{arith}
 use lib.ListN.{length, take, drop, length-drop}
@@ -13,11 +13,10 @@ use Rattle.arithmetic.specs.Number.{one}
 use Rattle.arithmetic.proofs.Quotient.{no-less-than-one}
 use Rattle.detector.specs.Oversample.{Pushed, remembered, peakAbsOf}
 use Rattle.detector.proofs.Store.{push-length}
-use Rattle.envelope.specs.Row.{nextPos}
 use Rattle.envelope.specs.Step.{Enveloped, GainStepped, gainStepOf}
-use Rattle.frame.specs.Rules.{Linking, Rules}
-use Rattle.frame.specs.Seat.{Voice, voiceOf, voicesFrom, peakAmong}
-use Rattle.frame.specs.Frame.{heard, Linked, linkedFrom, requiredGain, delayedFrom, Moving, Framed, frameOf}
+use Rattle.frame.specs.Rules.{Linking}
+use Rattle.frame.specs.Seat.{Voice, voiceOf, voicesFrom}
+use Rattle.frame.specs.Frame.{heard, Linked, linkedFrom, requiredGain, Moving, Framed, frameOf}
 use Rattle.frame.specs.Run.{Frames, frameFirst, framesOf, gainsOfFrames}
 use Rattle.frame.proofs.Keeps.{detector-length}
 

@@ -1,5 +1,5 @@
-// Where the highest linked peak of a block sat (Change 5), among the counted channels. A run that has none above the highest so far is only
-// looked through; the frame of a higher one is then heard once more, channel by channel.
+// Where the highest linked peak of a block sat (Change 5), among the counted channels. A run that has none above the
+// highest so far is only looked through; the frame of a higher one is then heard once more, channel by channel.
 ghost use mathlib.Core.Path.{_≡_};
 ghost use mathlib.Core.List.{List};
 ghost use Prim.Native.Nat.{_*_, _≤_, _<_};

@@ -58,8 +58,8 @@ fn hear_run(peaks: &mut [f64], samples: &[f64], answers: &[f64])
     }
 }
 
-// Channel c, which counts, over a run: the detector's answers for its samples are left in `answers`, and their share goes into the
-// peaks. The store stays as it is until `remember_all`.
+// Channel c, which counts, over a run: the detector's answers for its samples are left in `answers`, and their share
+// goes into the peaks. The store stays as it is until `remember_all`.
 fn hear_channel(
     settings: LimiterSettings,
     c: usize,

@@ -252,9 +252,10 @@ written-read bytes s b o =
     let n = length-map (cut 8 stateWords bytes) wordOf ∙ cut-length 8 stateWords bytes in
     ap (λ (p : KernelProcessor). bytesOut 8 (wordsOut p)) (read-held bytes l (t .1)) ∙ ap (bytesOut 8) (words-of-state ws n (t .1) o) ∙ bytes-of-words 8 stateWords bytes l b
 
--- ---- a state that was kept since before Change 7, with nothing from word 34 on, leaves out no channel and has nothing in the room that is left
-pub kept-from-before : (ws : List ℕ) → zerosAt ws 34 30 ≡ true → (stateIn ws .limiter .settings .«left_out» ≡ allCount) × (zerosAt ws 35 29 ≡ true)
+-- ---- a state that was kept since before Change 7, with nothing from word 34 on, leaves out no channel; the word is judged a choice, and the room that is left has nothing
+pub kept-from-before : (ws : List ℕ) → zerosAt ws 34 30 ≡ true → (stateIn ws .limiter .settings .«left_out» ≡ allCount) × ((ltb (getD ws 34 0) 256 ≡ true) × (zerosAt ws 35 29 ≡ true))
 unfolding zerosAt stateIn
 kept-from-before ws h =
     let z = and-true (eqb (getD ws 34 0) 0) (zerosAt ws 35 29) h in
-    (ap (λ (w : ℕ). w % 256) (eqb-true (getD ws 34 0) 0 (z .0)), z .1)
+    let e = eqb-true (getD ws 34 0) 0 (z .0) in
+    (ap (λ (w : ℕ). w % 256) e, (ap (λ (w : ℕ). ltb w 256) e, z .1))

@@ -24,7 +24,7 @@ use Rattle.bank.specs.declared.smoother_bank.SmootherBank.{SmootherBank}
 use Rattle.turns.specs.Machine.{Machine, machineOf, thresholdOf}
 use Rattle.turns.specs.Events.{Event, eventsFrom, eventsOf, latched, latchedAll}
 use Rattle.turns.specs.Block.{renderedIn, period, runAt, blockDone, Outcome}
-use Rattle.turns.specs.Inner.{waitingAt, beforeRun, RunAsked, RunGiven, TurnAsked, TurnGiven, BlockAsked, driven}
+use Rattle.turns.specs.Inner.{waitingAt, beforeRun, RunAsked, RunGiven, TurnAsked, TurnGiven, BlockAsked, AtRest, StillAsked, driven}
 use Rattle.turns.specs.declared.turn.Unfinished.{Unfinished}
 use Rattle.turns.proofs.Turning.{turn-inside, turn-asks, turn-given}
 use Rattle.turns.proofs.Driving.{Driving, driving-start, driving-asks, driving-more, driven-machine, driven-place, driven-audio}
@@ -40,7 +40,7 @@ module _ (format : Format) (m : Machine) (position frames : ℕ) (words bytes : 
   pub still-told : still ≡ true
   still-told = and-true (ltb (length words) 3) still h .1
 
-  no-events : driven format m position frames [] bytes ≡ driven format m position frames words bytes
+  pub no-events : driven format m position frames [] bytes ≡ driven format m position frames words bytes
   no-events = ap (λ (es : List Event). blockDone (renderedIn format m) format m position frames es bytes) (none-in words (ltb-true (length words) 3 (and-true (ltb (length words) 3) still h .0)))
 
   pub same-machine : (after : Machine) → after ≡ driven format m position frames [] bytes .machine → after ≡ driven format m position frames words bytes .machine
@@ -64,55 +64,58 @@ module _ (b : SmootherBank) (still : allChanged stepped b ≡ b) where
   still-before position first = ap (λ (x : SmootherBank). record { bank = x; waiting = [] }) (same-bank (eqb (position % period) 0))
 
 -- ---- the turns
-module _ (format : Format) (position frames : ℕ) (bytes₀ : List ℕ) (m₀ : Machine) (told : Bool) where
+module _ (format : Format) (position frames : ℕ) (bytes₀ : List ℕ) (l₀ : Limiter) (s₀ : Stores) (target : Float) (told : Bool) where
   -- so many of its frames are rendered
   abbrev pub block : ℕ → Highest → Unfinished
   block first highest = record { position = position; frames = frames; rendered = first; latched = 0; highest = highest }
 
-  -- the frames shown so far and what the rest of the runs makes of limiter and stores now are the whole, beside the bank as it was
+  -- beside any bank at rest there, which stays as it is: the frames shown so far and what the rest of the runs makes of limiter and stores now are the whole
   abbrev pub Going : ℕ → Highest → Limiter → Stores → List ℕ → List Float → Type 0
-  Going first h l s bytes run = Driving format position frames [] bytes₀ m₀ told (block first h) (machineOf l (m₀ .bank) s) bytes run
+  Going first h l s bytes run = (b : SmootherBank) → AtRest l₀ target b → Driving format position frames [] bytes₀ (machineOf l₀ b s₀) told (block first h) (machineOf l b s) bytes run
 
-  pub going-start : (run : List Float) → length run ≡ 8 * runLength → BlockAsked m₀ format position frames bytes₀ → (h : Highest) → h ≡ startOf told → Going 0 h (m₀ .limiter) (m₀ .stores) bytes₀ run
-  going-start run fit a h e = driving-start format position frames [] bytes₀ m₀ told run fit a (block 0 h) (ap (block 0) e)
+  module _ (a : StillAsked l₀ target s₀ format position frames bytes₀) where
+    -- no bank is judged
+    asked-of : (b : SmootherBank) → BlockAsked (machineOf l₀ b s₀) format position frames bytes₀
+    asked-of b = record { ready = a .asked .ready; lends = a .asked .lends; far = a .asked .far }
 
-  module _ (asked : BlockAsked m₀ format position frames bytes₀) (target : Float) (T : target ≡ targetOf (thresholdOf (m₀ .bank) .cur) (m₀ .limiter .settings .«true_peak_margin_db»))
-      (first : ℕ) (h : Highest) (l : Limiter) (s : Stores) (bytes : List ℕ) (run : List Float) (d : Going first h l s bytes run) (more : first < frames) (n : ℕ) (N : n ≡ runAt (position + first) (frames - first)) where
-    abbrev m : Machine
-    m = machineOf l (m₀ .bank) s
+    pub going-start : (run : List Float) → length run ≡ 8 * runLength → (h : Highest) → h ≡ startOf told → Going 0 h l₀ s₀ bytes₀ run
+    going-start run fit h e b r = driving-start format position frames [] bytes₀ (machineOf l₀ b s₀) told run fit (asked-of b) (block 0 h) (ap (block 0) e)
 
-    asks : TurnAsked m (block first h) format [] bytes run
-    asks = driving-asks format position frames [] bytes₀ m₀ told asked (block first h) m bytes run d more
+    module _ (first : ℕ) (h : Highest) (l : Limiter) (s : Stores) (bytes : List ℕ) (run : List Float) (d : Going first h l s bytes run) (more : first < frames) (n : ℕ) (N : n ≡ runAt (position + first) (frames - first)) where
+      asks : (b : SmootherBank) → AtRest l₀ target b → TurnAsked (machineOf l b s) (block first h) format [] bytes run
+      asks b r = driving-asks format position frames [] bytes₀ (machineOf l₀ b s₀) told (asked-of b) (block first h) (machineOf l b s) bytes run (d b r) more
 
-    target-is : target ≡ targetOf (thresholdOf (m₀ .bank) .cur) (l .settings .«true_peak_margin_db»)
-    target-is = T ∙ ap (λ (z : LimiterSettings). targetOf (thresholdOf (m₀ .bank) .cur) (z .«true_peak_margin_db»)) (sym (d .settings-are))
+      target-of : (b : SmootherBank) → AtRest l₀ target b → target ≡ targetOf (thresholdOf b .cur) (l .settings .«true_peak_margin_db»)
+      target-of b r = r .target-is ∙ ap (λ (z : LimiterSettings). targetOf (thresholdOf b .cur) (z .«true_peak_margin_db»)) (sym (d b r .settings-are))
 
-    pub going-inside : (1 ≤ n) × (n ≤ runLength) × (first + n ≤ frames)
-    going-inside = turn-inside m (block first h) format [] bytes run asks n N
+      pub going-inside : (1 ≤ n) × (n ≤ runLength) × (first + n ≤ frames)
+      going-inside = turn-inside (machineOf l (a .bank) s) (block first h) format [] bytes run (asks (a .bank) (a .rest)) n N
 
-    pub going-asks : RunAsked l format target frames first n s bytes run
-    going-asks = turn-asks m (block first h) format [] bytes run asks n N target (thresholdOf (m₀ .bank) .cur) (l .settings .«true_peak_margin_db») target-is
+      pub going-asks : RunAsked l format target frames first n s bytes run
+      going-asks =
+          turn-asks (machineOf l (a .bank) s) (block first h) format [] bytes run (asks (a .bank) (a .rest)) n N target (thresholdOf (a .bank) .cur) (l .settings .«true_peak_margin_db») (target-of (a .bank) (a .rest))
 
-    module _ (still : allChanged stepped (m₀ .bank) ≡ m₀ .bank) (after : Limiter) (stores : Stores) (bytes' : List ℕ) (run' : List Float) (g : Highest) (r : RunGiven l format target frames first n s bytes run after stores bytes' run' h g) (R : length run' ≡ length run) where
-      -- a run of frames at this target is a turn
-      given : TurnGiven m (block first h) format [] bytes run (machineOf after (m₀ .bank) stores) (block (first + n) g) bytes' run'
-      given =
-          turn-given m (block first h) format [] bytes run asks n N (record { bank = m₀ .bank; cursor = 0 }) (still-before (m₀ .bank) still (position + first) first) (omega arith) target target-is after stores bytes' run' g r
+      module _ (after : Limiter) (stores : Stores) (bytes' : List ℕ) (run' : List Float) (g : Highest) (r : RunGiven l format target frames first n s bytes run after stores bytes' run' h g) (R : length run' ≡ length run) where
+        -- a run of frames at this target is a turn
+        given : (b : SmootherBank) → AtRest l₀ target b → TurnGiven (machineOf l b s) (block first h) format [] bytes run (machineOf after b stores) (block (first + n) g) bytes' run'
+        given b z =
+            turn-given (machineOf l b s) (block first h) format [] bytes run (asks b z) n N (record { bank = b; cursor = 0 }) (still-before b (z .still) (position + first) first) (omega arith) target (target-of b z) after stores bytes' run' g r
 
-      pub going-more : Going (first + n) g after stores bytes' run'
-      going-more = driving-more format position frames [] bytes₀ m₀ told asked (block first h) m bytes run d more (machineOf after (m₀ .bank) stores) (block (first + n) g) bytes' run' given R
+        pub going-more : Going (first + n) g after stores bytes' run'
+        going-more b z =
+            driving-more format position frames [] bytes₀ (machineOf l₀ b s₀) told (asked-of b) (block first h) (machineOf l b s) bytes run (d b z) more (machineOf after b stores) (block (first + n) g) bytes' run' (given b z) R
 
   -- ---- to the end
-  module _ (first : ℕ) (h : Highest) (l : Limiter) (s : Stores) (bytes : List ℕ) (run : List Float) (d : Going first h l s bytes run) (done : frames ≤ first) where
-    none-left : m₀ .bank ≡ latchedAll (waitingAt [] 0) (m₀ .bank)
+  module _ (first : ℕ) (h : Highest) (l : Limiter) (s : Stores) (bytes : List ℕ) (run : List Float) (d : Going first h l s bytes run) (done : frames ≤ first) (b : SmootherBank) (r : AtRest l₀ target b) where
+    none-left : b ≡ latchedAll (waitingAt [] 0) b
     unfolding latchedAll eventsFrom
     none-left = refl
 
-    pub gone-machine : machineOf l (m₀ .bank) s ≡ driven format m₀ position frames [] bytes₀ .machine
-    gone-machine = driven-machine format position frames [] bytes₀ m₀ told (block first h) (machineOf l (m₀ .bank) s) bytes run d done (m₀ .bank) none-left
+    pub gone-machine : machineOf l b s ≡ driven format (machineOf l₀ b s₀) position frames [] bytes₀ .machine
+    gone-machine = driven-machine format position frames [] bytes₀ (machineOf l₀ b s₀) told (block first h) (machineOf l b s) bytes run (d b r) done b none-left
 
-    pub gone-place : placeIn h ≡ placeTold told (peaksOfFrames (driven format m₀ position frames [] bytes₀ .frames))
-    gone-place = driven-place format position frames [] bytes₀ m₀ told (block first h) (machineOf l (m₀ .bank) s) bytes run d done (m₀ .bank) none-left
+    pub gone-place : placeIn h ≡ placeTold told (peaksOfFrames (driven format (machineOf l₀ b s₀) position frames [] bytes₀ .frames))
+    gone-place = driven-place format position frames [] bytes₀ (machineOf l₀ b s₀) told (block first h) (machineOf l b s) bytes run (d b r) done b none-left
 
-    pub gone-audio : bytes ≡ driven format m₀ position frames [] bytes₀ .bytes
-    gone-audio = driven-audio format position frames [] bytes₀ m₀ told (block first h) (machineOf l (m₀ .bank) s) bytes run d done (m₀ .bank) none-left
+    pub gone-audio : bytes ≡ driven format (machineOf l₀ b s₀) position frames [] bytes₀ .bytes
+    gone-audio = driven-audio format position frames [] bytes₀ (machineOf l₀ b s₀) told (block first h) (machineOf l b s) bytes run (d b r) done b none-left

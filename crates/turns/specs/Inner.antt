@@ -20,8 +20,11 @@ use Rattle.frame.specs.declared.highest.Highest.{Highest}
 use Rattle.limiter.specs.Stores.{Stores, lengthsOf, lengthsFit}
 use Rattle.limiter.specs.Order
 use Rattle.limiter.specs.declared.state.Limiter.{Limiter}
+use Rattle.settings.specs.Target.{targetOf}
+use Rattle.bank.specs.Smoother.{stepped}
+use Rattle.bank.specs.Bank.{allChanged}
 use Rattle.bank.specs.declared.smoother_bank.SmootherBank.{SmootherBank}
-use Rattle.turns.specs.Machine.{Machine}
+use Rattle.turns.specs.Machine.{Machine, machineOf, thresholdOf}
 use Rattle.turns.specs.Events.{Event, eventsFrom, eventsOf, Latched, latched}
 use Rattle.turns.specs.Block.{Rendered, rendered, renderedIn, runAt, bankAt, Turn, turnBy, farthest, Outcome, outputsOf, blockDone}
 use Rattle.turns.specs.Drain.{silence}
@@ -116,6 +119,17 @@ pub record BlockAsked (m : Machine) (format : Format) (position frames : ℕ) (b
   pub ready : RunsReady (m .limiter) frames (m .stores)
   pub lends : Lends (m .limiter) format frames bytes
   pub far : position + frames ≤ farthest
+
+-- a bank that a step leaves alone, and the target of its threshold
+pub record AtRest (l : Limiter) (target : Float) (b : SmootherBank) : Type 0 where
+  pub target-is : target ≡ targetOf (thresholdOf b .cur) (l .settings .«true_peak_margin_db»)
+  pub still : allChanged stepped b ≡ b
+
+-- a block with no event is asked for, and some bank rests at the target
+pub record StillAsked (l : Limiter) (target : Float) (s : Stores) (format : Format) (position frames : ℕ) (bytes : List ℕ) : Type 0 where
+  pub bank : SmootherBank
+  pub rest : AtRest l target bank
+  pub asked : BlockAsked (machineOf l bank s) format position frames bytes
 
 -- what they leave
 abbrev pub driven : Format → Machine → ℕ → ℕ → List ℕ → List ℕ → Outcome

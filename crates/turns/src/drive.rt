@@ -1,13 +1,12 @@
 // The turns of a block (driver.rs: `drive`).
 ghost use mathlib.Core.Path.{_≡_};
 ghost use mathlib.Core.List.{[]};
-ghost use Rattle.bank.specs.Smoother.{stepped};
-ghost use Rattle.bank.specs.Bank.{allChanged};
+ghost use Rattle.bank.specs.declared.smoother_bank.SmootherBank.{SmootherBank};
 ghost use Rattle.limiter.specs.Stores.{atEntry, atExit, atCall};
 ghost use Rattle.turns.specs.Machine.{machineOf};
 ghost use Rattle.frame.specs.Run.{peaksOfFrames};
-ghost use Rattle.frame.specs.Place.{placeAt, placeTold};
-ghost use Rattle.turns.specs.Inner.{BlockAsked, driven};
+ghost use Rattle.frame.specs.Place.{placeAt, placeIn, placeTold};
+ghost use Rattle.turns.specs.Inner.{BlockAsked, AtRest, StillAsked, driven};
 use crate::events::latch_rest;
 use crate::turn::Unfinished;
 use crate::turn::render_frames;
@@ -31,11 +30,11 @@ pub struct Driven {
     pub seat: Seat,
 }
 
-// A block with no event and a bank that a step leaves alone: every run has the same target, found
-// once, and the bank is not copied from run to run.
-fn drive_still(
+// A block with no event, at the target of a bank that a step leaves alone: every run has that target. The bank, which
+// is large, is neither lent nor given back.
+pub fn drive_still(
     limiter: Limiter,
-    bank: SmootherBank,
+    target: f64,
     format: Format,
     position: u64,
     frames: usize,
@@ -47,20 +46,18 @@ fn drive_still(
     row: &mut [f64],
     detector: &mut [f64],
     asked: bool,
-) -> Driven
-    requires { ⌜ BlockAsked (machineOf limiter bank (atCall delay marks minima weights row detector)) format position frames (now audio) ⌝ }
-    requires { ⌜ allChanged stepped bank ≡ bank ⌝ }
-    ensures { λ r. ⌜ machineOf (r .limiter) (r .bank) (atExit delay marks minima weights row detector)
-        ≡ driven format (machineOf limiter bank (atEntry delay marks minima weights row detector)) position frames
-        [] (now (audio .entry)) .machine ⌝ }
-    ensures { λ _. ⌜ now (audio .exit)
-        ≡ driven format (machineOf limiter bank (atEntry delay marks minima weights row detector)) position frames
-        [] (now (audio .entry)) .bytes ⌝ }
-    ensures { λ r. ⌜ placeAt (r .frame) (r .seat)
-        ≡ placeTold asked (peaksOfFrames (driven format (machineOf limiter bank (atEntry delay marks minima weights row detector)) position frames
-        [] (now (audio .entry)) .frames)) ⌝ }
+) -> Moved
+    requires { ⌜ StillAsked limiter target (atCall delay marks minima weights row detector) format position frames (now audio) ⌝ }
+    ensures { λ r. ⌜ ((b : SmootherBank) → AtRest limiter target b → machineOf (r .limiter) b (atExit delay marks minima weights row detector)
+        ≡ driven format (machineOf limiter b (atEntry delay marks minima weights row detector)) position frames
+        [] (now (audio .entry)) .machine) ⌝ }
+    ensures { λ _. ⌜ ((b : SmootherBank) → AtRest limiter target b → now (audio .exit)
+        ≡ driven format (machineOf limiter b (atEntry delay marks minima weights row detector)) position frames
+        [] (now (audio .entry)) .bytes) ⌝ }
+    ensures { λ r. ⌜ ((b : SmootherBank) → AtRest limiter target b → placeIn (r .highest)
+        ≡ placeTold asked (peaksOfFrames (driven format (machineOf limiter b (atEntry delay marks minima weights row detector)) position frames
+        [] (now (audio .entry)) .frames))) ⌝ }
 {
-    let target = target_now(limiter, bank);
     let mut run = run_room();
     // what a run leaves is handed to the next one as it came back: taken apart, it would be copied each time
     let mut moved = Moved {
@@ -91,19 +88,11 @@ fn drive_still(
         );
         first += n;
     }
-    let limiter = moved.limiter;
-    let highest = moved.highest;
-    let seat = highest.seat;
-    Driven {
-        limiter,
-        bank,
-        frame: highest.frame,
-        seat,
-    }
+    moved
 }
 
 // A block, turn by turn.
-fn drive_turns(
+pub fn drive_turns(
     limiter: Limiter,
     bank: SmootherBank,
     format: Format,
@@ -211,9 +200,9 @@ pub fn drive(
 {
     // most blocks: no whole event, and a bank at rest
     if (events.len() < 3) & bank.is_still() {
-        return drive_still(
+        let moved = drive_still(
             limiter,
-            bank,
+            target_now(limiter, bank),
             format,
             position,
             frames,
@@ -226,6 +215,15 @@ pub fn drive(
             detector,
             asked,
         );
+        let limiter = moved.limiter;
+        let highest = moved.highest;
+        let seat = highest.seat;
+        return Driven {
+            limiter,
+            bank,
+            frame: highest.frame,
+            seat,
+        };
     }
     drive_turns(
         limiter,
