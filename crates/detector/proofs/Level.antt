@@ -255,10 +255,22 @@ stays ceiling store samples h = go (within leastCeiling Number.one ceiling) refl
         at-level false e n p q = silence-below store samples n p q
 
 -- ---- `lies_within`
-pub lies-in : (store samples : List Float) (level : Float) (a b : Bool) → length store ≡ remembered → a ≡ allWithin level store → b ≡ allWithin level samples
-    → a && b ≡ liesWithin store samples level
+pub lies-in : (store samples : List Float) (level : Float) (a b : Bool) → length store ≡ remembered → a ≡ allWithin level store → b ≡ allWithin level samples → b ≡ true
+    → a ≡ liesWithin store samples level
 unfolding liesWithin
-lies-in store samples level a b n e f = rw (eq-eqb (length store) remembered n, e, f) refl
+lies-in store samples level a b n e f h = rw (eq-eqb (length store) remembered n, ← e, ← f, h) (and-last a)
+  where
+    and-last : (a : Bool) → a ≡ (a && true)
+    and-last true = refl
+    and-last false = refl
+
+pub lies-loud : (store samples : List Float) (level : Float) (b : Bool) → length store ≡ remembered → b ≡ allWithin level samples → b ≡ false → false ≡ liesWithin store samples level
+unfolding liesWithin
+lies-loud store samples level b n f h = rw (eq-eqb (length store) remembered n, ← f, h) (none-last (allWithin level store))
+  where
+    none-last : (a : Bool) → false ≡ (a && false)
+    none-last true = refl
+    none-last false = refl
 
 pub lies-out : (store samples : List Float) (level : Float) → (length store ≡ remembered → ⊥) → false ≡ liesWithin store samples level
 unfolding liesWithin

@@ -52,5 +52,9 @@ pub fn lies_within(store: &[f64], samples: &[f64], level: f64) -> bool
     if store.len() != 12 {
         return false;
     }
-    all_within(level, store) & all_within(level, samples)
+    // two tests, not one: the twelve are then compared several in one instruction
+    if !all_within(level, samples) {
+        return false;
+    }
+    all_within(level, store)
 }

@@ -1,13 +1,14 @@
 -- Why a channel within the level for a ceiling may be passed over: the linked peaks stay alike, and alike peaks need the same gain.
 use mathlib.Core.Path.{_≡_, refl, sym, ap, _∙_, subst}
 use mathlib.Core.Logic.{_⊎_, inl, inr, ⊎-elim}
-use mathlib.Core.Bool.{Bool, true, false, not, cond}
-use mathlib.Core.List.{List, [], _∷_}
+use mathlib.Core.Bool.{Bool, true, false, not, cond, _&&_, _||_}
+use mathlib.Core.List.{List, [], _∷_, map}
 use Prim.Native.Nat.{ℕ, zero, suc, _+_, _*_, _≤_, _<_}
 use native.Mathlib.Nat.{suc-inj}
 use native.Mathlib.Omega.{arith}
 use lib.ListN.{length, take, drop, replicate}
 use lib.Ieee.{Float, lt, le}
+use borrow.Author.Tests.{not-true}
 use Rattle.arithmetic.specs.Number
 use Rattle.arithmetic.specs.Number.{one, absOf, signOf, maxOf, within}
 use Rattle.arithmetic.specs.Sanitize.{finiteOrZero}
@@ -28,7 +29,7 @@ use Rattle.frame.specs.Rules.{Linking, tapsOf, linkingOf}
 use Rattle.frame.specs.Frame.{requiredGain}
 use Rattle.frame.specs.Passes.{allFromZero, heardAll, Peaks, channelPeaks, peaksPass, requiredAll}
 use Rattle.frame.specs.Alike.{ceilingOf, Alike, AllAlike, none, some}
-use Rattle.frame.proofs.Heard.{above, max-is}
+use Rattle.frame.proofs.Heard.{above, max-is, zeros-length}
 use Rattle.frame.proofs.Channels.{peaks-start, sharesSince, shares-done, shares-more}
 
 -- ---- one value
@@ -203,3 +204,25 @@ module _ (settings : LimiterSettings) (ceiling : Float) (channels n : ℕ) (dete
   sharing-more c k1 k2 level peaks after total s h e1 e2 v o =
       let next = channelPeaks (linkingOf settings) c (s .whole) (take k1 (drop (c * remembered) detector)) (take k2 (drop (c * runLength) audio)) in
       record { whole = next .peaks; alike = o ceiling (s .whole) v (s .alike); since = shares-more (linkingOf settings) channels n c (s .whole) detector audio k1 k2 h e1 e2 ∙ s .since }
+
+-- ---- nothing heard
+-- a channel more: where none so far was heard and it is not, the peaks are as they were
+pub unheard-more : (heard more : Bool) (peaks₀ peaks peaks' : List Float) → (heard ≡ false → peaks ≡ peaks₀) → (more ≡ false → peaks' ≡ peaks) → heard || more ≡ false → peaks' ≡ peaks₀
+unheard-more true more peaks₀ peaks peaks' f g h = clash true refl h
+unheard-more false true peaks₀ peaks peaks' f g h = clash true refl h
+unheard-more false false peaks₀ peaks peaks' f g h = g refl ∙ f refl
+
+-- the places are counted by the peaks themselves
+pub zeros-here : (n : ℕ) (peaks : List Float) → peaks ≡ replicate n Number.zero → peaks ≡ replicate (length peaks) Number.zero
+zeros-here n peaks e = e ∙ ap (λ (k : ℕ). replicate k Number.zero) (sym (zeros-length n peaks e))
+
+-- up to a target of 0 or more no peak of 0 asks for less than 1
+pub unheard-gains : (heard : Bool) (target : Float) (peaks gains : List Float) → (heard ≡ false → peaks ≡ replicate (length peaks) Number.zero) → not heard && le Number.zero target ≡ true → gains ≡ replicate (length peaks) one
+    → gains ≡ map (λ (p : Float). requiredGain target p) peaks
+unheard-gains heard target peaks gains z h e =
+    let k = and-true (not heard) (le Number.zero target) h in
+    e ∙ ones (k .1) (length peaks) ∙ ap (map (λ (p : Float). requiredGain target p)) (sym (z (not-true heard (k .0))))
+  where
+    ones : le Number.zero target ≡ true → (n : ℕ) → replicate n one ≡ map (λ (p : Float). requiredGain target p) (replicate n Number.zero)
+    ones t zero = refl
+    ones t (suc n) = rw (no-less-than-one target Number.zero refl t) (ap (λ (gs : List Float). one ∷ gs) (ones t n))

@@ -1,9 +1,11 @@
 // The gain applied to each frame of a run.
 ghost use mathlib.Core.Path.{_≡_};
+ghost use mathlib.Core.Bool.{false};
 ghost use mathlib.Core.List.{[], _∷_, map};
 ghost use Prim.Native.Nat.{ℕ, _+_, _≤_, _<_};
-ghost use lib.ListN.{length};
+ghost use lib.ListN.{length, replicate};
 ghost use lib.Ieee.{Float};
+ghost use Rattle.arithmetic.specs.Number.{zero};
 ghost use Rattle.keeper.specs.InOrder.{mostFrames};
 ghost use Rattle.envelope.specs.Step.{envelopedAt, gainStepAt, gainStepOf, EnvReady};
 ghost use Rattle.frame.specs.Frame.{requiredGain};
@@ -12,6 +14,7 @@ use arithmetic::number::min;
 use envelope::env::Envelope;
 use envelope::env::GainStep;
 use envelope::follow::follow_all;
+use keeper::fill;
 
 // Below the target the ratio exceeds one and becomes unity, so there is no case of its own for it.
 fn required_gain(target: f64, peak: f64) -> f64
@@ -20,10 +23,16 @@ fn required_gain(target: f64, peak: f64) -> f64
     min(target / peak, 1.0)
 }
 
-// The required gain of each frame, in its peak's place.
-pub fn required_gains(target: f64, peaks: &mut [f64])
+// The required gain of each frame, in its peak's place. Where nothing was heard every peak is 0, and no quotient is
+// computed for it.
+pub fn required_gains(heard: bool, target: f64, peaks: &mut [f64])
+    requires { ⌜ (heard ≡ false → now peaks ≡ replicate (length (now peaks)) zero) ⌝ }
     ensures { λ _. ⌜ now (peaks .exit) ≡ map (λ (p : Float). requiredGain target p) (now (peaks .entry)) ⌝ }
 {
+    if !heard & (0.0 <= target) {
+        fill(peaks, 1.0);
+        return;
+    }
     let n = peaks.len();
     for i in 0..n {
         peaks[i] = required_gain(target, peaks[i]);

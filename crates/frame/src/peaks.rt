@@ -1,7 +1,7 @@
 // The peak of each frame of a run: the largest sanitized magnitude or detector answer over the counted channels. A
 // channel too quiet to be noticed is passed over.
 ghost use mathlib.Core.Path.{_≡_};
-ghost use mathlib.Core.Bool.{true};
+ghost use mathlib.Core.Bool.{true, false};
 ghost use mathlib.Core.List.{List};
 ghost use Prim.Native.Nat.{_+_, _*_, _≤_, _<_};
 ghost use lib.ListN.{length, replicate};
@@ -107,7 +107,7 @@ fn channel_peaks(
 
 // Channel c over a run. One that does not count has no share. Where its samples lie within the level for a ceiling,
 // they and the detector's answers are at most the ceiling, or silent: a share that nobody notices who asks only for
-// what is above it. Either way no sum is computed.
+// what is above it. Either way no sum is computed, and the answer is that nothing was heard.
 fn hear_or_pass(
     settings: LimiterSettings,
     c: usize,
@@ -115,7 +115,7 @@ fn hear_or_pass(
     store: &[f64],
     samples: &[f64],
     peaks: &mut [f64],
-)
+) -> bool
     requires { ⌜ length (now store) ≡ remembered ⌝ }
     requires { ⌜ length (now samples) ≡ length (now peaks) ⌝ }
     requires { ⌜ length (now samples) ≤ runLength ⌝ }
@@ -123,17 +123,20 @@ fn hear_or_pass(
     requires { ⌜ c < 8 ⌝ }
     ensures { λ _. ⌜ ((ceiling : Float) (whole : List Float) → level ≡ levelOf ceiling → AllAlike ceiling (now (peaks .entry)) whole
         → AllAlike ceiling (now (peaks .exit)) (channelPeaks (linkingOf settings) c whole (now (store .entry)) (now (samples .entry)) .peaks)) ⌝ }
+    ensures { λ r. ⌜ (r ≡ false → now (peaks .exit) ≡ now (peaks .entry)) ⌝ }
 {
     if !counts_in(settings, c) {
-        return;
+        return false;
     }
     if lies_within(store, samples, level) {
-        return;
+        return false;
     }
     channel_peaks(settings, c, store, samples, peaks);
+    true
 }
 
-// All channels over a run of n frames. The peaks left are the definition's, or both are at most the ceiling.
+// All channels over a run of n frames. The peaks left are the definition's, or both are at most the ceiling. Whether
+// any channel was heard: where none was, they are as they were.
 pub fn all_peaks(
     settings: LimiterSettings,
     ceiling: f64,
@@ -142,7 +145,7 @@ pub fn all_peaks(
     audio: &[f64],
     detector: &[f64],
     peaks: &mut [f64],
-)
+) -> bool
     requires { ⌜ channels ≤ 8 ⌝ }
     requires { ⌜ n ≤ runLength ⌝ }
     requires { ⌜ length (now audio) ≡ 8 * runLength ⌝ }
@@ -150,12 +153,14 @@ pub fn all_peaks(
     requires { ⌜ now peaks ≡ replicate n zero ⌝ }
     ensures { λ _. ⌜ AllAlike ceiling (now (peaks .exit))
         (peaksPass (linkingOf settings) 0 channels n (now (peaks .entry)) (now (detector .entry)) (now (audio .entry)) .peaks) ⌝ }
+    ensures { λ r. ⌜ (r ≡ false → now (peaks .exit) ≡ now (peaks .entry)) ⌝ }
 {
     let level = level_below(ceiling);
+    let mut heard = false;
     for c in 0..channels {
         let at = c * 12;
         let first = c * 32;
-        hear_or_pass(
+        let some = hear_or_pass(
             settings,
             c,
             level,
@@ -163,7 +168,9 @@ pub fn all_peaks(
             &audio[first..first + n],
             peaks,
         );
+        heard = heard | some;
     }
+    heard
 }
 
 // What the detector remembers of a run of n frames, for every channel, counted or not.

@@ -64,10 +64,10 @@ fn render_in(
         (movingAtEntry env pos delay marks minima row detector) (framesIn channels n (now (audio .entry))) .frames) ⌝ }
 {
     let ceiling = ceiling_of(target, best.peak);
-    all_peaks(settings, ceiling, channels, n, audio, detector, gains);
+    let heard = all_peaks(settings, ceiling, channels, n, audio, detector, gains);
     let highest = highest_in(settings, channels, n, first, best, gains, audio, detector);
     remember_all(settings, channels, n, audio, detector);
-    required_gains(target, gains);
+    required_gains(heard, target, gains);
     let last = gain_steps(env, marks, minima, weights, row, coeff, gains);
     let after = last.env;
     let next = all_outputs(format, channels, look, pos, n, gains, delay, audio);

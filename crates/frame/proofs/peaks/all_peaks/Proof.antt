@@ -1,5 +1,5 @@
 -- `all_peaks`: the peaks stay alike to peaks from which the rest makes the whole.
-use Rattle.frame.proofs.Alike.{Sharing, sharing-start, sharing-done, sharing-more, alike-from-zero}
+use Rattle.frame.proofs.Alike.{Sharing, sharing-start, sharing-done, sharing-more, alike-from-zero, unheard-more}
 use Rattle.frame.proofs.Heard.{zeros-length}
 use Rattle.frame.specs.Passes.{peaksPass}
 use Rattle.frame.specs.Rules.{linkingOf}
@@ -7,17 +7,18 @@ use denote.Ref.{now}
 use lib.ListN.{length}
 use native.Mathlib.Omega.{arith}
 use Prim.Native.Nat.{_+_, _-_, _*_, _≤_}
-use mathlib.Core.Path.{_≡_, sym, _∙_}
+use mathlib.Core.Path.{_≡_, refl, sym, _∙_}
+use mathlib.Core.Bool.{false}
 use borrow.Author.Needs.{needs}
 use Rattle.frame.proofs.peaks.all_peaks.Statement.{statement}
 use Rattle.frame.proofs.peaks.all_peaks.Tie as tie
 
 abbrev Inv-loop : tie.InvT-loop
-Inv-loop settings ceiling channels n audio detector peaks₀ level c₀ peaks c =
-    (c ≤ channels) × (length peaks ≡ n) × (Sharing (linkingOf settings) ceiling channels n c peaks detector audio (peaksPass (linkingOf settings) 0 channels n peaks₀ detector audio .peaks))
+Inv-loop settings ceiling channels n audio detector peaks₀ level heard₀ c₀ peaks heard c =
+    (c ≤ channels) × (length peaks ≡ n) × (Sharing (linkingOf settings) ceiling channels n c peaks detector audio (peaksPass (linkingOf settings) 0 channels n peaks₀ detector audio .peaks)) × (heard ≡ false → peaks ≡ peaks₀)
 
 abbrev μ-loop : tie.MeasureT-loop
-μ-loop settings ceiling channels n audio detector peaks₀ level c₀ peaks c = channels - c
+μ-loop settings ceiling channels n audio detector peaks₀ level heard₀ c₀ peaks heard c = channels - c
 
 level-below-requires : tie.Need-level-below-requires Inv-loop μ-loop
 level-below-requires c κs = search needs
@@ -27,7 +28,7 @@ loop-holds c =
     let s = c .before .before .before .before in
     let a = s .args in
     let z = s .pre .1 .1 .1 .1 in
-    (search needs, zeros-length (a .n) (now (a .peaks)) z, sharing-start (a .settings) (a .ceiling) (a .channels) (a .n) (now (a .detector)) (now (a .audio)) (now (a .peaks)) z)
+    (search needs, zeros-length (a .n) (now (a .peaks)) z, sharing-start (a .settings) (a .ceiling) (a .channels) (a .n) (now (a .detector)) (now (a .audio)) (now (a .peaks)) z, λ h. refl)
 
 mul-at : tie.Need-mul-at Inv-loop μ-loop
 mul-at c = search needs
@@ -86,7 +87,8 @@ loop-again c =
       o .kept .1 .1 .1 .1 .1 .0 ∙ l .loop .inv .1,
       sharing-more (a .settings) (a .ceiling) (a .channels) (a .n) (now (a .detector)) (now (a .audio)) (l .loop .c) (l .loop .c * 12 + 12 - l .loop .c * 12) (l .loop .c * 32 + a .n - l .loop .c * 32) (l .before .level-below .result) (l .loop .peaks)
           (o .last .1 .1 .1 .1 .1 .0) (peaksPass (linkingOf (a .settings)) 0 (a .channels) (a .n) (now (a .peaks)) (now (a .detector)) (now (a .audio)) .peaks)
-          (l .loop .inv .2) (search needs) (omega arith) (omega arith) (l .before .level-below .ensures) (o .ensures),
+          (l .loop .inv .2) (search needs) (omega arith) (omega arith) (l .before .level-below .ensures) (o .ensures .0),
+      unheard-more (l .loop .heard) (o .result) (now (a .peaks)) (l .loop .peaks) (o .last .1 .1 .1 .1 .1 .0) (l .loop .inv .3) (o .ensures .1),
     )
 
 same-length : tie.Need-same-length Inv-loop μ-loop
@@ -99,8 +101,8 @@ returns : tie.Need-returns Inv-loop μ-loop
 returns c =
     let l = c .before in
     let a = l .before .before .before .before .before .args in
-    sharing-done (a .settings) (a .ceiling) (a .channels) (a .n) (now (a .detector)) (now (a .audio)) (l .loop .c) (l .loop .peaks) (peaksPass (linkingOf (a .settings)) 0 (a .channels) (a .n) (now (a .peaks)) (now (a .detector)) (now (a .audio)) .peaks)
-    (search needs) (l .loop .inv .2)
+    (sharing-done (a .settings) (a .ceiling) (a .channels) (a .n) (now (a .detector)) (now (a .audio)) (l .loop .c) (l .loop .peaks) (peaksPass (linkingOf (a .settings)) 0 (a .channels) (a .n) (now (a .peaks)) (now (a .detector)) (now (a .audio)) .peaks)
+    (search needs) (l .loop .inv .2), l .loop .inv .3)
 
 pub all-peaks-spec : {M : Type 1} → statement M
 all-peaks-spec =

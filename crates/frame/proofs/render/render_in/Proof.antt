@@ -13,7 +13,7 @@ use Rattle.frame.specs.Run.{movingAt}
 use Rattle.frame.specs.Passes.{peaksPass, gainsAt, writtenAt}
 use Rattle.frame.specs.Alike.{AllAlike}
 use Rattle.frame.proofs.Heard.{zeros-length}
-use Rattle.frame.proofs.Alike.{same-gains}
+use Rattle.frame.proofs.Alike.{same-gains, zeros-here}
 use Rattle.frame.proofs.Exchange.{run-done}
 use Rattle.frame.proofs.Voices.{run-places}
 use Rattle.frame.proofs.render.render_in.Statement.{statement}
@@ -44,7 +44,10 @@ remember-all-requires c κs =
     (r .most, (r .short, (r .audio-fit, r .detector-fit)))
 
 required-gains-requires : tie.Need-required-gains-requires
-required-gains-requires c κs = search needs
+required-gains-requires c κs =
+    let p = c .before .before .before .before .before .before .before .before .before .before .before .before in
+    let s = p .before .before .before .before .before .before .before .before .before .before .before .before .before in
+    λ h. zeros-here (s .args .n) (p .all-peaks .last .1 .1 .1 .1 .1 .1 .0) (p .all-peaks .ensures .1 h ∙ s .pre .1 .1)
 
 gain-steps-requires : tie.Need-gain-steps-requires
 gain-steps-requires c κs =
@@ -52,7 +55,7 @@ gain-steps-requires c κs =
     let p = q .before .before .before .before .before .before .before .before .before .before .before .before .before in
     let s = p .before .before .before .before .before .before .before .before .before .before .before .before .before in
     let r = s .pre .0 in
-    let many = q .required-gains .kept .1 .0 ∙ p .all-peaks .kept .1 .1 .1 .1 .1 .1 .0 ∙ so-many s in
+    let many = q .required-gains .kept .1 .1 .0 ∙ p .all-peaks .kept .1 .1 .1 .1 .1 .1 .0 ∙ so-many s in
     (r .env, rw many (r .room))
 
 all-outputs-requires : tie.Need-all-outputs-requires
@@ -62,7 +65,7 @@ all-outputs-requires c κs =
     let p = q .before .before .before .before .before .before .before .before .before .before .before .before .before in
     let s = p .before .before .before .before .before .before .before .before .before .before .before .before .before in
     let r = s .pre .0 in
-    let many = g .gain-steps .kept .1 .1 .1 .1 .1 .1 .0 ∙ q .required-gains .kept .1 .0 ∙ p .all-peaks .kept .1 .1 .1 .1 .1 .1 .0 ∙ so-many s in
+    let many = g .gain-steps .kept .1 .1 .1 .1 .1 .1 .0 ∙ q .required-gains .kept .1 .1 .0 ∙ p .all-peaks .kept .1 .1 .1 .1 .1 .1 .0 ∙ so-many s in
     (r .some, (r .most, (r .short, (r .place, (r .audio-fit, (r .delay-fit, (many, r .clean)))))))
 
 same-length : tie.Need-same-length
@@ -88,7 +91,7 @@ same-length-7 c =
     let g = c .before .before .before .before .before .before .before .before .before .before .before .before .before .before .before .before .before in
     let q = g .before .before .before .before .before .before .before in
     let p = q .before .before .before .before .before .before .before .before .before .before .before .before .before in
-    g .gain-steps .kept .1 .1 .1 .1 .1 .1 .0 ∙ q .required-gains .kept .1 .0 ∙ p .all-peaks .kept .1 .1 .1 .1 .1 .1 .0
+    g .gain-steps .kept .1 .1 .1 .1 .1 .1 .0 ∙ q .required-gains .kept .1 .1 .0 ∙ p .all-peaks .kept .1 .1 .1 .1 .1 .1 .0
 
 returns : tie.Need-returns
 returns c =
@@ -109,11 +112,11 @@ returns c =
     let moving = movingAt (a .env) (a .pos) (now (a .delay)) (now (a .marks)) (now (a .minima)) (now (a .row)) (now (a .detector)) in
     let whole = peaksPass (linkingOf (a .settings)) 0 (a .channels) (a .n) zs (now (a .detector)) audio .peaks in
     let enough : a .channels * runLength ≤ length audio = omega (arith, r .most, r .audio-fit) in
-    let alike = subst (λ (z : Float). AllAlike z peaks whole) e (p .all-peaks .ensures) in
+    let alike = subst (λ (z : Float). AllAlike z peaks whole) e (p .all-peaks .ensures .0) in
     let gains = gainsAt (g .gain-steps .result .env) (g .gain-steps .last .1 .0) (g .gain-steps .last .1 .1 .0) (g .gain-steps .last .1 .1 .1 .1 .0) (g .gain-steps .last .1 .1 .1 .1 .1 .1 .0) in
     let written = writtenAt (o .all-outputs .last .1 .1 .1 .1 .1 .1 .1 .0) (o .all-outputs .last .1 .1 .1 .1 .1 .1 .0) in
     let done = run-done rules (now (a .weights)) (a .coeff) (a .look) (a .target) (a .channels) (a .n) moving audio (r .short) (r .delay-fit) (r .detector-fit) enough
-    zs (m .remember-all .last .1 .1 .1 .1 .0) (q .required-gains .last .1 .0) gains (s .pre .1 .1) (m .remember-all .ensures zs) (q .required-gains .ensures ∙ same-gains (a .target) (a .best .peak) peaks whole alike) (g .gain-steps .ensures .0)
+    zs (m .remember-all .last .1 .1 .1 .1 .0) (q .required-gains .last .1 .1 .0) gains (s .pre .1 .1) (m .remember-all .ensures zs) (q .required-gains .ensures ∙ same-gains (a .target) (a .best .peak) peaks whole alike) (g .gain-steps .ensures .0)
     written (o .all-outputs .result) (o .all-outputs .ensures .0) (o .all-outputs .ensures .1) in
     let places = run-places rules (now (a .weights)) (a .coeff) (a .look) (a .target) (a .channels) (a .n) moving audio zs (r .short) (r .detector-fit) enough (s .pre .1 .1) in
     (done .0, (h .highest-in .ensures (a .target) whole alike ∙ ap (highestFrom (a .first) (a .best)) places, done .1))
