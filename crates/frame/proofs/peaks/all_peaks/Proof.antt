@@ -100,9 +100,11 @@ same-length c =
 returns : tie.Need-returns Inv-loop μ-loop
 returns c =
     let l = c .before in
-    let a = l .before .before .before .before .before .args in
-    (sharing-done (a .settings) (a .ceiling) (a .channels) (a .n) (now (a .detector)) (now (a .audio)) (l .loop .c) (l .loop .peaks) (peaksPass (linkingOf (a .settings)) 0 (a .channels) (a .n) (now (a .peaks)) (now (a .detector)) (now (a .audio)) .peaks)
-    (search needs) (l .loop .inv .2), l .loop .inv .3)
+    let a = l .before .before .before .before .before .args in (
+      sharing-done (a .settings) (a .ceiling) (a .channels) (a .n) (now (a .detector)) (now (a .audio)) (l .loop .c) (l .loop .peaks) (peaksPass (linkingOf (a .settings)) 0 (a .channels) (a .n) (now (a .peaks)) (now (a .detector)) (now (a .audio)) .peaks)
+          (search needs) (l .loop .inv .2),
+      l .loop .inv .3,
+    )
 
 pub all-peaks-spec : {M : Type 1} → statement M
 all-peaks-spec =

@@ -26,9 +26,11 @@ returns-2 : tie.Need-returns-2
 returns-2 c =
     let k = c .before .before .before .counts-in in
     let s = c .before .before .before .before .before .before .before in
-    let a = s .args in
-    (passed-over (a .settings) (a .c) (now (a .store)) (now (a .samples)) (now (a .peaks)) (a .level) (s .pre .1 .0) (sym (k .ensures) ∙ not-false (k .result) (c .before .before .if1 .left))
-    (sym (c .before .lies-within .ensures) ∙ c .if2 .taken), λ h. refl)
+    let a = s .args in (
+      passed-over (a .settings) (a .c) (now (a .store)) (now (a .samples)) (now (a .peaks)) (a .level) (s .pre .1 .0) (sym (k .ensures) ∙ not-false (k .result) (c .before .before .if1 .left))
+          (sym (c .before .lies-within .ensures) ∙ c .if2 .taken),
+      λ h. refl,
+    )
 
 channel-peaks-requires : tie.Need-channel-peaks-requires
 channel-peaks-requires c κs =
@@ -43,9 +45,11 @@ returns-3 : tie.Need-returns-3
 returns-3 c =
     let o = c .before .before .channel-peaks in
     let k = c .before .before .before .before .before .before .before .counts-in in
-    let a = c .before .before .before .before .before .before .before .before .before .before .before .args in
-    (taken-in (a .settings) (a .c) (now (a .store)) (now (a .samples)) (now (a .peaks)) (a .level) (o .last .1 .1 .1 .1 .0)
-    (sym (k .ensures) ∙ not-false (k .result) (c .before .before .before .before .before .before .if1 .left)) (o .ensures .0), λ h. clash true refl h)
+    let a = c .before .before .before .before .before .before .before .before .before .before .before .args in (
+      taken-in (a .settings) (a .c) (now (a .store)) (now (a .samples)) (now (a .peaks)) (a .level) (o .last .1 .1 .1 .1 .0)
+          (sym (k .ensures) ∙ not-false (k .result) (c .before .before .before .before .before .before .if1 .left)) (o .ensures .0),
+      λ h. clash true refl h,
+    )
 
 pub hear-or-pass-spec : {M : Type 1} → statement M
 hear-or-pass-spec =
