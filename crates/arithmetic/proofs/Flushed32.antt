@@ -1,5 +1,5 @@
 -- An output that `narrow_flushed` takes at once: its pattern is at least that of 1e-30, so its value is, and the output rule leaves it as it is.
-use Rattle.std.proofs.Common.{◌≡◌, ℕ, zero, suc, ◌+◌, ◌*◌, ◌%◌, ◌^◌, ◌<◌, ◌≤◌, Bool, true, false, cond, ◌&&◌, T, ltb, leb, ℤ, sym, refl, ap, ◌∙◌, subst, le_trans, le_of_eq, mul-le-mul_right, mul-le-mul_left, arith, lit≤, pow_pos, pow_mono, pow-add, ltb-false, ltb-true, le-ltb, le-leb, leb-true}
+use Rattle.std.proofs.Common.{◌≡◌, ℕ, ◌+◌, ◌*◌, ◌^◌, ◌<◌, ◌≤◌, Bool, true, false, cond, ◌&&◌, T, ltb, leb, sym, refl, ap, ◌∙◌, subst, le_trans, le_of_eq, mul-le-mul_right, mul-le-mul_left, arith, lit≤, pow_pos, pow_mono, pow-add, ltb-false, ltb-true, le-ltb, le-leb, leb-true}
 use lib.Ieee.{Float, nan, inf, fin, binary64, fits, lt, ne, of_bits, to_bits, round}
 use lib.Ieee.Compare.{differs_from_itself}
 use lib.Ieee.Exact.{HasValue}
@@ -14,7 +14,7 @@ use Rattle.arithmetic.proofs.Values.{lt_values}
 use Rattle.arithmetic.proofs.Units.{units_value}
 use Rattle.arithmetic.proofs.Power.{powers}
 use Rattle.arithmetic.proofs.Fitting.{fits_signed}
-use Rattle.arithmetic.proofs.Places32.{place, significand, pattern, split, magnitude}
+use Rattle.arithmetic.proofs.Places32.{place, significand, split, magnitude}
 use Rattle.arithmetic.proofs.Ways32.{normal_finite}
 
 -- ---- a NaN becomes 0.0

@@ -2,6 +2,8 @@
 // specs/ for every f64.
 
 // The small helpers in place of Rust's methods on f64.
+#![tactic(auto)]
+
 pub mod number;
 // Module 1 of document 01.
 pub mod sanitize;
