@@ -41,7 +41,7 @@ def read(path):
 
 def walk(top, ends):
     for folder, dirs, files in os.walk(top):
-        dirs[:] = sorted(d for d in dirs if d not in ("out", "target", ".git"))
+        dirs[:] = sorted(d for d in dirs if d not in ("out", ".git"))
         for f in sorted(files):
             if f.endswith(ends):
                 yield os.path.join(folder, f)

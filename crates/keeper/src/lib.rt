@@ -1,6 +1,8 @@
 // Module 4 of document 01: the floor keeper, from `step_env` of limiter.rs. It keeps the least of
 // the latest look + 1 gains in a ring of entries that rise from front to back; the front is the
 // floor. The state goes in and comes back by value, and the entries lie in two lent stores.
+#![tactic(auto)]
+
 ghost use Rattle.std.specs.Prelude.{◌≡◌, ◌+◌, ◌≤◌, length};
 ghost use Rattle.keeper.specs.InOrder.{most_frames};
 ghost use Rattle.keeper.specs.Keeper.{fresh_keeper, keeping_at, ordered, setup_at, setup_of, Ready, inner_at, stepped_of, step_at, step_of};
@@ -16,7 +18,7 @@ use crate::ring::{drop_back, drop_front, wrap};
 use arithmetic::sanitize::unit_gain;
 
 // The Rust's look, wedge_head, wedge_len and frame.
-#[derive(Drop)]
+#[derive(Clone, Copy)]
 pub struct FloorKeeper {
     // frames by which the audio is held back
     pub look: usize,
@@ -29,7 +31,7 @@ pub struct FloorKeeper {
 }
 
 // What a setup answers: finished, or the refusal 12 or 16.
-#[derive(Drop)]
+#[derive(Clone, Copy)]
 pub enum SetupAnswer {
     Finished,
     LookOutOfRange,
@@ -38,7 +40,7 @@ pub enum SetupAnswer {
 
 // What a step answers: the floor, how many entries it dropped at back and front together, and how
 // many it keeps; or the refusal 12, 16, 19 or 22.
-#[derive(Drop)]
+#[derive(Clone, Copy)]
 pub enum StepAnswer {
     Finished {
         floor: f64,
@@ -52,21 +54,21 @@ pub enum StepAnswer {
 }
 
 // A setup's answer, and the keeper: not set up (look 0) where it is refused.
-#[derive(Drop)]
+#[derive(Clone, Copy)]
 pub struct KeeperSetUp {
     pub answer: SetupAnswer,
     pub keeper: FloorKeeper,
 }
 
 // A step's answer, and the keeper: as it was where the step is refused.
-#[derive(Drop)]
+#[derive(Clone, Copy)]
 pub struct KeeperStepped {
     pub answer: StepAnswer,
     pub keeper: FloorKeeper,
 }
 
 // What the inner step hands back. The entries kept are the keeper's len.
-#[derive(Drop)]
+#[derive(Clone, Copy)]
 pub struct FloorStep {
     pub floor: f64,
     pub dropped: usize,

@@ -38,7 +38,7 @@ pub fn drop_back(minima: &[f64], cap: usize, head: usize, len: usize, gain: f64)
 }
 
 // The front's place, and how many entries stay.
-#[derive(Drop)]
+#[derive(Clone, Copy)]
 pub struct Front {
     pub head: usize,
     pub len: usize,
