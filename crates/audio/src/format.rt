@@ -3,7 +3,7 @@ ghost use Rattle.std.specs.Prelude.{◌≡◌};
 ghost use Rattle.audio.specs.Format.{sample_bytes, size_of};
 
 // How a sample is stored, low byte first.
-#[derive(Drop)]
+#[derive(Clone, Copy)]
 pub enum Format {
     F64,
     F32,

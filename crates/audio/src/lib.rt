@@ -1,4 +1,5 @@
 // A call's audio: planar, in bytes, of a sample type.
+#![tactic(auto)]
 
 // The sample type.
 pub mod format;

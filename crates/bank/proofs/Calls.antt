@@ -1,6 +1,5 @@
 -- What the branches of the bank's calls come to, on plain values.
 use mathlib.Core.Path.{◌≡◌, refl, ap, ◌∙◌}
-use mathlib.Core.Logic.{inl, inr}
 use mathlib.Core.Bool.{Bool, true, false}
 use mathlib.Core.List.{List, [], ◌∷◌}
 use Prim.Native.Nat.{ℕ, zero, suc, ◌≤◌, ◌<◌}
@@ -8,8 +7,6 @@ use native.Mathlib.Omega.{arith}
 use lib.ListN.{length, get_or, set, take}
 use lib.Ieee.{Float}
 use lib.Ieee.Scale.{finite}
-use types.Run.{OneOf}
-use denote.Enum.Declared.{tag_of}
 use borrow.Author.Tests.{le-leb, lt-leb, ne_eqb}
 use Rattle.arithmetic.specs.Reply.{Reply, finished, refused, count, float}
 use Rattle.bank.specs.Answers.{set_up_reply, refusal_reply, param_set_reply}
@@ -23,7 +20,6 @@ use Rattle.bank.specs.declared.smoother.Smoother.{Smoother}
 use Rattle.bank.specs.declared.smoother_bank.SmootherBank.{SmootherBank}
 use Rattle.bank.specs.declared.smoother_bank.ParamSet.{ParamSet}
 use Rattle.bank.specs.declared.smoother_bank.ParamSet.TheVariants
-use Rattle.bank.specs.contracts.smoother_bank.ParamSet.{the_type}
 use Rattle.bank.proofs.Slots.{above_zero}
 
 -- ---- outcomes
@@ -50,10 +46,8 @@ slot_past (s ∷ ss) (suc i) h = slot_past ss i (omega arith)
 
 -- ---- parameter calls
 -- a case other than the first, `Finished`
-other_case : (a : ParamSet) → OneOf (1 ∷ 2 ∷ 3 ∷ []) (tag_of the_type a) → (param_set_reply a).number ≡ 0 → ⊥
-other_case TheVariants.Finished (inl e) z = omega arith
-other_case TheVariants.Finished (inr (inl e)) z = omega arith
-other_case TheVariants.Finished (inr (inr e)) z = omega arith
+other_case : (a : ParamSet) → (a ≡ TheVariants.Finished → ⊥) → (param_set_reply a).number ≡ 0 → ⊥
+other_case TheVariants.Finished o z = o refl
 other_case TheVariants.NotSetUp o z = omega arith
 other_case (TheVariants.NonFiniteValue id v) o z = omega arith
 other_case TheVariants.UnknownParam o z = omega arith
@@ -80,7 +74,7 @@ module _ (b : SmootherBank) (id : ℕ) (v : Float) where
     unfolding call_of
     call_done k new g = rw (← e, k, g) refl
 
-    pub call_refused : OneOf (1 ∷ 2 ∷ 3 ∷ []) (tag_of the_type a) → record { reply = param_set_reply a; bank = b } ≡ call_of f b id v
+    pub call_refused : (a ≡ TheVariants.Finished → ⊥) → record { reply = param_set_reply a; bank = b } ≡ call_of f b id v
     unfolding call_of
     call_refused o = rw (← e) (kept (param_set_reply a) (one_changed f id b) b (other_case a o))
 

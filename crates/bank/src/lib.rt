@@ -1,5 +1,6 @@
 // The parameter smoother bank: up to 8 parameters of shape Step, Linear or OnePole, stepped once per
 // 32 frames (driver.rs of the reference).
+#![tactic(auto)]
 
 // A parameter's declaration and what setup judges of it.
 pub mod param;

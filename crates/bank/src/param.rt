@@ -7,14 +7,14 @@ ghost use Rattle.bank.specs.Answers.{set_up_reply};
 use arithmetic::number::is_finite;
 
 // How a value ramps toward a new target.
-#[derive(Drop)]
+#[derive(Clone, Copy)]
 pub enum Smoothing {
     Step,
     Linear,
     OnePole,
 }
 
-#[derive(Drop)]
+#[derive(Clone, Copy)]
 pub struct ParamInfo {
     pub id: u32,
     pub low: f64,
@@ -25,7 +25,7 @@ pub struct ParamInfo {
 }
 
 // Why a setup is refused: 1, and 2 to 6 with the index of the parameter.
-#[derive(Drop)]
+#[derive(Clone, Copy)]
 pub enum BankRefusal {
     TooMany,
     Id(usize),
@@ -35,7 +35,7 @@ pub enum BankRefusal {
     SmoothingTime(usize),
 }
 
-#[derive(Drop)]
+#[derive(Clone, Copy)]
 pub enum BankAnswer {
     Finished,
     Refused(BankRefusal),

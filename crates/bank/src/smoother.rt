@@ -15,7 +15,7 @@ use arithmetic::sanitize::finite_or_zero;
 // The bank advances one step per this many frames.
 const CR_STEP: f64 = 32.0;
 
-#[derive(Drop)]
+#[derive(Clone, Copy)]
 pub struct Smoother {
     pub id: u32,
     pub cur: f64,
@@ -32,7 +32,7 @@ pub struct Smoother {
 }
 
 // What a call does to a smoother.
-#[derive(Drop)]
+#[derive(Clone, Copy)]
 pub enum Change {
     Step,
     Reset,

@@ -12,7 +12,7 @@ use arithmetic::number::is_finite;
 
 // Slots at and past the count are carried and never read. `ready` tells a bank of no parameters from
 // one that was never set up.
-#[derive(Drop)]
+#[derive(Clone, Copy)]
 pub struct SmootherBank {
     pub smoothers: [Smoother; 8],
     pub count: usize,
@@ -20,13 +20,13 @@ pub struct SmootherBank {
     pub ready: bool,
 }
 
-#[derive(Drop)]
+#[derive(Clone, Copy)]
 pub struct BankSetUp {
     pub answer: BankAnswer,
     pub bank: SmootherBank,
 }
 
-#[derive(Drop)]
+#[derive(Clone, Copy)]
 pub enum ParamSet {
     Finished,
     NotSetUp,
@@ -34,25 +34,25 @@ pub enum ParamSet {
     UnknownParam,
 }
 
-#[derive(Drop)]
+#[derive(Clone, Copy)]
 pub struct BankParamSet {
     pub answer: ParamSet,
     pub bank: SmootherBank,
 }
 
-#[derive(Drop)]
+#[derive(Clone, Copy)]
 pub enum BankStep {
     Finished,
     NotSetUp,
 }
 
-#[derive(Drop)]
+#[derive(Clone, Copy)]
 pub struct BankStepped {
     pub answer: BankStep,
     pub bank: SmootherBank,
 }
 
-#[derive(Drop)]
+#[derive(Clone, Copy)]
 pub enum BankValue {
     Value(f64),
     NotSetUp,

@@ -3,7 +3,7 @@ use crate::row::AttackRow;
 use keeper::FloorKeeper;
 
 // What a gain step goes on from.
-#[derive(Drop)]
+#[derive(Clone, Copy)]
 pub struct Envelope {
     pub keeper: FloorKeeper,
     pub attack: AttackRow,
@@ -12,7 +12,7 @@ pub struct Envelope {
 }
 
 // What a gain step tells, and the envelope afterwards, whose gain is the one to apply.
-#[derive(Drop)]
+#[derive(Clone, Copy)]
 pub struct GainStep {
     pub floor: f64,
     pub dropped: usize,

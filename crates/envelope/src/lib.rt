@@ -1,5 +1,6 @@
 // From a required gain to the gain that is applied (`step_env` of limiter.rs): the attack row over the
 // floors, its weighted mean, and how the gain follows it.
+#![tactic(auto)]
 
 // The attack row and its mean.
 pub mod row;

@@ -6,7 +6,7 @@ ghost use Rattle.envelope.specs.Mean.{weighted_from, mean_of};
 use arithmetic::number::unit;
 
 // The Rust's wm_pos and wm_nonunity.
-#[derive(Drop)]
+#[derive(Clone, Copy)]
 pub struct AttackRow {
     // where the next floor goes: the oldest one's place
     pub pos: usize,

@@ -1,4 +1,6 @@
 // The program `floors` of document 01 as a function from the input's bytes to the output's.
+#![tactic(auto)]
+
 ghost use Rattle.std.specs.Prelude.{◌≡◌, ◌+◌, ◌≤◌, ◌^◌, length, drop};
 ghost use Rattle.arithmetic.specs.Number.{bits};
 ghost use Rattle.keeper.specs.Keeper.{Ready, keeping_at, stepped_of};
@@ -18,7 +20,7 @@ use keeper::FloorKeeper;
 const MOST_INPUT: usize = 60000;
 
 // The keeper after a step, and the place after the line that tells it.
-#[derive(Drop)]
+#[derive(Clone, Copy)]
 struct Turn {
     keeper: FloorKeeper,
     next: usize,

@@ -3,7 +3,7 @@ ghost use Rattle.std.specs.Prelude.{◌≡◌, true, ◌+◌, ◌≤◌, ◌<◌
 ghost use Rattle.floors_text.specs.Lines.{lines_of, first_of, starts_with, digit_of, number_from, shaped, look_of, gain_of};
 
 // What a line holds, if it has the right form.
-#[derive(Drop)]
+#[derive(Clone, Copy)]
 pub enum Field {
     Malformed,
     Number(u64),

@@ -9,7 +9,7 @@ use arithmetic::number::is_finite;
 use keeper::look_taken;
 
 // The settings' refusals, 8 to 14 in the table's order.
-#[derive(Drop)]
+#[derive(Clone, Copy)]
 pub enum SettingsRefusal {
     Rate,
     Margin,
@@ -20,7 +20,7 @@ pub enum SettingsRefusal {
     Block,
 }
 
-#[derive(Drop)]
+#[derive(Clone, Copy)]
 pub enum SettingsJudged {
     Passed,
     Refused(SettingsRefusal),

@@ -1,5 +1,7 @@
 // The limiter's settings and what setup derives from them: look, release coefficient, bytes, target,
 // and which settings and weights are accepted (limiter.rs, memory.rs).
+#![tactic(auto)]
+
 ghost use Rattle.std.specs.Prelude.{◌≡◌};
 ghost use Rattle.settings.specs.Settings.{settings_of, defaults};
 
@@ -23,7 +25,7 @@ pub mod accepted;
 use crate::memory::Cap;
 
 // Construction settings of the limiter.
-#[derive(Drop)]
+#[derive(Clone, Copy)]
 pub struct LimiterSettings {
     // Limiter ceiling in dBFS.
     pub threshold_db: f64,
@@ -38,7 +40,7 @@ pub struct LimiterSettings {
 }
 
 // What setup is told beside the settings (`ProcessSpec` of contract/spec.rs).
-#[derive(Drop)]
+#[derive(Clone, Copy)]
 pub struct ProcessSpec {
     pub rate: u32,
     pub channels: usize,

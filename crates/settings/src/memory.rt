@@ -4,7 +4,7 @@ ghost use Rattle.settings.specs.Derived.{row_of};
 ghost use Rattle.settings.specs.Memory.{counted, bytes_of, needed, cap_judged, left_of};
 
 // How many bytes a caller allows.
-#[derive(Drop)]
+#[derive(Clone, Copy)]
 pub enum Cap {
     Unlimited,
     Bytes(u64),
@@ -47,7 +47,7 @@ pub fn row_len(look: usize) -> usize
 }
 
 // What a cap says of bytes needed: over it, both are told.
-#[derive(Drop)]
+#[derive(Clone, Copy)]
 pub enum CapJudged {
     Passed,
     Over { needed: u64, cap: u64 },

@@ -1,0 +1,19 @@
+-- `write_channel`: the words passed are there.
+use mathlib.Core.Path.{◌≡◌, refl, sym, ap, subst, ◌∙◌}
+use mathlib.Core.List.{List, map}
+use Prim.Native.Nat.{ℕ, ◌+◌, ◌-◌, ◌%◌, ◌≤◌}
+use native.Mathlib.Omega.{arith}
+use borrow.Author.Rules.{rules}
+use lib.ListN.{length, get_or, set, length-set, get_or-map}
+use lib.Ieee.{nan}
+use Rattle.audio.specs.Format.{sample_bytes, bytes_for, places_of}
+use Rattle.audio.specs.Inner.{PlacesCopied}
+use Rattle.audio.proofs.Carry.{copied_none, copied_more}
+use Rattle.audio.proofs.Places.{places_few}
+use Rattle.audio.proofs.planar.write_channel.Given as goal
+
+abbrev pub invariant-loop-i : goal.invariant-loop-i
+invariant-loop-i l = (l.i ≤ l.n) × (length l.bytes ≡ length l.initial.bytes) × (length (places_of l.format l.bytes) ≡ length (places_of l.format l.initial.bytes)) × PlacesCopied (bytes_for l.format nan) l.i l.from (map (bytes_for l.format) l.run) l.to (places_of l.format l.initial.bytes) (places_of l.format l.bytes)
+
+abbrev pub decreases-loop-i : goal.decreases-loop-i
+decreases-loop-i l = l.n - l.i

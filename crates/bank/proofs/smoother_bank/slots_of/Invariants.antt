@@ -1,0 +1,16 @@
+-- `slots_of`: at turn i the first i slots hold their smoothers.
+use mathlib.Core.Path.{◌≡◌, sym, ap, ◌∙◌}
+use Prim.Native.Nat.{ℕ, ◌≤◌, ◌-◌}
+use native.Mathlib.Omega.{arith}
+use borrow.Author.Rules.{rules}
+use lib.ListN.{length, replicate}
+use Rattle.bank.specs.Smoother.{vacant}
+use Rattle.bank.specs.Bank.{slots_of}
+use Rattle.bank.proofs.Slots.{slots_none, slots_more, slots_past}
+use Rattle.bank.proofs.smoother_bank.slots_of.Given as goal
+
+abbrev pub invariant-loop-i : goal.invariant-loop-i
+invariant-loop-i l = (l.slots ≡ slots_of l.rate l.i l.params) × (l.i ≤ 8) × (l.i ≤ l.count)
+
+abbrev pub decreases-loop-i : goal.decreases-loop-i
+decreases-loop-i l = 8 - l.i

@@ -1,0 +1,18 @@
+-- `follow_all`: the gains passed, and what the rest comes to.
+use mathlib.Core.Path.{◌≡◌, refl, sym, ap, ◌∙◌}
+use mathlib.Core.Logic.{⊎_elim}
+use mathlib.Core.List.{List}
+use Prim.Native.Nat.{◌-◌, ◌≤◌}
+use native.Mathlib.Omega.{arith}
+use borrow.Author.Rules.{rules}
+use lib.ListN.{length, get_or, set, length-set}
+use lib.Ieee.{Float, nan}
+use Rattle.envelope.specs.Run.{followed_all}
+use Rattle.envelope.proofs.Following.{attacked, follows_from, follows_turn, follows_done, stays}
+use Rattle.envelope.proofs.follow.follow_all.Given as goal
+
+abbrev pub invariant-loop-i : goal.invariant-loop-i
+invariant-loop-i l = (l.i ≤ l.n) × (length l.means ≡ l.n) × (follows_from l.coeff l.g l.i l.means ≡ followed_all l.coeff l.gain l.initial.means)
+
+abbrev pub decreases-loop-i : goal.decreases-loop-i
+decreases-loop-i l = l.n - l.i

@@ -1,0 +1,23 @@
+-- `means_given`: the means passed, and what the rest comes to, for the weights that gave the sums.
+use mathlib.Core.Path.{◌≡◌, refl, ◌∙◌}
+use mathlib.Core.Bool.{true}
+use mathlib.Core.List.{List}
+use Prim.Native.Nat.{◌-◌, ◌≤◌, ◌<◌}
+use native.Mathlib.Omega.{arith}
+use borrow.Author.Rules.{rules}
+use lib.ListN.{length, get_or, take, drop, length-set}
+use lib.Ieee.{Float, nan}
+use Rattle.arithmetic.proofs.InTurn.{kept}
+use Rattle.envelope.specs.Row.{rowed_at, all_unit, row_in_order}
+use Rattle.envelope.specs.Run.{means_of, sums_of}
+use Rattle.envelope.proofs.RunMeans.{means_from, means_more, means_done, turn_keeps, mean_given, sum_here, sums_ahead}
+use Rattle.envelope.proofs.row.AttackRow.means_given.Given as goal
+
+abbrev pub invariant-loop-i : goal.invariant-loop-i
+invariant-loop-i l =
+    (l.i ≤ l.n) × (length l.floors ≡ l.n) × (row_in_order l.a l.row ≡ true) × (all_unit (drop l.i l.floors) ≡ true) × (length l.row ≡ length l.initial.row)
+    × ((weights : List Float) → take l.n l.sums ≡ sums_of weights (rowed_at l.initial.a l.initial.row) l.initial.floors
+    → (take (l.n - l.i) (drop l.i l.sums) ≡ sums_of weights (rowed_at l.a l.row) (drop l.i l.floors)) × (means_from weights (rowed_at l.a l.row) l.i l.floors ≡ means_of weights (rowed_at l.initial.a l.initial.row) l.initial.floors))
+
+abbrev pub decreases-loop-i : goal.decreases-loop-i
+decreases-loop-i l = l.n - l.i

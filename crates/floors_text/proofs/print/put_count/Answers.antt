@@ -1,0 +1,7 @@
+-- `put_count`: one text after the other.
+use borrow.Author.Rules.{rules}
+use Rattle.floors_text.proofs.Puts.{put_then}
+use Rattle.floors_text.proofs.print.put_count.Goals as goal
+
+pub returns : goal.returns
+returns c = put_then c.put_word-next.ensures c.put_decimal.ensures
