@@ -1,9 +1,8 @@
 // Leaf arithmetic: what every layer above computes with. Each function equals a definition of
 // specs/ for every f64.
-
-// The small helpers in place of Rust's methods on f64.
 #![tactic(auto)]
 
+// The small helpers in place of Rust's methods on f64.
 pub mod number;
 // Module 1 of document 01.
 pub mod sanitize;

@@ -21,7 +21,7 @@ const P4: f64 = -1.65339022054652515390e-06;
 const P5: f64 = 4.13813679705723846039e-08;
 
 // What `exp` answers: the value, or 26.
-#[derive(Drop)]
+#[derive(Clone, Copy)]
 pub enum ExpAnswer {
     Value(f64),
     OutOfDomain,

@@ -90,7 +90,7 @@ pub fn copysign(x: f64, y: f64) -> f64
 
 // The whole part of x, and whether it is the whole number of x by any rule: it is outside 0 to 2^52,
 // where x is not above 0, has no fraction or is past every u64.
-#[derive(Drop)]
+#[derive(Clone, Copy)]
 struct Part {
     whole: u64,
     exact: bool,

@@ -9,21 +9,21 @@ use frame::highest::Seat;
 use limiter::prepare::PrepareAnswer;
 
 // Setup: the bank's refusal (1 to 6), the bank over the cap (7), or what the limiter answers (0, 8 to 17, 29).
-#[derive(Drop)]
+#[derive(Clone, Copy)]
 pub enum SetupAnswer {
     Bank(BankRefusal),
     OverBudget { needed: u64, cap: u64 },
     Limiter(PrepareAnswer),
 }
 
-#[derive(Drop)]
+#[derive(Clone, Copy)]
 pub struct SetUp {
     pub answer: SetupAnswer,
     pub processor: KernelProcessor,
 }
 
 // Why a call on a limiter is refused: 18, 16, 19, 20, 21 with the event's index, 22.
-#[derive(Drop)]
+#[derive(Clone, Copy)]
 pub enum Refusal {
     NotSetUp,
     StoreLength,
@@ -34,7 +34,7 @@ pub enum Refusal {
 }
 
 // A reset, and what judges a call: nothing is refused, or the first refusal that arises.
-#[derive(Drop)]
+#[derive(Clone, Copy)]
 pub enum Answer {
     Finished,
     Refused(Refusal),
@@ -51,7 +51,7 @@ impl Answer {
     }
 }
 
-#[derive(Drop)]
+#[derive(Clone, Copy)]
 pub struct Called {
     pub answer: Answer,
     pub processor: KernelProcessor,
@@ -59,33 +59,33 @@ pub struct Called {
 
 // A block: finished work tells the first frame with the highest linked peak, and where that sat; of a frame
 // nothing is said where it sat nowhere.
-#[derive(Drop)]
+#[derive(Clone, Copy)]
 pub enum BlockAnswer {
     Finished { frame: usize, seat: Seat },
     Refused(Refusal),
 }
 
-#[derive(Drop)]
+#[derive(Clone, Copy)]
 pub struct Processed {
     pub answer: BlockAnswer,
     pub processor: KernelProcessor,
 }
 
 // A drain: finished work tells the frames written, and whether the tail is done.
-#[derive(Drop)]
+#[derive(Clone, Copy)]
 pub enum FlushAnswer {
     Finished { written: usize, done: bool },
     Refused(Refusal),
 }
 
-#[derive(Drop)]
+#[derive(Clone, Copy)]
 pub struct Flushed {
     pub answer: FlushAnswer,
     pub processor: KernelProcessor,
 }
 
 // A gain step: a finished one tells the floor, the entries dropped and kept, the tally, the mean and the gain.
-#[derive(Drop)]
+#[derive(Clone, Copy)]
 pub enum GainAnswer {
     Finished {
         floor: f64,
@@ -98,14 +98,14 @@ pub enum GainAnswer {
     Refused(Refusal),
 }
 
-#[derive(Drop)]
+#[derive(Clone, Copy)]
 pub struct GainStepped {
     pub answer: GainAnswer,
     pub processor: KernelProcessor,
 }
 
 // A parameter call: 18, 23 with the parameter's id and the offending value, 24.
-#[derive(Drop)]
+#[derive(Clone, Copy)]
 pub struct ParamCalled {
     pub answer: ParamSet,
     pub processor: KernelProcessor,

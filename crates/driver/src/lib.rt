@@ -1,4 +1,5 @@
 // Module 7 of document 01: the driver (driver.rs), the limiter whole.
+#![tactic(auto)]
 
 // The state, by value.
 pub mod state;

@@ -3,7 +3,7 @@ use bank::smoother::Smoother;
 use bank::smoother_bank::SmootherBank;
 use limiter::state::Limiter;
 
-#[derive(Drop)]
+#[derive(Clone, Copy)]
 pub struct KernelProcessor {
     pub limiter: Limiter,
     pub bank: SmootherBank,
@@ -11,7 +11,7 @@ pub struct KernelProcessor {
 
 // What 18 and 19 read of a bank, and all that a state's bytes keep of it: the threshold's smoother and
 // the bank's own fields.
-#[derive(Drop)]
+#[derive(Clone, Copy)]
 pub struct Threshold {
     pub smoother: Smoother,
     pub count: usize,

@@ -1,4 +1,6 @@
 // Document 01's program `floors`: standard input through `floors_text::floors` to standard output.
+#![tactic(auto)]
+
 ghost use Rattle.std.specs.Prelude.{◌≡◌, length};
 
 // Room for one byte more than the most input, so that too long an input shows.

@@ -1,5 +1,7 @@
 // Recorded inputs of `floors`, good and damaged, with what they must give (data/NN.in and NN.out,
 // named in data/names): each is run through the library's function, and what differs is told.
+#![tactic(auto)]
+
 ghost use Rattle.std.specs.Prelude.{◌≡◌, ◌+◌, ◌≤◌, ◌<◌, length};
 
 // Room for one byte more than the most input.
@@ -17,7 +19,7 @@ fn text_room() -> [u8; 160001]
 }
 
 // The bytes of a file at the start of buf, and how many they are.
-#[derive(Drop)]
+#[derive(Clone, Copy)]
 enum File {
     Missing,
     Bytes(usize),
@@ -54,7 +56,7 @@ fn first_difference(a: &[u8], b: &[u8]) -> usize {
 }
 
 // How a case ended.
-#[derive(Drop)]
+#[derive(Clone, Copy)]
 enum Case {
     Missing,
     Same,
@@ -109,7 +111,7 @@ fn tell_difference(number: usize, place: usize) {
 }
 
 // How many cases there are, and how many of them differ.
-#[derive(Drop)]
+#[derive(Clone, Copy)]
 struct Tally {
     cases: usize,
     differ: usize,

@@ -3,7 +3,7 @@ ghost use Rattle.std.specs.Prelude.{◌≡◌};
 ghost use Rattle.frame.specs.Place.{start_of};
 
 // Where a frame's peak sat: on the sample of a channel, or between two of them, in a phase of a channel's detector.
-#[derive(Drop)]
+#[derive(Clone, Copy)]
 pub enum Seat {
     Nowhere,
     OnSample(usize),
@@ -11,7 +11,7 @@ pub enum Seat {
 }
 
 // The highest linked peak so far, the frame of its block and where it sat there.
-#[derive(Drop)]
+#[derive(Clone, Copy)]
 pub struct Highest {
     pub peak: f64,
     pub frame: usize,

@@ -1,5 +1,6 @@
 // One run of frames through the limiter (`render` and `flush` of limiter.rs): linked peak, required gain,
 // gain step, delayed output.
+#![tactic(auto)]
 
 // The linked peak over the counted channels.
 mod peaks;

@@ -18,7 +18,7 @@ use settings::LimiterSettings;
 use settings::counted::counts_in;
 
 // A peak that is the first of the highest, and its frame of a run.
-#[derive(Drop)]
+#[derive(Clone, Copy)]
 struct Top {
     peak: f64,
     at: usize,

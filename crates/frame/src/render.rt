@@ -15,7 +15,7 @@ use envelope::env::Envelope;
 use settings::LimiterSettings;
 
 // What a run leaves beside the stores.
-#[derive(Drop)]
+#[derive(Clone, Copy)]
 pub struct Rendered {
     pub env: Envelope,
     // the delay position

@@ -16,7 +16,7 @@ use frame::highest::Seat;
 use limiter::prepare::PrepareAnswer;
 use settings::accepted::refusal_number;
 
-#[derive(Drop)]
+#[derive(Clone, Copy)]
 pub struct ReplyWords {
     pub number: u32,
     pub w0: u64,

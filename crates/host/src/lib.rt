@@ -1,4 +1,5 @@
 // The C functions (numbers and bytes): what a renderer links. include/daggeryuzu.h declares them.
+#![tactic(auto)]
 
 // What a call answers, as words.
 pub mod answer;

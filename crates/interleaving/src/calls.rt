@@ -13,14 +13,14 @@ use crate::tiles::transpose_tiles;
 use audio::format::{Format, sample_bytes, size_of};
 
 // From frame after frame, as files hold audio, to channel after channel, as a block takes it; or back.
-#[derive(Drop)]
+#[derive(Clone, Copy)]
 pub enum Direction {
     Deinterleave,
     Interleave,
 }
 
 // Finished work, 27 or 28.
-#[derive(Drop)]
+#[derive(Clone, Copy)]
 pub enum Rearranged {
     Finished,
     Channels,

@@ -1,5 +1,6 @@
 // Interleaved audio, frame after frame, into planar audio, channel after channel, within a lent slice, and back. It moves
 // bytes and decodes nothing.
+#![tactic(auto)]
 
 // Bytes, and samples, from place to place.
 pub mod moves;

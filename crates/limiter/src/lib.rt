@@ -1,4 +1,5 @@
 // Module 6 of document 01: the limiter kernel that the driver runs (limiter.rs).
+#![tactic(auto)]
 
 // The state.
 pub mod state;

@@ -15,7 +15,7 @@ use settings::{LimiterSettings, ProcessSpec};
 
 // What setup answers: finished, or the refusals 8 to 15, 29, 16 and 17 in this order, 15 with the bytes
 // needed and the cap that was left.
-#[derive(Drop)]
+#[derive(Clone, Copy)]
 pub enum PrepareAnswer {
     Finished,
     Settings(SettingsRefusal),
@@ -25,7 +25,7 @@ pub enum PrepareAnswer {
     Weights,
 }
 
-#[derive(Drop)]
+#[derive(Clone, Copy)]
 pub struct Prepared {
     pub answer: PrepareAnswer,
     pub limiter: Limiter,

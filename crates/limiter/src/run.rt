@@ -14,7 +14,7 @@ use frame::highest::{Highest, start_of};
 use frame::render::{Rendered, render_run};
 
 // What a run leaves beside audio and stores: the limiter, and the highest linked peak so far of its block.
-#[derive(Drop)]
+#[derive(Clone, Copy)]
 pub struct Moved {
     pub limiter: Limiter,
     pub highest: Highest,

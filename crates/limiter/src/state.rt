@@ -10,7 +10,7 @@ use keeper::FloorKeeper;
 use settings::memory::Cap;
 use settings::{LimiterSettings, ProcessSpec};
 
-#[derive(Drop)]
+#[derive(Clone, Copy)]
 pub struct Limiter {
     pub settings: LimiterSettings,
     pub rate: u32,

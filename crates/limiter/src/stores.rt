@@ -5,7 +5,7 @@ ghost use Rattle.limiter.specs.Stores.{at_entry, lengths_of, lengths_fit};
 pub use keeper::fill;
 
 // The stores' lengths, in document 01's order.
-#[derive(Drop)]
+#[derive(Clone, Copy)]
 pub struct StoreLengths {
     pub delay: usize,
     pub marks: usize,

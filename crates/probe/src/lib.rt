@@ -1,5 +1,6 @@
 // C functions over the leaves and inner steps, for the comparison with the Rust alone: the renderer's
 // C functions are another crate's. Numbers cross as themselves, a state as words.
+#![tactic(auto)]
 
 // Module 1 and 2 of document 01, and the helpers.
 pub mod leaves;

@@ -15,7 +15,7 @@ use bank::words::{flag, half_in, smoother_in, smoother_out};
 
 // What a call came to: document 01's number, the count that its reply holds, or 0, the bits of the
 // value that it holds, or what the place of it held, and the bank.
-#[derive(Drop)]
+#[derive(Clone, Copy)]
 struct Done {
     number: u32,
     count: u64,

@@ -1,14 +1,14 @@
 use libc::STDOUT_FILENO;
 
 // What a record came to: whether it counts, and whether the answer was the recorded one.
-#[derive(Drop)]
+#[derive(Clone, Copy)]
 pub struct Step {
     pub counted: bool,
     pub same: bool,
 }
 
 // How many records were replayed, how many of them differ, and which differed first.
-#[derive(Drop)]
+#[derive(Clone, Copy)]
 pub struct Tally {
     pub count: u64,
     pub differ: u64,
@@ -42,7 +42,7 @@ impl Tally {
 }
 
 // A replayed file: the tally, and how many bytes stood after its last whole record.
-#[derive(Drop)]
+#[derive(Clone, Copy)]
 pub struct Replayed {
     pub tally: Tally,
     pub rest: usize,

@@ -17,7 +17,7 @@ pub fn word(b: &[u8; 8]) -> u64 {
 }
 
 // The next word of a file; `whole` is false where it ends first, with the bytes that were left.
-#[derive(Drop)]
+#[derive(Clone, Copy)]
 pub struct Read {
     pub whole: bool,
     pub rest: usize,

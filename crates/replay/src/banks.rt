@@ -9,7 +9,7 @@ use records::words::next;
 // What goes from record to record: the declarations since the last setup and how many they are, the
 // bank, and how many parameters it was set up for. That last number is kept beside the bank since a
 // step's record has as many values even where the bank wrongly has none.
-#[derive(Drop)]
+#[derive(Clone, Copy)]
 pub struct Held {
     infos: [ParamInfo; 8],
     declared: usize,
@@ -18,7 +18,7 @@ pub struct Held {
 }
 
 // What a record came to, and what the next one starts from.
-#[derive(Drop)]
+#[derive(Clone, Copy)]
 pub struct Played {
     pub step: Step,
     pub held: Held,
@@ -26,7 +26,7 @@ pub struct Played {
 
 // What the proved code answers: document 01's number, 0 for a value, and the index or the value's
 // word, 0 where there is none.
-#[derive(Drop)]
+#[derive(Clone, Copy)]
 struct Answered {
     number: u64,
     word: u64,

@@ -7,7 +7,7 @@ use records::tally::Step;
 use records::words;
 
 // One record.
-#[derive(Drop)]
+#[derive(Clone, Copy)]
 struct Leaf {
     op: u64,
     a: u64,
@@ -18,7 +18,7 @@ struct Leaf {
 }
 
 // What the proved code answers: document 01's number, 0 for a value, and the value's word.
-#[derive(Drop)]
+#[derive(Clone, Copy)]
 struct Answered {
     status: u64,
     word: u64,

@@ -1,5 +1,7 @@
 // Replays the Rust's recorded answers against the proved code and prints, for each layer, how many
 // were replayed and how many differ. `oracle record` writes the files of data/.
+#![tactic(auto)]
+
 use crate::banks::{Held, Played};
 use records::tally::{Replayed, Tally};
 use records::words;

@@ -22,7 +22,7 @@ pub fn is_set_up(answer: SetupAnswer) -> bool {
 
 // Where a block's highest linked peak sat, as the file has it: 0 nowhere, 1 on a sample, 2 between two; the frame, the
 // channel, the phase.
-#[derive(Drop)]
+#[derive(Clone, Copy)]
 struct Place {
     kind: u64,
     frame: u64,
@@ -73,7 +73,7 @@ fn placed_same(answer: BlockAnswer, due: Place) -> bool {
 }
 
 // What a drain tells: whether it was finished, the frames written, and whether the tail is done.
-#[derive(Drop)]
+#[derive(Clone, Copy)]
 pub struct Told {
     finished: bool,
     pub written: usize,
@@ -125,7 +125,7 @@ pub fn value_same(answer: BankValue, number: u64, bits: u64) -> bool {
 }
 
 // What a gain step tells, as the file has it.
-#[derive(Drop)]
+#[derive(Clone, Copy)]
 pub struct Step {
     floor: u64,
     dropped: u64,

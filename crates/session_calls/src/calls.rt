@@ -10,7 +10,7 @@ use driver::state::KernelProcessor;
 use records::words::next;
 
 // What a call leaves, the limiter and the state of the samples' source, and whether it told what was recorded.
-#[derive(Drop)]
+#[derive(Clone, Copy)]
 pub struct Played {
     pub processor: KernelProcessor,
     pub x: u64,

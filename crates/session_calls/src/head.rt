@@ -7,7 +7,7 @@ use records::words::next;
 use settings::memory::Cap;
 use settings::{LimiterSettings, ProcessSpec};
 
-#[derive(Drop)]
+#[derive(Clone, Copy)]
 pub struct Head {
     pub format: Format,
     pub settings: LimiterSettings,

@@ -1,5 +1,7 @@
 // Replays the recorded sessions of the Rust's whole limiter and prints how many calls were replayed, with
 // the weights that each session leaves, and how many of them differ. `oracle/run record-whole` writes data/sessions.
+#![tactic(auto)]
+
 ghost use Rattle.std.specs.Prelude.{◌≡◌, ◌≤◌, length};
 
 use records::tally::{Replayed, Tally};

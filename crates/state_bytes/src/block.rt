@@ -22,7 +22,7 @@ use settings::target::target;
 use turns::drive::{drive_still, drive_turns};
 
 // What a block leaves beside audio and stores: the limiter, and what its bank shows.
-#[derive(Drop)]
+#[derive(Clone, Copy)]
 pub struct RenderedBlock {
     pub limiter: Limiter,
     pub threshold: Threshold,

@@ -1,4 +1,5 @@
 // The limiter with its bank as 512 bytes: 64 words, low byte first (specs/State.antt).
+#![tactic(auto)]
 
 // Out of a buffer.
 pub mod read;

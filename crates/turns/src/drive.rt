@@ -16,7 +16,7 @@ use limiter::run::Moved;
 use limiter::state::Limiter;
 
 // What a block leaves beside audio and stores.
-#[derive(Drop)]
+#[derive(Clone, Copy)]
 pub struct Driven {
     pub limiter: Limiter,
     pub bank: SmootherBank,

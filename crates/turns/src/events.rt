@@ -8,7 +8,7 @@ use bank::smoother::Change;
 use bank::smoother_bank::SmootherBank;
 
 // The bank with the events up to the cursor latched.
-#[derive(Drop)]
+#[derive(Clone, Copy)]
 pub struct LatchedTo {
     pub bank: SmootherBank,
     pub cursor: usize,

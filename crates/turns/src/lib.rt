@@ -1,4 +1,5 @@
 // The turns of blocks and drains that nothing refuses (driver.rs: `drive`).
+#![tactic(auto)]
 
 // How events latch.
 pub mod events;

@@ -17,7 +17,7 @@ use settings::target::target;
 
 // A block that is not finished: where it starts, how long it is, the frames rendered, the events latched and
 // the highest linked peak so far.
-#[derive(Drop)]
+#[derive(Clone, Copy)]
 pub struct Unfinished {
     pub position: u64,
     pub frames: usize,
@@ -27,7 +27,7 @@ pub struct Unfinished {
 }
 
 // What a turn leaves beside audio and stores.
-#[derive(Drop)]
+#[derive(Clone, Copy)]
 pub struct Turned {
     pub limiter: Limiter,
     pub bank: SmootherBank,
