@@ -89,6 +89,8 @@ module _ (target top : Float) where
   pub same_gains : (ps qs : List Float) → AllAlike (ceiling_of target top) ps qs → required_all target ps ≡ required_all target qs
   same_gains [] [] none = refl
   same_gains (p ∷ ps) (q ∷ qs) (some k ks) = rw (same_gain p q k, same_gains ps qs ks) refl
+  same_gains [] (q ∷ qs) none_here = elim none_here [ ]
+  same_gains (p ∷ ps) [] none_here = elim none_here [ ]
 
 -- ---- the peaks of a run
 unsigned_then : (a : Float) (later : List Float) → all_unsigned (a ∷ later) ≡ true → (sign_of a ≡ false) × (all_unsigned later ≡ true)
@@ -110,6 +112,8 @@ both_hear ceiling (p ∷ ps) (q ∷ qs) (x ∷ xs) (a ∷ later) (some k ks) u =
     let m = abs_of (finite_or_zero x) in
     let v = unsigned_then a later u in
     some (both_take ceiling (max_of p m) (max_of q m) a (both_take ceiling p q m k (abs_unsigned (finite_or_zero x))) v.0) (both_hear ceiling ps qs xs later ks v.1)
+both_hear ceiling [] (q ∷ qs) xs answers none_here u = elim none_here [ ]
+both_hear ceiling (p ∷ ps) [] xs answers none_here u = elim none_here [ ]
 
 -- one of them hears a channel that is at most the ceiling, or silent
 one_hears : (ceiling : Float) (ps qs xs answers : List Float) → AllAlike ceiling ps qs → all_unsigned answers ≡ true → length xs ≡ length ps → length answers ≡ length xs
@@ -124,11 +128,15 @@ one_hears ceiling (p ∷ ps) (q ∷ qs) (x ∷ xs) (a ∷ later) (some k ks) u n
     let h' = and-true (le y (height_of ceiling)) (all_below (height_of ceiling) (magnitudes xs)) h in
     let b' = and-true (le a (height_of ceiling)) (all_below (height_of ceiling) later) b in
     some (one_takes ceiling p (max_of q y) a (one_takes ceiling p q y k (abs_unsigned (finite_or_zero x)) h'.0) v.0 b'.0) (one_hears ceiling ps qs xs later ks v.1 (suc_inj n) (suc_inj m) h'.1 b'.1)
+one_hears ceiling [] (q ∷ qs) xs answers none_here u n m h b = elim none_here [ ]
+one_hears ceiling (p ∷ ps) [] xs answers none_here u n m h b = elim none_here [ ]
 
 pub alike_from_zero : (ceiling : Float) (ps qs : List Float) → AllAlike ceiling ps qs → all_from_zero ps ≡ true
 unfolding all_from_zero
 alike_from_zero ceiling [] [] none = refl
 alike_from_zero ceiling (p ∷ ps) (q ∷ qs) (some k ks) = rw k.from_zero.0 (alike_from_zero ceiling ps qs ks)
+alike_from_zero ceiling [] (q ∷ qs) none_here = elim none_here [ ]
+alike_from_zero ceiling (p ∷ ps) [] none_here = elim none_here [ ]
 
 pub zeros_alike : (ceiling : Float) (n : ℕ) → AllAlike ceiling (replicate n Number.zero) (replicate n Number.zero)
 unfolding le
@@ -138,6 +146,8 @@ zeros_alike ceiling (suc n) = some (record { same = inl refl; from_zero = (refl,
 pub alike_lengths : (ceiling : Float) (ps qs : List Float) → AllAlike ceiling ps qs → length qs ≡ length ps
 alike_lengths ceiling [] [] none = refl
 alike_lengths ceiling (p ∷ ps) (q ∷ qs) (some k ks) = ap suc (alike_lengths ceiling ps qs ks)
+alike_lengths ceiling [] (q ∷ qs) none_here = elim none_here [ ]
+alike_lengths ceiling (p ∷ ps) [] none_here = elim none_here [ ]
 
 -- a channel that does not count has no share
 heard_nothing : (ps xs answers : List Float) → length xs ≡ length ps → length answers ≡ length xs → heard_all false ps xs answers ≡ ps

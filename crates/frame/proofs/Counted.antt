@@ -111,6 +111,8 @@ module _ (linking : Linking) where
       go : (b : Bool) → linking.counts c ≡ b → heard b peak x (push d x).peak ≡ heard b peak y (push e y).peak
       go true k = rw (s k, t k) refl
       go false k = refl
+  linked_heard c peak d e [] (y ∷ ys) s none_here = elim none_here [ ]
+  linked_heard c peak d e (x ∷ xs) [] s none_here = elim none_here [ ]
 
   -- each channel's part of the store afterwards
   module _ (c : ℕ) (peak : Float) (d : List Float) (x : Float) (xs : List Float) (h : remembered ≤ length d) where
@@ -142,6 +144,8 @@ module _ (linking : Linking) where
       some {c = c} {n = length xs} {d = (linked_from linking c p d (x ∷ xs)).detector} {e = (linked_from linking c q e (y ∷ ys)).detector}
       (λ k. first_part c p d x xs D ∙ ap (λ (o : Pushed). o.store) (same_push c d e x y s t k) ∙ sym (first_part c q e y ys E))
       (rw (later_part c p d x xs D, later_part c q e y ys E) (stores_heard (c + 1) _ _ (drop remembered d) (drop remembered e) xs ys M N parts rest))
+  stores_heard c p q d e [] (y ∷ ys) m n s none_here = elim none_here [ ]
+  stores_heard c p q d e (x ∷ xs) [] m n s none_here = elim none_here [ ]
 
   -- ---- frames in turn, of so many channels: from the same envelope, and the same in the stores of those that count
   pub data SameFrames (channels : ℕ) : List (List Float) → List (List Float) → Type 0 where
@@ -176,3 +180,5 @@ module _ (linking : Linking) where
               (stores_heard 0 Number.zero Number.zero m.detector n.detector xs ys (s.long.0 ∙ ap (λ (k : ℕ). k * remembered) (sym w)) (s.long.1 ∙ ap (λ (k : ℕ). k * remembered) (sym w)) S t);
           long = (detector_length linking 0 Number.zero m.detector xs ∙ s.long.0, detector_length linking 0 Number.zero n.detector ys ∙ s.long.1);
         }))
+    left_out_unheard [] (ys ∷ gs) none_here m n s = elim none_here [ ]
+    left_out_unheard (xs ∷ fs) [] none_here m n s = elim none_here [ ]

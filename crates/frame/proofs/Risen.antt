@@ -63,6 +63,8 @@ module _ (i : ℕ) (r : Risen) (q : Float) (qs : List Float) where
 risen_alike : (ceiling : Float) (i : ℕ) (r : Risen) (ps qs : List Float) → NotAbove ceiling r.peak → AllAlike ceiling ps qs → risen_from i r ps ≡ risen_from i r qs
 unfolding risen_from
 risen_alike ceiling i r [] [] n none = refl
+risen_alike ceiling i r [] (q ∷ qs) n none_here = elim none_here [ ]
+risen_alike ceiling i r (p ∷ ps) [] n none_here = elim none_here [ ]
 risen_alike ceiling i r (p ∷ ps) (q ∷ qs) n (some k ks) =
     go (lt r.peak q) refl (λ e. risen_alike ceiling (i + 1) (risen_to q i) ps qs (rises ceiling r.peak q e n) ks) (risen_alike ceiling (i + 1) r ps qs n ks)
   where

@@ -1,7 +1,7 @@
 -- A run of up to 32 frames: the frames in turn. Its audio is planar, 32 places a channel.
 use Rattle.std.specs.Prelude.{ℕ, ◌+◌, ◌*◌, ◌≤◌, ◌<◌, ◌≡◌, List, [], ◌∷◌, map, length, get_or, Float}
 use Rattle.std.specs.Float.{nan}
-use Rattle.std.specs.Borrow.{Bor}
+use Rattle.std.specs.Borrow.{MutBor}
 use Rattle.arithmetic.specs.Sanitize.{finite_or_zero}
 use Rattle.audio.specs.Planar.{frames_at, written}
 use Rattle.detector.specs.Oversample.{remembered}
@@ -65,7 +65,7 @@ abbrev pub moving_at : Envelope → ℕ → List Float → List ℕ → List Flo
 moving_at e pos delay marks minima row detector = record { env = enveloped_at e marks minima row; delay = delay; pos = pos; detector = detector }
 
 -- the same as a contract names the lent stores: in what a function asks, at entry, and at exit
-abbrev pub moving_at_call : Envelope → ℕ → Bor (List Float) → Bor (List ℕ) → Bor (List Float) → Bor (List Float) → Bor (List Float) → Moving
+abbrev pub moving_at_call : Envelope → ℕ → MutBor (List Float) → MutBor (List ℕ) → MutBor (List Float) → MutBor (List Float) → MutBor (List Float) → Moving
 moving_at_call e pos delay marks minima row detector = moving_at e pos delay.now marks.now minima.now row.now detector.now
 
 abbrev pub moving_at_entry : Envelope → ℕ → Lent Float → Lent ℕ → Lent Float → Lent Float → Lent Float → Moving

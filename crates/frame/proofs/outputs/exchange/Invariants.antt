@@ -1,0 +1,21 @@
+-- `exchange`: the samples passed, and what the rest comes to, a straight stretch at a time.
+use mathlib.Core.Path.{◌≡◌, refl, ap, ◌∙◌}
+use mathlib.Core.List.{map}
+use Prim.Native.Nat.{◌+◌, ◌-◌, ◌≤◌, ◌<◌}
+use native.Mathlib.Omega.{arith}
+use native.Mathlib.Nat.{sub-zero}
+use borrow.Author.Rules.{rules}
+use lib.ListN.{length, drop}
+use Rattle.arithmetic.specs.Sanitize.{finite_or_zero}
+use Rattle.envelope.specs.Row.{pos_after}
+use Rattle.frame.specs.Passes.{exchange_of}
+use Rattle.frame.proofs.Stretch.{exchange_from, exchange_turn, clean_turn, exchange_done, pos_after_stretch, pos_next, pos_done}
+use Rattle.frame.proofs.outputs.exchange.Given as goal
+
+abbrev pub invariant-loop-i : goal.invariant-loop-i
+invariant-loop-i l =
+    (l.i ≤ l.n) × (l.p < l.look) × (length l.line ≡ l.look) × (length l.samples ≡ l.n) × (exchange_from l.look l.p l.line l.i l.samples ≡ exchange_of l.look l.pos l.initial.line l.initial.samples)
+    × (pos_after l.look l.p (l.n - l.i) ≡ pos_after l.look l.pos l.n) × (map finite_or_zero (drop l.i l.samples) ≡ drop l.i l.samples)
+
+abbrev pub decreases-loop-i : goal.decreases-loop-i
+decreases-loop-i l = l.n - l.i

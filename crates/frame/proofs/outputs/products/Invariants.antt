@@ -1,0 +1,17 @@
+-- `products`: the outputs passed, and what the rest comes to.
+use mathlib.Core.Path.{◌≡◌, refl, ◌∙◌}
+use mathlib.Core.List.{◌++◌}
+use Prim.Native.Nat.{◌-◌, ◌≤◌}
+use native.Mathlib.Omega.{arith}
+use borrow.Author.Rules.{rules}
+use lib.ListN.{length, take, drop, length-set}
+use Rattle.frame.specs.Rules.{leaves_by}
+use Rattle.frame.specs.Passes.{products_of}
+use Rattle.frame.proofs.Turns.{products_more, products_done}
+use Rattle.frame.proofs.outputs.products.Given as goal
+
+abbrev pub invariant-loop-i : goal.invariant-loop-i
+invariant-loop-i l = (l.i ≤ l.n) × (length l.samples ≡ l.n) × (take l.i l.samples ++ products_of (leaves_by l.format) (drop l.i l.gains) (drop l.i l.samples) ≡ products_of (leaves_by l.format) l.gains l.initial.samples)
+
+abbrev pub decreases-loop-i : goal.decreases-loop-i
+decreases-loop-i l = l.n - l.i

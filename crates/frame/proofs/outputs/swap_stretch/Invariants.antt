@@ -1,0 +1,16 @@
+-- `swap_stretch`: what the places passed hold, and what the rest comes to, for line and samples.
+use mathlib.Core.Path.{◌≡◌, refl, ◌∙◌}
+use mathlib.Core.List.{◌++◌}
+use Prim.Native.Nat.{◌-◌, ◌≤◌}
+use native.Mathlib.Omega.{arith}
+use borrow.Author.Rules.{rules}
+use lib.ListN.{length, get_or, take, drop, length-set}
+use lib.Ieee.{nan}
+use Rattle.arithmetic.proofs.InTurn.{lifted_more, lifted_done}
+use Rattle.frame.proofs.outputs.swap_stretch.Given as goal
+
+abbrev pub invariant-loop-i : goal.invariant-loop-i
+invariant-loop-i l = (l.i ≤ l.n) × (length l.line ≡ l.n) × (length l.samples ≡ l.n) × (take l.i l.line ++ drop l.i l.samples ≡ l.initial.samples) × (take l.i l.samples ++ drop l.i l.line ≡ l.initial.line)
+
+abbrev pub decreases-loop-i : goal.decreases-loop-i
+decreases-loop-i l = l.n - l.i

@@ -1,0 +1,15 @@
+-- `top_of`: what the peaks from i on raise stays what they all do.
+use Rattle.frame.proofs.Risen.{risen_up, risen_on, risen_done}
+use Rattle.frame.specs.Passes.{risen_to, risen_from}
+use lib.ListN.{length, drop}
+use Prim.Native.Nat.{◌-◌, ◌≤◌}
+use mathlib.Core.Logic.{⊎_elim}
+use mathlib.Core.Path.{◌≡◌, refl}
+use borrow.Author.Rules.{rules}
+use Rattle.frame.proofs.peak_place.top_of.Given as goal
+
+abbrev pub invariant-loop-i : goal.invariant-loop-i
+invariant-loop-i l = (l.i ≤ l.n) × (risen_from l.i (risen_to l.peak l.at) (drop l.i l.peaks) ≡ risen_from 0 (risen_to l.top (length l.peaks)) l.peaks)
+
+abbrev pub decreases-loop-i : goal.decreases-loop-i
+decreases-loop-i l = l.n - l.i

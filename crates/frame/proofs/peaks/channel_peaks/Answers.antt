@@ -1,0 +1,14 @@
+-- `channel_peaks`: the answers are a local array's first n.
+use Rattle.std.proofs.Common.{rules}
+use Rattle.frame.proofs.peaks.channel_peaks.Goals as goal
+
+pub hear_channel-requires : goal.hear_channel-requires
+hear_channel-requires c =
+    record {
+      store_len = c.requires.store_len;
+      samples_len = c.requires.samples_len;
+      answers_len = search rules;
+      samples_len_bound = c.requires.samples_len_bound;
+      peaks_value = c.requires.peaks_value;
+      c_value = c.requires.c_value;
+    }

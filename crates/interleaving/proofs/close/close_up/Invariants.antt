@@ -1,0 +1,20 @@
+-- `close_up`: the channels passed are apart; at the end what was aside goes behind them.
+use mathlib.Core.Path.{◌≡◌, refl, sym, ap, subst, ◌∙◌}
+use mathlib.Core.List.{◌++◌}
+use Prim.Native.Nat.{ℕ, ◌-◌, ◌*◌, ◌≤◌}
+use native.Mathlib.Nat.{mul_comm}
+use native.Mathlib.Omega.{arith}
+use borrow.Author.Rules.{rules}
+use lib.ListN.{length, take, drop}
+use Rattle.audio.specs.Format.{sample_bytes}
+use Rattle.interleaving.specs.Inner.{Lengths, Spread}
+use Rattle.interleaving.proofs.Tiling.{table_fits}
+use Rattle.interleaving.proofs.Spreading.{Sums, sums, rest_length, left_aside, Closing, spread_nothing, closing_none, closing_more, closed_part}
+use Rattle.interleaving.proofs.close.close_up.Given as goal
+
+abbrev pub invariant-loop-c : goal.invariant-loop-c
+invariant-loop-c l =
+    (l.c ≤ l.channels) × (length l.bytes ≡ length l.initial.bytes) × (length l.room ≡ 4096) × (length l.kept ≡ 4096) × Closing (sample_bytes l.format) l.channels (64 * l.tiles) l.left l.initial.bytes l.c l.kept l.bytes
+
+abbrev pub decreases-loop-c : goal.decreases-loop-c
+decreases-loop-c l = l.channels - l.c
