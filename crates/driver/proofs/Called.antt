@@ -56,17 +56,17 @@ module _ (m : Machine) (r : Reply) (R : r ≡ numbered (reset_refusal m)) (b : B
   number_is : r.number ≡ reset_refusal m
   number_is = ap (λ (x : Reply). x.number) R
 
-  pub reset_refused : not b ≡ true → left r m ≡ reset_of m
+  pub reset_refused : b ≡ false → left r m ≡ reset_of m
   unfolding reset_of
-  reset_refused f = ap (λ (x : Reply). left x m) R ∙ rw (ap (λ (n : ℕ). eqb n 0) (sym number_is) ∙ sym B ∙ not-true b f) refl
+  reset_refused f = ap (λ (x : Reply). left x m) R ∙ rw (ap (λ (n : ℕ). eqb n 0) (sym number_is) ∙ sym B ∙ f) refl
 
-  none : not b ≡ false → reset_refusal m ≡ 0
-  none f = sym number_is ∙ eqb-true r.number 0 (sym B ∙ not-false b f)
+  none : b ≡ true → reset_refusal m ≡ 0
+  none f = sym number_is ∙ eqb-true r.number 0 (sym B ∙ f)
 
-  pub reset_prepared_lem : not b ≡ false → prepared m.limiter m.bank ≡ true
+  pub reset_prepared_lem : b ≡ true → prepared m.limiter m.bank ≡ true
   unfolding reset_refusal
   reset_prepared_lem f = (passed_unless (prepared m.limiter m.bank) 17 _ (none f)).0
 
-  pub reset_done_lem : not b ≡ false → (o : Reset.Reset) → o ≡ Reset.reset_of m.limiter m.stores → (bank : SmootherBank) → bank ≡ all_changed reset_one m.bank → left (finished []) (machine_of o.limiter bank o.stores) ≡ reset_of m
+  pub reset_done_lem : b ≡ true → (o : Reset.Reset) → o ≡ Reset.reset_of m.limiter m.stores → (bank : SmootherBank) → bank ≡ all_changed reset_one m.bank → left (finished []) (machine_of o.limiter bank o.stores) ≡ reset_of m
   unfolding reset_of
   reset_done_lem f o k bank j = rw (k, j, none f) refl

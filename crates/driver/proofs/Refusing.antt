@@ -32,14 +32,14 @@ use Rattle.driver.proofs.Judged.{prepared_is}
 -- ---- replies in turn
 -- a first reply that is refused stands, and one that is finished gives way
 module _ (r first next : Reply) (R : r ≡ first) (b : Bool) (B : b ≡ eqb r.number 0) where
-  pub first_refused : not b ≡ true → r ≡ and_then first next
-  first_refused f = R ∙ rw (ap (λ (x : Reply). eqb x.number 0) (sym R) ∙ sym B ∙ not-true b f) refl
+  pub first_refused : b ≡ false → r ≡ and_then first next
+  first_refused f = R ∙ rw (ap (λ (x : Reply). eqb x.number 0) (sym R) ∙ sym B ∙ f) refl
 
-  pub first_passed : not b ≡ false → (s : Reply) → s ≡ next → s ≡ and_then first next
-  first_passed f s S = S ∙ rw (ap (λ (x : Reply). eqb x.number 0) (sym R) ∙ sym B ∙ not-false b f) refl
+  pub first_passed : b ≡ true → (s : Reply) → s ≡ next → s ≡ and_then first next
+  first_passed f s S = S ∙ rw (ap (λ (x : Reply). eqb x.number 0) (sym R) ∙ sym B ∙ f) refl
 
-  pub first_finished : not b ≡ false → first.number ≡ 0
-  first_finished f = sym (ap (λ (x : Reply). x.number) R) ∙ eqb-true r.number 0 (sym B ∙ not-false b f)
+  pub first_finished : b ≡ true → first.number ≡ 0
+  first_finished f = sym (ap (λ (x : Reply). x.number) R) ∙ eqb-true r.number 0 (sym B ∙ f)
 
 -- ---- 18, 16 and 19
 module _ (m : Machine) where
@@ -91,31 +91,31 @@ module _ (m : Machine) (position frames : ℕ) (events : List Event) (size : ℕ
     wrong_size n = rw (le-leb frames m.limiter.max_block h, ne_eqb size (m.limiter.channels * frames) n) refl
 
     module _ (e : size ≡ m.limiter.channels * frames) (r : Reply) (R : r ≡ events_reply frames 0 0 events) (b : Bool) (B : b ≡ eqb r.number 0) where
-      pub event_refused : not b ≡ true → r ≡ call_reply m position frames events size
-      event_refused f = rw (le-leb frames m.limiter.max_block h, eq-eqb size (m.limiter.channels * frames) e, ← R, sym B ∙ not-true b f) refl
+      pub event_refused : b ≡ false → r ≡ call_reply m position frames events size
+      event_refused f = rw (le-leb frames m.limiter.max_block h, eq-eqb size (m.limiter.channels * frames) e, ← R, sym B ∙ f) refl
 
-      pub far_judged : Order.prepared m.limiter ≡ true → not b ≡ false → (t : Bool) → leb position (farthest - frames) && leb m.limiter.env.keeper.frame (most_frames - frames) ≡ t
+      pub far_judged : Order.prepared m.limiter ≡ true → b ≡ true → (t : Bool) → leb position (farthest - frames) && leb m.limiter.env.keeper.frame (most_frames - frames) ≡ t
           → must t 22 ≡ call_reply m position frames events size
       far_judged p f t T =
           let few = block_most m.limiter p in
           let x = less_room position frames farthest (omega (arith, few, h)) in
           let y = less_room m.limiter.env.keeper.frame frames most_frames (omega (arith, few, h)) in
-          rw (le-leb frames m.limiter.max_block h, eq-eqb size (m.limiter.channels * frames) e, ← R, sym B ∙ not-false b f, ← T, x, y) refl
+          rw (le-leb frames m.limiter.max_block h, eq-eqb size (m.limiter.channels * frames) e, ← R, sym B ∙ f, ← T, x, y) refl
 
 -- ---- what a block leaves
 module _ (format : Format) (m : Machine) (position frames : ℕ) (events : List Event) (bytes : List ℕ) (size : ℕ) (S : size ≡ size_of format bytes) (r : Reply) (R : r ≡ block_reply m position frames events size) (b : Bool) (B : b ≡ eqb r.number 0) where
-  passed : not b ≡ false → eqb r.number 0 ≡ true
-  passed f = sym B ∙ not-false b f
+  passed : b ≡ true → eqb r.number 0 ≡ true
+  passed f = sym B ∙ f
 
   reply_is : block_reply m position frames events (size_of format bytes) ≡ r
   reply_is = ap (block_reply m position frames events) (sym S) ∙ sym R
 
-  pub block_left : not b ≡ true → record { reply = r; machine = m; bytes = bytes } ≡ seen (block_of format m position frames events bytes)
+  pub block_left : b ≡ false → record { reply = r; machine = m; bytes = bytes } ≡ seen (block_of format m position frames events bytes)
   unfolding block_by
-  block_left f = rw (reply_is, sym B ∙ not-true b f) refl
+  block_left f = rw (reply_is, sym B ∙ f) refl
 
   -- where nothing is refused
-  pub block_asks : not b ≡ false → BlockAsked m format position frames bytes
+  pub block_asks : b ≡ true → BlockAsked m format position frames bytes
   unfolding block_reply
   block_asks f =
       let z = ap (λ (x : Reply). x.number) (sym R) ∙ eqb-true r.number 0 (passed f) in
@@ -134,7 +134,7 @@ module _ (format : Format) (m : Machine) (position frames : ℕ) (events : List 
         far = leb-true (position + frames) farthest o.0;
       }
 
-  pub block_finished : (told : Reply) (m' : Machine) (bytes' : List ℕ) → not b ≡ false → (let o = block_done (rendered_in format m) format m position frames events bytes in told ≡ o.reply → m' ≡ o.machine → bytes' ≡ o.bytes
+  pub block_finished : (told : Reply) (m' : Machine) (bytes' : List ℕ) → b ≡ true → (let o = block_done (rendered_in format m) format m position frames events bytes in told ≡ o.reply → m' ≡ o.machine → bytes' ≡ o.bytes
       → record { reply = told; machine = m'; bytes = bytes' } ≡ seen (block_of format m position frames events bytes))
   unfolding block_by
   block_finished told m' bytes' f T M A = rw (reply_is, passed f, T, M, A) refl

@@ -59,19 +59,19 @@ module _ (m : Machine) where
   gain_not_set_up h = rw h refl
 
   module _ (h : prepared m.limiter m.bank ≡ true) (f : Bool) (F : f ≡ gain_fits m.limiter m.stores) where
-    pub gain_lengths : not f ≡ true → numbered 16 ≡ numbered (gain_reply m)
+    pub gain_lengths : f ≡ false → numbered 16 ≡ numbered (gain_reply m)
     unfolding gain_reply
-    gain_lengths z = rw (h, ← F, not-true f z) refl
+    gain_lengths z = rw (h, ← F, z) refl
 
-    module _ (z : not f ≡ false) (k t : Bool) (K : k ≡ kernel) (T : t ≡ target_in_range m.bank) where
+    module _ (z : f ≡ true) (k t : Bool) (K : k ≡ kernel) (T : t ≡ target_in_range m.bank) where
       pub gain_disorder : k && t ≡ false → numbered 19 ≡ numbered (gain_reply m)
       unfolding gain_reply is_in_order
-      gain_disorder o = rw (h, ← F, not-false f z, ← K, ← T, o) refl
+      gain_disorder o = rw (h, ← F, z, ← K, ← T, o) refl
 
       pub gain_room : k && t ≡ true → (r : Bool) → has_room m 1 ≡ r → must r 22 ≡ numbered (gain_reply m)
       unfolding gain_reply is_in_order
-      gain_room o true e = rw (h, ← F, not-false f z, ← K, ← T, o, e) refl
-      gain_room o false e = rw (h, ← F, not-false f z, ← K, ← T, o, e) refl
+      gain_room o true e = rw (h, ← F, z, ← K, ← T, o, e) refl
+      gain_room o false e = rw (h, ← F, z, ← K, ← T, o, e) refl
 
 -- ---- refused, or done
 module _ (m : Machine) (x : Float) (r : Answer) (R : answer_reply r ≡ numbered (gain_reply m)) where

@@ -9,7 +9,6 @@ use Rattle.settings.specs.declared.LimiterSettings.{LimiterSettings}
 use Rattle.settings.specs.declared.memory.Cap.{Cap}
 use Rattle.settings.specs.declared.ProcessSpec.{ProcessSpec}
 use Rattle.limiter.specs.State.{not_set_up}
-use Rattle.frame.specs.Lent.{Lent}
 use Rattle.limiter.specs.Stores.{Stores, stores_at}
 use Rattle.limiter.specs.Prepare.{prepare_of}
 use Rattle.limiter.specs.Reset
@@ -75,12 +74,6 @@ unfoldable pub reset_of : Machine → Left
 reset_of m = settled (numbered (reset_refusal m)) (reset_done m) m
 
 -- ---- the lone gain step: marks, minima, weights and row are lent
--- the four as a contract names them, beside any delay lines and detector store
-abbrev pub four_at_entry : List Float → Lent ℕ → Lent Float → Lent Float → Lent Float → List Float → Stores
-four_at_entry delay marks minima weights row detector = stores_at delay marks.entry.now minima.entry.now weights.entry.now row.entry.now detector
-
-abbrev pub four_at_exit : List Float → Lent ℕ → Lent Float → Lent Float → Lent Float → List Float → Stores
-four_at_exit delay marks minima weights row detector = stores_at delay marks.exit.now minima.exit.now weights.exit.now row.exit.now detector
 
 -- 16 of the four
 abbrev pub gain_fits : Limiter → Stores → Bool

@@ -1,7 +1,7 @@
 // A drain: the checks, then runs of silence (driver.rs: `flush` of KernelProcessor; limiter.rs: `flush`).
 ghost use Rattle.std.specs.Prelude.{◌≡◌, true, ◌≤◌};
 ghost use Rattle.limiter.specs.Order.{prepared};
-ghost use Rattle.limiter.specs.Stores.{Stores, at_entry, at_exit};
+ghost use Rattle.limiter.specs.Stores.{Stores, stores_at};
 ghost use Rattle.turns.specs.Drain.{tail_reply, drain_reply, drainable, drain_of};
 ghost use Rattle.driver.specs.Answers.{machine_at, answer_reply, flushed_at, seen};
 
@@ -53,7 +53,7 @@ impl KernelProcessor {
         row: &[f64],
         detector: &[f64],
     ) -> Answer
-        ensures { answer_reply result ≡ drain_reply (machine_at self (at_entry delay marks minima weights row detector)) frames size }
+        ensures { answer_reply result ≡ drain_reply (machine_at self (stores_at delay.now marks.now minima.now weights.now row.now detector.now)) frames size }
     {
         let l = self.limiter;
         let b = self.bank;
@@ -78,8 +78,8 @@ impl KernelProcessor {
         row: &mut [f64],
         detector: &mut [f64],
     ) -> Flushed
-        ensures { flushed_at result (at_exit delay marks minima weights row detector) audio.new
-            ≡ seen (drain_of format (machine_at self (at_entry delay marks minima weights row detector)) frames audio.old) }
+        ensures { flushed_at result (stores_at delay.new marks.new minima.new weights.now row.new detector.new) audio.new
+            ≡ seen (drain_of format (machine_at self (stores_at delay.old marks.old minima.old weights.now row.old detector.old)) frames audio.old) }
     {
         let size = size_of(format, audio);
         let answer = self.judge_drain(frames, size, delay, marks, minima, weights, row, detector);

@@ -1,9 +1,10 @@
 // The lone gain step: one required gain through the floor keeper, the attack row and the release.
+ghost use Rattle.limiter.specs.Stores.{stores_at};
 ghost use Rattle.std.specs.Prelude.{◌≡◌, List, ℕ, ◌≤◌, Float};
 ghost use Rattle.envelope.specs.Step.{gain_step_at};
 ghost use Rattle.arithmetic.specs.Reply.{numbered};
 ghost use Rattle.limiter.specs.Run.{moved_on};
-ghost use Rattle.driver.specs.Calls.{four_at_entry, four_at_exit, gain_fits, gain_reply, gain_told, gain_step};
+ghost use Rattle.driver.specs.Calls.{gain_fits, gain_reply, gain_told, gain_step};
 ghost use Rattle.driver.specs.Answers.{machine_at, answer_reply, gain_reply_of, gain_stepped_at};
 
 use crate::answers::{Answer, GainAnswer, GainStepped, Refusal};
@@ -18,7 +19,7 @@ use settings::memory::row_len;
 fn stores_fit(l: Limiter, marks: &[u64], minima: &[f64], weights: &[f64], row: &[f64]) -> bool
     requires { l.env.keeper.look ≤ 4096 }
     ensures { (delay detector : List Float) → result
-        ≡ gain_fits l (four_at_entry delay marks minima weights row detector) }
+        ≡ gain_fits l (stores_at delay marks.now minima.now weights.now row.now detector) }
 {
     let look = l.env.keeper.look;
     let n = row_len(look);
@@ -53,7 +54,7 @@ impl KernelProcessor {
     // 18, then 16, then 19, then 22.
     fn judge_gain(self, marks: &[u64], minima: &[f64], weights: &[f64], row: &[f64]) -> Answer
         ensures { (delay detector : List Float) → answer_reply result
-            ≡ numbered (gain_reply (machine_at self (four_at_entry delay marks minima weights row detector))) }
+            ≡ numbered (gain_reply (machine_at self (stores_at delay marks.now minima.now weights.now row.now detector))) }
     {
         if !self.is_prepared() {
             return Answer::Refused(Refusal::NotSetUp);
@@ -84,8 +85,8 @@ impl KernelProcessor {
         weights: &[f64],
         row: &mut [f64],
     ) -> GainStepped
-        ensures { (delay detector : List Float) → gain_stepped_at result (four_at_exit delay marks minima weights row detector)
-            ≡ gain_step (machine_at self (four_at_entry delay marks minima weights row detector)) gain }
+        ensures { (delay detector : List Float) → gain_stepped_at result (stores_at delay marks.new minima.new weights.now row.new detector)
+            ≡ gain_step (machine_at self (stores_at delay marks.old minima.old weights.now row.old detector)) gain }
     {
         let judged = self.judge_gain(marks, minima, weights, row);
         if let Answer::Refused(why) = judged {

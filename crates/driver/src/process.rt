@@ -1,7 +1,7 @@
 // A block: the checks, then its turns (driver.rs: `process` of KernelProcessor).
 ghost use Rattle.std.specs.Prelude.{◌≡◌, true};
 ghost use Rattle.limiter.specs.Order.{prepared};
-ghost use Rattle.limiter.specs.Stores.{Stores, at_entry, at_exit};
+ghost use Rattle.limiter.specs.Stores.{Stores, stores_at};
 ghost use Rattle.bank.specs.declared.smoother_bank.SmootherBank.{SmootherBank};
 ghost use Rattle.turns.specs.Machine.{machine_of};
 ghost use Rattle.turns.specs.Events.{events_of};
@@ -58,7 +58,7 @@ pub fn judge_block(
     detector: &[f64],
 ) -> Answer
     ensures { (b : SmootherBank) → shown_of b ≡ t → answer_reply result
-        ≡ block_reply (machine_of l b (at_entry delay marks minima weights row detector)) position frames (events_of events.now) size }
+        ≡ block_reply (machine_of l b (stores_at delay.now marks.now minima.now weights.now row.now detector.now)) position frames (events_of events.now) size }
 {
     let answer = judge(l, t, delay, marks, minima, weights, row, detector);
     if !answer.is_finished() {
@@ -97,8 +97,8 @@ impl KernelProcessor {
         row: &mut [f64],
         detector: &mut [f64],
     ) -> Processed
-        ensures { processed_at result (at_exit delay marks minima weights row detector) audio.new
-            ≡ seen (block_of format (machine_at self (at_entry delay marks minima weights row detector)) position frames
+        ensures { processed_at result (stores_at delay.new marks.new minima.new weights.now row.new detector.new) audio.new
+            ≡ seen (block_of format (machine_at self (stores_at delay.old marks.old minima.old weights.now row.old detector.old)) position frames
             (events_of events.now) audio.old) }
     {
         let size = size_of(format, audio);

@@ -2,7 +2,7 @@
 ghost use Rattle.std.specs.Prelude.{◌≡◌};
 ghost use Rattle.arithmetic.specs.Number.{within};
 ghost use Rattle.arithmetic.specs.Reply.{numbered};
-ghost use Rattle.limiter.specs.Stores.{at_entry};
+ghost use Rattle.limiter.specs.Stores.{stores_at};
 ghost use Rattle.bank.specs.Bank.{slot_at};
 ghost use Rattle.bank.specs.declared.smoother_bank.SmootherBank.{SmootherBank};
 ghost use Rattle.turns.specs.Machine.{machine_of, is_linear, declares, prepared, ready_refusal, reset_refusal};
@@ -93,7 +93,7 @@ pub fn judge(
     detector: &[f64],
 ) -> Answer
     ensures { (b : SmootherBank) → shown_of b ≡ t
-        → answer_reply result ≡ numbered (ready_refusal (machine_of l b (at_entry delay marks minima weights row detector))) }
+        → answer_reply result ≡ numbered (ready_refusal (machine_of l b (stores_at delay.now marks.now minima.now weights.now row.now detector.now))) }
 {
     if !is_set_up(l, t) {
         return Answer::Refused(Refusal::NotSetUp);
@@ -130,7 +130,7 @@ impl KernelProcessor {
         row: &[f64],
         detector: &[f64],
     ) -> Answer
-        ensures { answer_reply result ≡ numbered (reset_refusal (machine_at self (at_entry delay marks minima weights row detector))) }
+        ensures { answer_reply result ≡ numbered (reset_refusal (machine_at self (stores_at delay.now marks.now minima.now weights.now row.now detector.now))) }
     {
         if !self.is_prepared() {
             return Answer::Refused(Refusal::NotSetUp);

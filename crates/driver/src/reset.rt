@@ -1,6 +1,6 @@
 // Reset: the starting values again, the bank's too.
 ghost use Rattle.std.specs.Prelude.{◌≡◌};
-ghost use Rattle.limiter.specs.Stores.{at_entry, at_exit};
+ghost use Rattle.limiter.specs.Stores.{stores_at};
 ghost use Rattle.driver.specs.Calls.{reset_of};
 ghost use Rattle.driver.specs.Answers.{machine_at, called_at};
 
@@ -19,8 +19,8 @@ impl KernelProcessor {
         row: &mut [f64],
         detector: &mut [f64],
     ) -> Called
-        ensures { called_at result (at_exit delay marks minima weights row detector)
-            ≡ reset_of (machine_at self (at_entry delay marks minima weights row detector)) }
+        ensures { called_at result (stores_at delay.new marks.now minima.now weights.now row.new detector.new)
+            ≡ reset_of (machine_at self (stores_at delay.old marks.now minima.now weights.now row.old detector.old)) }
     {
         let answer = self.judge_reset(delay, marks, minima, weights, row, detector);
         if !answer.is_finished() {

@@ -1,7 +1,7 @@
 // Setup: the bank of the one parameter, its bytes, then the limiter with the rest of the cap.
 ghost use Rattle.std.specs.Prelude.{◌≡◌, cond, eqb, replicate};
 ghost use Rattle.limiter.specs.State.{not_set_up};
-ghost use Rattle.limiter.specs.Stores.{Stores, at_entry, at_exit};
+ghost use Rattle.limiter.specs.Stores.{Stores, stores_at};
 ghost use Rattle.limiter.specs.Prepare.{prepare_reply};
 ghost use Rattle.bank.specs.Bank;
 ghost use Rattle.bank.specs.Bank.{unset, set_up_of};
@@ -94,8 +94,8 @@ impl KernelProcessor {
         row: &mut [f64],
         detector: &mut [f64],
     ) -> SetUp
-        ensures { set_up_at result (at_exit delay marks minima weights row detector)
-            ≡ setup_of s spec (at_entry delay marks minima weights row detector) }
+        ensures { set_up_at result (stores_at delay.new marks.new minima.new weights.new row.new detector.new)
+            ≡ setup_of s spec (stores_at delay.old marks.old minima.old weights.old row.old detector.old) }
     {
         let cap = spec.cap;
         let set = bank_of(s, spec.rate);

@@ -1,5 +1,4 @@
 -- What the contracts of `frame` cite: one frame, a run of frames (document 01, "One gain step" and "Blocks, drains, parameters"), and the passes in which the code goes about a run.
-pub mod Lent
 pub mod Rules
 pub mod Seat
 pub mod Frame

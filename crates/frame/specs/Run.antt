@@ -1,7 +1,6 @@
 -- A run of up to 32 frames: the frames in turn. Its audio is planar, 32 places a channel.
 use Rattle.std.specs.Prelude.{ℕ, ◌+◌, ◌*◌, ◌≤◌, ◌<◌, ◌≡◌, List, [], ◌∷◌, map, length, get_or, Float}
 use Rattle.std.specs.Float.{nan}
-use Rattle.std.specs.Borrow.{MutBor}
 use Rattle.arithmetic.specs.Sanitize.{finite_or_zero}
 use Rattle.audio.specs.Planar.{frames_at, written}
 use Rattle.detector.specs.Oversample.{remembered}
@@ -9,7 +8,6 @@ use Rattle.detector.specs.Run.{run_length}
 use Rattle.keeper.specs.InOrder.{most_frames}
 use Rattle.envelope.specs.Step.{EnvReady, enveloped_at}
 use Rattle.envelope.specs.declared.env.Envelope.{Envelope}
-use Rattle.frame.specs.Lent.{Lent}
 use Rattle.frame.specs.Rules.{Rules}
 use Rattle.frame.specs.Seat.{PeakAt}
 use Rattle.frame.specs.Frame.{Moving, Framed, frame_of}
@@ -63,16 +61,6 @@ run_of rules weights coeff look target channels n m audio =
 -- read off the envelope, the position and the stores
 abbrev pub moving_at : Envelope → ℕ → List Float → List ℕ → List Float → List Float → List Float → Moving
 moving_at e pos delay marks minima row detector = record { env = enveloped_at e marks minima row; delay = delay; pos = pos; detector = detector }
-
--- the same as a contract names the lent stores: in what a function asks, at entry, and at exit
-abbrev pub moving_at_call : Envelope → ℕ → MutBor (List Float) → MutBor (List ℕ) → MutBor (List Float) → MutBor (List Float) → MutBor (List Float) → Moving
-moving_at_call e pos delay marks minima row detector = moving_at e pos delay.now marks.now minima.now row.now detector.now
-
-abbrev pub moving_at_entry : Envelope → ℕ → Lent Float → Lent ℕ → Lent Float → Lent Float → Lent Float → Moving
-moving_at_entry e pos delay marks minima row detector = moving_at e pos delay.entry.now marks.entry.now minima.entry.now row.entry.now detector.entry.now
-
-abbrev pub moving_at_exit : Envelope → ℕ → Lent Float → Lent ℕ → Lent Float → Lent Float → Lent Float → Moving
-moving_at_exit e pos delay marks minima row detector = moving_at e pos delay.exit.now marks.exit.now minima.exit.now row.exit.now detector.exit.now
 
 abbrev pub done_at : Moving → List Float → RunDone
 done_at m audio = record { moving = m; audio = audio }

@@ -3,7 +3,7 @@ ghost use Rattle.std.specs.Prelude.{◌≡◌, ◌≤◌, replicate};
 ghost use Rattle.arithmetic.specs.Number.{zero};
 ghost use Rattle.frame.specs.Rules.{rules_of};
 ghost use Rattle.frame.specs.Place.{highest_from};
-ghost use Rattle.frame.specs.Run.{frames_of, gains_of_frames, peaks_of_frames, frames_in, run_of, moving_at_call, moving_at_entry, moving_at_exit, done_at, RunReady};
+ghost use Rattle.frame.specs.Run.{frames_of, gains_of_frames, peaks_of_frames, frames_in, run_of, done_at, RunReady, moving_at};
 
 use crate::gains::{gain_steps, required_gains};
 use crate::highest::Highest;
@@ -47,18 +47,18 @@ fn render_in(
     detector: &mut [f64],
     gains: &mut [f64],
 ) -> Rendered
-    requires run_ready { RunReady weights.now look channels n (moving_at_call env pos delay marks minima row detector) audio.old }
+    requires run_ready { RunReady weights.now look channels n (moving_at env pos delay.old marks.old minima.old row.old detector.old) audio.old }
     requires first_bound { first ≤ 65536 }
     requires gains_value { gains.old ≡ replicate n zero }
-    ensures audio_after { done_at (moving_at_exit result.env result.pos delay marks minima row detector) audio.new
+    ensures audio_after { done_at (moving_at result.env result.pos delay.new marks.new minima.new row.new detector.new) audio.new
         ≡ run_of (rules_of settings format) weights.now coeff look target channels n
-        (moving_at_entry env pos delay marks minima row detector) audio.old }
+        (moving_at env pos delay.old marks.old minima.old row.old detector.old) audio.old }
     ensures highest_value { result.highest
         ≡ highest_from first best (peaks_of_frames (frames_of (rules_of settings format) weights.now coeff look target
-        (moving_at_entry env pos delay marks minima row detector) (frames_in channels n audio.old)).frames) }
+        (moving_at env pos delay.old marks.old minima.old row.old detector.old) (frames_in channels n audio.old)).frames) }
     ensures gains_after { gains.new
         ≡ gains_of_frames (frames_of (rules_of settings format) weights.now coeff look target
-        (moving_at_entry env pos delay marks minima row detector) (frames_in channels n audio.old)).frames }
+        (moving_at env pos delay.old marks.old minima.old row.old detector.old) (frames_in channels n audio.old)).frames }
 {
     let ceiling = ceiling_of(target, best.peak);
     let heard = all_peaks(settings, ceiling, channels, n, audio, detector, gains);
@@ -96,14 +96,14 @@ pub fn render_run(
     row: &mut [f64],
     detector: &mut [f64],
 ) -> Rendered
-    requires run_ready { RunReady weights.now look channels n (moving_at_call env pos delay marks minima row detector) audio.old }
+    requires run_ready { RunReady weights.now look channels n (moving_at env pos delay.old marks.old minima.old row.old detector.old) audio.old }
     requires first_bound { first ≤ 65536 }
-    ensures audio_after { done_at (moving_at_exit result.env result.pos delay marks minima row detector) audio.new
+    ensures audio_after { done_at (moving_at result.env result.pos delay.new marks.new minima.new row.new detector.new) audio.new
         ≡ run_of (rules_of settings format) weights.now coeff look target channels n
-        (moving_at_entry env pos delay marks minima row detector) audio.old }
+        (moving_at env pos delay.old marks.old minima.old row.old detector.old) audio.old }
     ensures highest_value { result.highest
         ≡ highest_from first best (peaks_of_frames (frames_of (rules_of settings format) weights.now coeff look target
-        (moving_at_entry env pos delay marks minima row detector) (frames_in channels n audio.old)).frames) }
+        (moving_at env pos delay.old marks.old minima.old row.old detector.old) (frames_in channels n audio.old)).frames) }
 {
     let mut gains = [0.0; 32];
     render_in(

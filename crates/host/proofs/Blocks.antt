@@ -95,14 +95,14 @@ module _ (format : Format) (answer state : List ℕ) (position frames : ℕ) (wo
     held : q ≡ processor_in state
     held = read_parts state h l L t T (bank_with t) refl
 
-    pub refused_block : not f ≡ true → (r : ℕ) → r ≡ reply.number → (after : List ℕ) → after ≡ answered_by answer reply → returned_with (returned_at r after state stores) bytes ≡ audio_by call answer state stores bytes
+    pub refused_block : f ≡ false → (r : ℕ) → r ≡ reply.number → (after : List ℕ) → after ≡ answered_by answer reply → returned_with (returned_at r after state stores) bytes ≡ audio_by call answer state stores bytes
     refused_block z r R after A =
-        told q held r after reply (block_left format (machine_at q stores) position frames (events_of words) bytes size S reply (J (bank_with t) refl) f F z) (sym F ∙ not-true f z) R A
+        told q held r after reply (block_left format (machine_at q stores) position frames (events_of words) bytes size S reply (J (bank_with t) refl) f F z) (sym F ∙ z) R A
 
-    pub block_may : not f ≡ false → BlockAsked (machine_of l (bank_with t) stores) format position frames bytes
+    pub block_may : f ≡ true → BlockAsked (machine_of l (bank_with t) stores) format position frames bytes
     block_may z = block_asks format (machine_at q stores) position frames (events_of words) bytes size S reply (J (bank_with t) refl) f F z
 
-    pub rendered_block : not f ≡ false → (done : RenderedBlock) (later : Stores) (bytes' : List ℕ)
+    pub rendered_block : f ≡ true → (done : RenderedBlock) (later : Stores) (bytes' : List ℕ)
         → (let o = driven format (machine_of l (bank_with t) stores) position frames words bytes in rendered_at done later ≡ showing o.machine → bytes' ≡ o.bytes → place_found_at done.frame done.seat ≡ place_told (not (eqb (length answer) 0)) (peaks_of_frames o.frames)
         → (r : ℕ) → r ≡ 0 → (after : List ℕ) → after ≡ answered_by answer (placed done.frame done.seat) → (next : List ℕ) → ((b : SmootherBank) → shown_of b ≡ done.threshold → next ≡ state_out (record { limiter = done.limiter; bank = b }))
         → returned_with (returned_at r after next later) bytes' ≡ audio_by call answer state stores bytes)

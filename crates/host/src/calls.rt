@@ -5,13 +5,13 @@ ghost use Rattle.arithmetic.specs.Reply.{refused, count};
 ghost use Rattle.settings.specs.Settings.{settings_of, process_spec};
 ghost use Rattle.settings.specs.Derived.{look_of};
 ghost use Rattle.settings.specs.House.{house_fits};
-ghost use Rattle.limiter.specs.Stores.{Stores, at_entry, at_exit};
+ghost use Rattle.limiter.specs.Stores.{Stores, stores_at};
 ghost use Rattle.turns.specs.Machine.{Machine};
 ghost use Rattle.turns.specs.Block.{placed};
 ghost use Rattle.bank.specs.declared.smoother_bank.SmootherBank.{SmootherBank};
 ghost use Rattle.driver.specs.Answers.{answer_reply};
 ghost use Rattle.driver.specs.Parts.{shown_of};
-ghost use Rattle.driver.specs.Calls.{reset_of, gain_step, four_at_entry, four_at_exit};
+ghost use Rattle.driver.specs.Calls.{reset_of, gain_step};
 ghost use Rattle.state_bytes.specs.State.{state_bytes, state_out};
 ghost use Rattle.host.specs.Answer.{reply_words, words_of, answered, answered_by};
 ghost use Rattle.host.specs.Host.{returned_at, called_by, returned_with, process_by, flush_by, parameter_by, read_at, value_by, cap_of, asked_of, setup_by, whole_needed};
@@ -156,8 +156,8 @@ pub extern "C" fn daggeryuzu_reset(
     row: &mut [f64],
     detector: &mut [f64],
 ) -> u32
-    ensures { returned_at result answer.new state.new (at_exit delay marks minima weights row detector)
-        ≡ called_by reset_of answer.old state.old (at_entry delay marks minima weights row detector) }
+    ensures { returned_at result answer.new state.new (stores_at delay.new marks.now minima.now weights.now row.new detector.new)
+        ≡ called_by reset_of answer.old state.old (stores_at delay.old marks.now minima.now weights.now row.old detector.old) }
 {
     let p = read_state(state);
     let done = p.reset(delay, marks, minima, weights, row, detector);
@@ -178,9 +178,9 @@ pub extern "C" fn daggeryuzu_gain_step(
     row: &mut [f64],
 ) -> u32
     ensures { (delay detector : List Float)
-        → returned_at result answer.new state.new (four_at_exit delay marks minima weights row detector)
+        → returned_at result answer.new state.new (stores_at delay marks.new minima.new weights.now row.new detector)
         ≡ called_by (λ (m : Machine). gain_step m (bits gain)) answer.old state.old
-        (four_at_entry delay marks minima weights row detector) }
+        (stores_at delay marks.old minima.old weights.now row.old detector) }
 {
     let p = read_state(state);
     let done = p.step_env(from_bits(gain), marks, minima, weights, row);
@@ -206,8 +206,8 @@ fn process_as(
     row: &mut [f64],
     detector: &mut [f64],
 ) -> u32
-    ensures { returned_with (returned_at result answer.new state.new (at_exit delay marks minima weights row detector)) audio.new
-        ≡ process_by format position frames events.now answer.old state.old (at_entry delay marks minima weights row detector) audio.old }
+    ensures { returned_with (returned_at result answer.new state.new (stores_at delay.new marks.new minima.new weights.now row.new detector.new)) audio.new
+        ≡ process_by format position frames events.now answer.old state.old (stores_at delay.old marks.old minima.old weights.now row.old detector.old) audio.old }
 {
     if !is_state(state) {
         return refuse(answer, Answer::Refused(Refusal::NotSetUp));
@@ -256,8 +256,8 @@ pub extern "C" fn daggeryuzu_process(
     row: &mut [f64],
     detector: &mut [f64],
 ) -> u32
-    ensures { returned_with (returned_at result answer.new state.new (at_exit delay marks minima weights row detector)) audio.new
-        ≡ process_by Format.F64 position frames events.now answer.old state.old (at_entry delay marks minima weights row detector) audio.old }
+    ensures { returned_with (returned_at result answer.new state.new (stores_at delay.new marks.new minima.new weights.now row.new detector.new)) audio.new
+        ≡ process_by Format.F64 position frames events.now answer.old state.old (stores_at delay.old marks.old minima.old weights.now row.old detector.old) audio.old }
 {
     process_as(
         Format::F64,
@@ -292,8 +292,8 @@ pub extern "C" fn daggeryuzu_process_float(
     row: &mut [f64],
     detector: &mut [f64],
 ) -> u32
-    ensures { returned_with (returned_at result answer.new state.new (at_exit delay marks minima weights row detector)) audio.new
-        ≡ process_by Format.F32 position frames events.now answer.old state.old (at_entry delay marks minima weights row detector) audio.old }
+    ensures { returned_with (returned_at result answer.new state.new (stores_at delay.new marks.new minima.new weights.now row.new detector.new)) audio.new
+        ≡ process_by Format.F32 position frames events.now answer.old state.old (stores_at delay.old marks.old minima.old weights.now row.old detector.old) audio.old }
 {
     process_as(
         Format::F32,
@@ -326,8 +326,8 @@ fn flush_as(
     row: &mut [f64],
     detector: &mut [f64],
 ) -> u32
-    ensures { returned_with (returned_at result answer.new state.new (at_exit delay marks minima weights row detector)) audio.new
-        ≡ flush_by format frames answer.old state.old (at_entry delay marks minima weights row detector) audio.old }
+    ensures { returned_with (returned_at result answer.new state.new (stores_at delay.new marks.new minima.new weights.now row.new detector.new)) audio.new
+        ≡ flush_by format frames answer.old state.old (stores_at delay.old marks.old minima.old weights.now row.old detector.old) audio.old }
 {
     let p = read_state(state);
     let done = p.flush(
@@ -352,8 +352,8 @@ pub extern "C" fn daggeryuzu_flush(
     row: &mut [f64],
     detector: &mut [f64],
 ) -> u32
-    ensures { returned_with (returned_at result answer.new state.new (at_exit delay marks minima weights row detector)) audio.new
-        ≡ flush_by Format.F64 frames answer.old state.old (at_entry delay marks minima weights row detector) audio.old }
+    ensures { returned_with (returned_at result answer.new state.new (stores_at delay.new marks.new minima.new weights.now row.new detector.new)) audio.new
+        ≡ flush_by Format.F64 frames answer.old state.old (stores_at delay.old marks.old minima.old weights.now row.old detector.old) audio.old }
 {
     flush_as(
         Format::F64,
@@ -384,8 +384,8 @@ pub extern "C" fn daggeryuzu_flush_float(
     row: &mut [f64],
     detector: &mut [f64],
 ) -> u32
-    ensures { returned_with (returned_at result answer.new state.new (at_exit delay marks minima weights row detector)) audio.new
-        ≡ flush_by Format.F32 frames answer.old state.old (at_entry delay marks minima weights row detector) audio.old }
+    ensures { returned_with (returned_at result answer.new state.new (stores_at delay.new marks.new minima.new weights.now row.new detector.new)) audio.new
+        ≡ flush_by Format.F32 frames answer.old state.old (stores_at delay.old marks.old minima.old weights.now row.old detector.old) audio.old }
 {
     flush_as(
         Format::F32,
@@ -451,10 +451,10 @@ pub extern "C" fn daggeryuzu_setup(
     row: &mut [f64],
     detector: &mut [f64],
 ) -> u32
-    ensures { returned_at result answer.new state.new (at_exit delay marks minima weights row detector)
+    ensures { returned_at result answer.new state.new (stores_at delay.new marks.new minima.new weights.new row.new detector.new)
         ≡ setup_by (settings_of (bits threshold_db) (bits true_peak_margin_db) (bits lookahead_ms) (bits release_ms) (left_out % 256))
         (process_spec rate channels max_block (cap_of capped cap) (asked_of house))
-        answer.old state.old (at_entry delay marks minima weights row detector) }
+        answer.old state.old (stores_at delay.old marks.old minima.old weights.old row.old detector.old) }
 {
     let s = LimiterSettings {
         threshold_db: from_bits(threshold_db),

@@ -2,11 +2,8 @@
 use mathlib.Core.Path.{◌≡◌, refl, sym, ap, ◌∙◌}
 use mathlib.Core.Bool.{Bool, true, false, cond, not, ◌&&◌, ◌||◌}
 use mathlib.Core.List.{List, [], ◌∷◌, map}
-use mathlib.Core.Logic.{inl, inr}
 use Prim.Native.Nat.{ℕ, suc, ◌+◌, ◌*◌, ◌≤◌}
 use native.Mathlib.Omega.{arith}
-use types.Run.{OneOf}
-use denote.Enum.Declared.{tag_of}
 use lib.Dec.{eqb, leb}
 use lib.ListN.{length}
 use lib.Ieee.{Float}
@@ -104,19 +101,9 @@ module _ (spec : ProcessSpec) (look : ℕ) (l : StoreLengths) (weights : List Fl
     weights_last f b e = rw (h, f, e) refl
 
 -- ---- finished answers
--- the tags after that of `Finished`, each less one
-abbrev others : List ℕ
-others = 0 ∷ 1 ∷ 2 ∷ 3 ∷ 4 ∷ []
-
-past_zero : (ks : List ℕ) → OneOf (map suc ks) 0 → ⊥
-past_zero [] o = o
-past_zero (k ∷ []) e = omega arith
-past_zero (k ∷ j ∷ ks) (inl e) = omega arith
-past_zero (k ∷ j ∷ ks) (inr o) = past_zero (j ∷ ks) o
-
 -- only `Finished` has number 0
-pub other_case : (a : PrepareAnswer) → OneOf (map suc others) (tag_of the_type a) → false ≡ eqb (prepare_reply a).number 0
-other_case Finished o = absurd (past_zero others o)
+pub other_case : (a : PrepareAnswer) → (a ≡ Finished → ⊥) → false ≡ eqb (prepare_reply a).number 0
+other_case Finished o = absurd (o refl)
 other_case (Settings why) o = sym (refused_number why)
 other_case (OverCap need cap) o = refl
 other_case NoHouse o = refl

@@ -53,14 +53,14 @@ module _ (l : Limiter) (spec : ProcessSpec) (told : spec ≡ spec_of l) (ok : Bo
   judged : ok ≡ eqb (refusal_of l.settings (spec_of l)) 0
   judged = found ∙ ap (λ (x : ProcessSpec). eqb (refusal_of l.settings x) 0) told
 
-  pub refused_settings : not ok ≡ true → false ≡ prepared l
+  pub refused_settings : ok ≡ false → false ≡ prepared l
   unfolding prepared
-  refused_settings h = rw (← judged, not-true ok h) refl
+  refused_settings h = rw (← judged, h) refl
 
-  pub passed_settings : not ok ≡ false → refusal_of l.settings (spec_of l) ≡ 0
-  passed_settings h = eqb-true (refusal_of l.settings (spec_of l)) 0 (sym judged ∙ not-false ok h)
+  pub passed_settings : ok ≡ true → refusal_of l.settings (spec_of l) ≡ 0
+  passed_settings h = eqb-true (refusal_of l.settings (spec_of l)) 0 (sym judged ∙ h)
 
-  pub accepted_settings : not ok ≡ false → (look : ℕ) (coeff : Float) (same : Bool) → look ≡ look_of l.settings.lookahead_ms l.rate
+  pub accepted_settings : ok ≡ true → (look : ℕ) (coeff : Float) (same : Bool) → look ≡ look_of l.settings.lookahead_ms l.rate
       → coeff ≡ coefficient_of l.settings.release_ms l.rate → same ≡ same_value l.release_coeff coeff → eqb l.env.keeper.look look && same ≡ prepared l
   unfolding prepared
   accepted_settings h look coeff same L C S = rw (passed_settings h, S, C, L) refl

@@ -1,10 +1,8 @@
 -- The lent stores, in document 01's order.
 use Rattle.std.specs.Prelude.{ℕ, ◌+◌, ◌*◌, Bool, ◌&&◌, List, eqb, length, replicate, Float}
-use Rattle.std.specs.Borrow.{Bor}
 use Rattle.arithmetic.specs.Number
 use Rattle.arithmetic.specs.Number.{one}
 use Rattle.settings.specs.Derived.{row_of}
-use Rattle.frame.specs.Lent.{Lent}
 use Rattle.limiter.specs.declared.stores.StoreLengths.{StoreLengths}
 
 pub record Stores : Type 0 where
@@ -17,20 +15,6 @@ pub record Stores : Type 0 where
 
 abbrev pub stores_at : List Float → List ℕ → List Float → List Float → List Float → List Float → Stores
 stores_at delay marks minima weights row detector = record { delay = delay; marks = marks; minima = minima; weights = weights; row = row; detector = detector }
-
--- ---- the six as a contract names them
--- at entry, and at exit
-abbrev pub at_entry : Lent Float → Lent ℕ → Lent Float → Lent Float → Lent Float → Lent Float → Stores
-at_entry delay marks minima weights row detector =
-    stores_at delay.entry.now marks.entry.now minima.entry.now weights.entry.now row.entry.now detector.entry.now
-
-abbrev pub at_exit : Lent Float → Lent ℕ → Lent Float → Lent Float → Lent Float → Lent Float → Stores
-at_exit delay marks minima weights row detector =
-    stores_at delay.exit.now marks.exit.now minima.exit.now weights.exit.now row.exit.now detector.exit.now
-
--- in what a function asks
-abbrev pub at_call : Bor (List Float) → Bor (List ℕ) → Bor (List Float) → Bor (List Float) → Bor (List Float) → Bor (List Float) → Stores
-at_call delay marks minima weights row detector = stores_at delay.now marks.now minima.now weights.now row.now detector.now
 
 -- the stores' lengths, in their order
 abbrev pub lengths_of : Stores → StoreLengths

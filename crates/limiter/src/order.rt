@@ -1,6 +1,6 @@
 // The kernel's share of 18, 16 and 19.
 ghost use Rattle.std.specs.Prelude.{◌≡◌, true, ◌+◌, length};
-ghost use Rattle.limiter.specs.Stores.{at_entry, lengths_of, lengths_fit};
+ghost use Rattle.limiter.specs.Stores.{lengths_of, lengths_fit, stores_at};
 ghost use Rattle.limiter.specs.Order.{prepared, is_in_order};
 
 use crate::state::Limiter;
@@ -34,7 +34,7 @@ impl Limiter {
     ) -> bool
         requires { prepared self ≡ true }
         ensures { result
-            ≡ lengths_fit self.channels self.env.keeper.look (lengths_of (at_entry delay marks minima weights row detector)) }
+            ≡ lengths_fit self.channels self.env.keeper.look (lengths_of (stores_at delay.now marks.now minima.now weights.now row.now detector.now)) }
     {
         let l = lengths_of(delay, marks, minima, weights, row, detector);
         lengths_fit(self.channels, self.env.keeper.look, l)

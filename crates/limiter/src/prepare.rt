@@ -4,7 +4,7 @@ ghost use Rattle.arithmetic.specs.Reply.{numbered};
 ghost use Rattle.settings.specs.Derived.{look_of, row_of};
 ghost use Rattle.settings.specs.Weights.{accepted};
 ghost use Rattle.settings.specs.House.{house_fits, weights_for};
-ghost use Rattle.limiter.specs.Stores.{at_entry, at_exit};
+ghost use Rattle.limiter.specs.Stores.{stores_at};
 ghost use Rattle.limiter.specs.Prepare.{prepare_reply, stores_refusal, prepare_refusal, prepared_at, prepare_of};
 
 use crate::state::Limiter;
@@ -122,8 +122,8 @@ impl Limiter {
         row: &mut [f64],
         detector: &mut [f64],
     ) -> Prepared
-        ensures { prepared_at result (at_exit delay marks minima weights row detector)
-            ≡ prepare_of s spec (at_entry delay marks minima weights row detector) }
+        ensures { prepared_at result (stores_at delay.new marks.new minima.new weights.new row.new detector.new)
+            ≡ prepare_of s spec (stores_at delay.old marks.old minima.old weights.old row.old detector.old) }
     {
         let l = lengths_of(delay, marks, minima, weights, row, detector);
         let answer = judge(s, spec, l, weights);

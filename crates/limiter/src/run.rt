@@ -3,7 +3,7 @@
 ghost use Rattle.std.specs.Prelude.{◌≡◌, ◌+◌, ◌≤◌};
 ghost use Rattle.frame.specs.Rules.{rules_of};
 ghost use Rattle.frame.specs.Run.{Sanitized};
-ghost use Rattle.limiter.specs.Stores.{at_entry, at_exit, at_call};
+ghost use Rattle.limiter.specs.Stores.{stores_at};
 ghost use Rattle.frame.specs.Place.{highest_from};
 ghost use Rattle.limiter.specs.Run.{moved_on, KernelReady, ran_at, render_of, drain_of, peaks_in};
 
@@ -64,13 +64,13 @@ impl Limiter {
         first: usize,
         best: Highest,
     ) -> Moved
-        requires kernel_ready { KernelReady self n (at_call delay marks minima weights row detector) audio.old }
+        requires kernel_ready { KernelReady self n (stores_at delay.old marks.old minima.old weights.now row.old detector.old) audio.old }
         requires sanitized { Sanitized self.channels n audio.old }
         requires first_bound { first ≤ 65536 }
-        ensures audio_after { ran_at result.limiter (at_exit delay marks minima weights row detector) audio.new
-            ≡ render_of (rules_of self.settings format) self target n (at_entry delay marks minima weights row detector) audio.old }
+        ensures audio_after { ran_at result.limiter (stores_at delay.new marks.new minima.new weights.now row.new detector.new) audio.new
+            ≡ render_of (rules_of self.settings format) self target n (stores_at delay.old marks.old minima.old weights.now row.old detector.old) audio.old }
         ensures highest_value { result.highest
-            ≡ highest_from first best (peaks_in (rules_of self.settings format) self target n (at_entry delay marks minima weights row detector) audio.old) }
+            ≡ highest_from first best (peaks_in (rules_of self.settings format) self target n (stores_at delay.old marks.old minima.old weights.now row.old detector.old) audio.old) }
     {
         let settings = self.settings;
         let env = self.env;
@@ -112,9 +112,9 @@ impl Limiter {
         row: &mut [f64],
         detector: &mut [f64],
     ) -> Limiter
-        requires { KernelReady self n (at_call delay marks minima weights row detector) audio.old }
-        ensures { ran_at result (at_exit delay marks minima weights row detector) audio.new
-            ≡ drain_of (rules_of self.settings format) self n (at_entry delay marks minima weights row detector) audio.old }
+        requires { KernelReady self n (stores_at delay.old marks.old minima.old weights.now row.old detector.old) audio.old }
+        ensures { ran_at result (stores_at delay.new marks.new minima.new weights.now row.new detector.new) audio.new
+            ≡ drain_of (rules_of self.settings format) self n (stores_at delay.old marks.old minima.old weights.now row.old detector.old) audio.old }
     {
         fill(audio, 0.0);
         let drained = self.drained + n;

@@ -1,6 +1,6 @@
 // Lengths and fills of the lent stores.
 ghost use Rattle.std.specs.Prelude.{◌≡◌, ◌≤◌};
-ghost use Rattle.limiter.specs.Stores.{at_entry, lengths_of, lengths_fit};
+ghost use Rattle.limiter.specs.Stores.{lengths_of, lengths_fit, stores_at};
 
 pub use keeper::fill;
 
@@ -23,7 +23,7 @@ pub fn lengths_of(
     row: &[f64],
     detector: &[f64],
 ) -> StoreLengths
-    ensures { result ≡ lengths_of (at_entry delay marks minima weights row detector) }
+    ensures { result ≡ lengths_of (stores_at delay.now marks.now minima.now weights.now row.now detector.now) }
 {
     StoreLengths {
         delay: delay.len(),

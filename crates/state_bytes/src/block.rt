@@ -3,7 +3,7 @@
 ghost use Rattle.std.specs.Prelude.{◌≡◌, true, []};
 ghost use Rattle.bank.specs.Smoother.{stepped};
 ghost use Rattle.bank.specs.Bank.{all_changed};
-ghost use Rattle.limiter.specs.Stores.{at_entry, at_exit, at_call};
+ghost use Rattle.limiter.specs.Stores.{stores_at};
 ghost use Rattle.turns.specs.Machine.{machine_of};
 ghost use Rattle.frame.specs.Run.{peaks_of_frames};
 ghost use Rattle.frame.specs.Place.{place_found_at, place_told};
@@ -69,16 +69,16 @@ fn render_still(
     detector: &mut [f64],
     asked: bool,
 ) -> RenderedBlock
-    requires block_asked { BlockAsked (machine_of l (bank_with t) (at_call delay marks minima weights row detector)) format position frames audio.old }
+    requires block_asked { BlockAsked (machine_of l (bank_with t) (stores_at delay.old marks.old minima.old weights.now row.old detector.old)) format position frames audio.old }
     requires t_value { all_changed stepped (bank_with t) ≡ bank_with t }
-    ensures detector_value { rendered_at result (at_exit delay marks minima weights row detector)
-        ≡ showing (driven format (machine_of l (bank_with t) (at_entry delay marks minima weights row detector)) position frames
+    ensures detector_value { rendered_at result (stores_at delay.new marks.new minima.new weights.now row.new detector.new)
+        ≡ showing (driven format (machine_of l (bank_with t) (stores_at delay.old marks.old minima.old weights.now row.old detector.old)) position frames
         [] audio.old).machine }
     ensures audio_after { audio.new
-        ≡ (driven format (machine_of l (bank_with t) (at_entry delay marks minima weights row detector)) position frames
+        ≡ (driven format (machine_of l (bank_with t) (stores_at delay.old marks.old minima.old weights.now row.old detector.old)) position frames
         [] audio.old).bytes }
     ensures seat_value { place_found_at result.frame result.seat
-        ≡ place_told asked (peaks_of_frames (driven format (machine_of l (bank_with t) (at_entry delay marks minima weights row detector)) position frames
+        ≡ place_told asked (peaks_of_frames (driven format (machine_of l (bank_with t) (stores_at delay.old marks.old minima.old weights.now row.old detector.old)) position frames
         [] audio.old).frames) }
 {
     let settings = l.settings;
@@ -127,15 +127,15 @@ pub fn render_block(
     detector: &mut [f64],
     asked: bool,
 ) -> RenderedBlock
-    requires { BlockAsked (machine_of l (bank_with t) (at_call delay marks minima weights row detector)) format position frames audio.old }
-    ensures detector_value { rendered_at result (at_exit delay marks minima weights row detector)
-        ≡ showing (driven format (machine_of l (bank_with t) (at_entry delay marks minima weights row detector)) position frames
+    requires { BlockAsked (machine_of l (bank_with t) (stores_at delay.old marks.old minima.old weights.now row.old detector.old)) format position frames audio.old }
+    ensures detector_value { rendered_at result (stores_at delay.new marks.new minima.new weights.now row.new detector.new)
+        ≡ showing (driven format (machine_of l (bank_with t) (stores_at delay.old marks.old minima.old weights.now row.old detector.old)) position frames
         events.now audio.old).machine }
     ensures audio_after { audio.new
-        ≡ (driven format (machine_of l (bank_with t) (at_entry delay marks minima weights row detector)) position frames
+        ≡ (driven format (machine_of l (bank_with t) (stores_at delay.old marks.old minima.old weights.now row.old detector.old)) position frames
         events.now audio.old).bytes }
     ensures seat_value { place_found_at result.frame result.seat
-        ≡ place_told asked (peaks_of_frames (driven format (machine_of l (bank_with t) (at_entry delay marks minima weights row detector)) position frames
+        ≡ place_told asked (peaks_of_frames (driven format (machine_of l (bank_with t) (stores_at delay.old marks.old minima.old weights.now row.old detector.old)) position frames
         events.now audio.old).frames) }
 {
     // most blocks: no whole event, and a bank at rest

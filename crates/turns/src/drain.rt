@@ -1,7 +1,7 @@
 // The runs of a drain (limiter.rs: `flush`).
 ghost use Rattle.std.specs.Prelude.{◌≡◌, ◌+◌, min};
 ghost use Rattle.audio.specs.Format.{written_bytes};
-ghost use Rattle.limiter.specs.Stores.{at_entry, at_exit, at_call};
+ghost use Rattle.limiter.specs.Stores.{stores_at};
 ghost use Rattle.turns.specs.Block.{period, outputs_of};
 ghost use Rattle.turns.specs.Drain.{with_drained};
 ghost use Rattle.turns.specs.Inner.{silent, DrainAsked};
@@ -32,14 +32,14 @@ pub fn drain_frames(
     row: &mut [f64],
     detector: &mut [f64],
 ) -> Limiter
-    requires { DrainAsked limiter format n width (at_call delay marks minima weights row detector) audio.old }
+    requires { DrainAsked limiter format n width (stores_at delay.old marks.old minima.old weights.now row.old detector.old) audio.old }
     ensures value { result
-        ≡ with_drained (silent format limiter (at_entry delay marks minima weights row detector) n).limiter (limiter.drained + n) }
-    ensures detector_value { at_exit delay marks minima weights row detector
-        ≡ (silent format limiter (at_entry delay marks minima weights row detector) n).stores }
+        ≡ with_drained (silent format limiter (stores_at delay.old marks.old minima.old weights.now row.old detector.old) n).limiter (limiter.drained + n) }
+    ensures detector_value { stores_at delay.new marks.new minima.new weights.now row.new detector.new
+        ≡ (silent format limiter (stores_at delay.old marks.old minima.old weights.now row.old detector.old) n).stores }
     ensures audio_after { audio.new
         ≡ written_bytes format width limiter.channels n audio.old
-        (outputs_of (silent format limiter (at_entry delay marks minima weights row detector) n).frames) }
+        (outputs_of (silent format limiter (stores_at delay.old marks.old minima.old weights.now row.old detector.old) n).frames) }
 {
     let channels = limiter.channels;
     let mut run = run_room();

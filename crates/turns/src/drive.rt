@@ -1,7 +1,7 @@
 // The turns of a block (driver.rs: `drive`).
 ghost use Rattle.std.specs.Prelude.{◌≡◌, []};
 ghost use Rattle.bank.specs.declared.smoother_bank.SmootherBank.{SmootherBank};
-ghost use Rattle.limiter.specs.Stores.{at_entry, at_exit, at_call};
+ghost use Rattle.limiter.specs.Stores.{stores_at};
 ghost use Rattle.turns.specs.Machine.{machine_of};
 ghost use Rattle.frame.specs.Run.{peaks_of_frames};
 ghost use Rattle.frame.specs.Place.{place_found_at, place_in, place_told};
@@ -42,15 +42,15 @@ pub fn drive_still(
     detector: &mut [f64],
     asked: bool,
 ) -> Moved
-    requires { StillAsked limiter target (at_call delay marks minima weights row detector) format position frames audio.old }
-    ensures detector_value { (b : SmootherBank) → AtRest limiter target b → machine_of result.limiter b (at_exit delay marks minima weights row detector)
-        ≡ (driven format (machine_of limiter b (at_entry delay marks minima weights row detector)) position frames
+    requires { StillAsked limiter target (stores_at delay.old marks.old minima.old weights.now row.old detector.old) format position frames audio.old }
+    ensures detector_value { (b : SmootherBank) → AtRest limiter target b → machine_of result.limiter b (stores_at delay.new marks.new minima.new weights.now row.new detector.new)
+        ≡ (driven format (machine_of limiter b (stores_at delay.old marks.old minima.old weights.now row.old detector.old)) position frames
         [] audio.old).machine }
     ensures audio_after { (b : SmootherBank) → AtRest limiter target b → audio.new
-        ≡ (driven format (machine_of limiter b (at_entry delay marks minima weights row detector)) position frames
+        ≡ (driven format (machine_of limiter b (stores_at delay.old marks.old minima.old weights.now row.old detector.old)) position frames
         [] audio.old).bytes }
     ensures highest_value { (b : SmootherBank) → AtRest limiter target b → place_in result.highest
-        ≡ place_told asked (peaks_of_frames (driven format (machine_of limiter b (at_entry delay marks minima weights row detector)) position frames
+        ≡ place_told asked (peaks_of_frames (driven format (machine_of limiter b (stores_at delay.old marks.old minima.old weights.now row.old detector.old)) position frames
         [] audio.old).frames) }
 {
     let mut run = run_room();
@@ -90,15 +90,15 @@ pub fn drive_turns(
     detector: &mut [f64],
     asked: bool,
 ) -> Driven
-    requires { BlockAsked (machine_of limiter bank (at_call delay marks minima weights row detector)) format position frames audio.old }
-    ensures detector_value { machine_of result.limiter result.bank (at_exit delay marks minima weights row detector)
-        ≡ (driven format (machine_of limiter bank (at_entry delay marks minima weights row detector)) position frames
+    requires { BlockAsked (machine_of limiter bank (stores_at delay.old marks.old minima.old weights.now row.old detector.old)) format position frames audio.old }
+    ensures detector_value { machine_of result.limiter result.bank (stores_at delay.new marks.new minima.new weights.now row.new detector.new)
+        ≡ (driven format (machine_of limiter bank (stores_at delay.old marks.old minima.old weights.now row.old detector.old)) position frames
         events.now audio.old).machine }
     ensures audio_after { audio.new
-        ≡ (driven format (machine_of limiter bank (at_entry delay marks minima weights row detector)) position frames
+        ≡ (driven format (machine_of limiter bank (stores_at delay.old marks.old minima.old weights.now row.old detector.old)) position frames
         events.now audio.old).bytes }
     ensures seat_value { place_found_at result.frame result.seat
-        ≡ place_told asked (peaks_of_frames (driven format (machine_of limiter bank (at_entry delay marks minima weights row detector)) position frames
+        ≡ place_told asked (peaks_of_frames (driven format (machine_of limiter bank (stores_at delay.old marks.old minima.old weights.now row.old detector.old)) position frames
         events.now audio.old).frames) }
 {
     let mut run = run_room();
@@ -158,15 +158,15 @@ pub fn drive(
     detector: &mut [f64],
     asked: bool,
 ) -> Driven
-    requires { BlockAsked (machine_of limiter bank (at_call delay marks minima weights row detector)) format position frames audio.old }
-    ensures detector_value { machine_of result.limiter result.bank (at_exit delay marks minima weights row detector)
-        ≡ (driven format (machine_of limiter bank (at_entry delay marks minima weights row detector)) position frames
+    requires { BlockAsked (machine_of limiter bank (stores_at delay.old marks.old minima.old weights.now row.old detector.old)) format position frames audio.old }
+    ensures detector_value { machine_of result.limiter result.bank (stores_at delay.new marks.new minima.new weights.now row.new detector.new)
+        ≡ (driven format (machine_of limiter bank (stores_at delay.old marks.old minima.old weights.now row.old detector.old)) position frames
         events.now audio.old).machine }
     ensures audio_after { audio.new
-        ≡ (driven format (machine_of limiter bank (at_entry delay marks minima weights row detector)) position frames
+        ≡ (driven format (machine_of limiter bank (stores_at delay.old marks.old minima.old weights.now row.old detector.old)) position frames
         events.now audio.old).bytes }
     ensures seat_value { place_found_at result.frame result.seat
-        ≡ place_told asked (peaks_of_frames (driven format (machine_of limiter bank (at_entry delay marks minima weights row detector)) position frames
+        ≡ place_told asked (peaks_of_frames (driven format (machine_of limiter bank (stores_at delay.old marks.old minima.old weights.now row.old detector.old)) position frames
         events.now audio.old).frames) }
 {
     // most blocks: no whole event, and a bank at rest

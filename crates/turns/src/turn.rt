@@ -1,6 +1,6 @@
 // One turn of a block: latch, step the bank, render one run (driver.rs: a turn of `drive`).
 ghost use Rattle.std.specs.Prelude.{◌≡◌, length};
-ghost use Rattle.limiter.specs.Stores.{at_entry, at_exit, at_call};
+ghost use Rattle.limiter.specs.Stores.{stores_at};
 ghost use Rattle.settings.specs.Target.{target_of};
 ghost use Rattle.turns.specs.Machine.{threshold_of, machine_of};
 ghost use Rattle.turns.specs.Block.{run_at};
@@ -76,9 +76,9 @@ pub fn render_frames(
     detector: &mut [f64],
     best: Highest,
 ) -> Moved
-    requires { RunAsked limiter format target width first n (at_call delay marks minima weights row detector) audio.old run.old }
-    ensures { RunGiven limiter format target width first n (at_entry delay marks minima weights row detector) audio.old
-        run.old result.limiter (at_exit delay marks minima weights row detector) audio.new run.new best result.highest }
+    requires { RunAsked limiter format target width first n (stores_at delay.old marks.old minima.old weights.now row.old detector.old) audio.old run.old }
+    ensures { RunGiven limiter format target width first n (stores_at delay.old marks.old minima.old weights.now row.old detector.old) audio.old
+        run.old result.limiter (stores_at delay.new marks.new minima.new weights.now row.new detector.new) audio.new run.new best result.highest }
 {
     let channels = limiter.channels;
     gather(format, channels, n, width, first, audio, run);
@@ -106,10 +106,10 @@ pub fn turn(
     row: &mut [f64],
     detector: &mut [f64],
 ) -> Turned
-    requires { TurnAsked (machine_of limiter bank (at_call delay marks minima weights row detector)) block format events.now audio.old run.old }
-    ensures { TurnGiven (machine_of limiter bank (at_entry delay marks minima weights row detector)) block format
+    requires { TurnAsked (machine_of limiter bank (stores_at delay.old marks.old minima.old weights.now row.old detector.old)) block format events.now audio.old run.old }
+    ensures { TurnGiven (machine_of limiter bank (stores_at delay.old marks.old minima.old weights.now row.old detector.old)) block format
         events.now audio.old run.old
-        (machine_of result.limiter result.bank (at_exit delay marks minima weights row detector)) result.block audio.new run.new }
+        (machine_of result.limiter result.bank (stores_at delay.new marks.new minima.new weights.now row.new detector.new)) result.block audio.new run.new }
 {
     let first = block.rendered;
     let at = block.position + first as u64;
