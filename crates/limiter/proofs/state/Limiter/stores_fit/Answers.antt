@@ -1,0 +1,16 @@
+-- `stores_fit`: the stores' lengths, judged.
+use mathlib.Core.Path.{refl}
+use borrow.Author.Rules.{rules}
+use Rattle.limiter.proofs.Frames.{bounds_of}
+use Rattle.limiter.proofs.state.Limiter.stores_fit.Goals as goal
+
+pub lengths_fit-requires : goal.lengths_fit-requires
+lengths_fit-requires c =
+    let b = bounds_of c.args.self c.requires in
+    record {
+      channels_bound = b.most;
+      look_bound = b.look_most;
+    }
+
+pub returns : goal.returns
+returns c = rw (c.lengths_fit.ensures, c.lengths_of-l.ensures) refl
