@@ -71,7 +71,7 @@ fn render_still(
 ) -> RenderedBlock
     requires block_asked { BlockAsked (machine_of l (bank_with t) (stores_at delay.old marks.old minima.old weights.now row.old detector.old)) format position frames audio.old }
     requires t_value { all_changed stepped (bank_with t) ≡ bank_with t }
-    ensures detector_value { rendered_at result (stores_at delay.new marks.new minima.new weights.now row.new detector.new)
+    ensures shown { rendered_at result (stores_at delay.new marks.new minima.new weights.now row.new detector.new)
         ≡ showing (driven format (machine_of l (bank_with t) (stores_at delay.old marks.old minima.old weights.now row.old detector.old)) position frames
         [] audio.old).machine }
     ensures audio_after { audio.new
@@ -128,7 +128,7 @@ pub fn render_block(
     asked: bool,
 ) -> RenderedBlock
     requires { BlockAsked (machine_of l (bank_with t) (stores_at delay.old marks.old minima.old weights.now row.old detector.old)) format position frames audio.old }
-    ensures detector_value { rendered_at result (stores_at delay.new marks.new minima.new weights.now row.new detector.new)
+    ensures shown { rendered_at result (stores_at delay.new marks.new minima.new weights.now row.new detector.new)
         ≡ showing (driven format (machine_of l (bank_with t) (stores_at delay.old marks.old minima.old weights.now row.old detector.old)) position frames
         events.now audio.old).machine }
     ensures audio_after { audio.new

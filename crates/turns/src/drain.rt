@@ -35,7 +35,7 @@ pub fn drain_frames(
     requires { DrainAsked limiter format n width (stores_at delay.old marks.old minima.old weights.now row.old detector.old) audio.old }
     ensures value { result
         ≡ with_drained (silent format limiter (stores_at delay.old marks.old minima.old weights.now row.old detector.old) n).limiter (limiter.drained + n) }
-    ensures detector_value { stores_at delay.new marks.new minima.new weights.now row.new detector.new
+    ensures stores_after { stores_at delay.new marks.new minima.new weights.now row.new detector.new
         ≡ (silent format limiter (stores_at delay.old marks.old minima.old weights.now row.old detector.old) n).stores }
     ensures audio_after { audio.new
         ≡ written_bytes format width limiter.channels n audio.old

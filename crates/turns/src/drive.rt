@@ -43,7 +43,7 @@ pub fn drive_still(
     asked: bool,
 ) -> Moved
     requires { StillAsked limiter target (stores_at delay.old marks.old minima.old weights.now row.old detector.old) format position frames audio.old }
-    ensures detector_value { (b : SmootherBank) → AtRest limiter target b → machine_of result.limiter b (stores_at delay.new marks.new minima.new weights.now row.new detector.new)
+    ensures machine_after { (b : SmootherBank) → AtRest limiter target b → machine_of result.limiter b (stores_at delay.new marks.new minima.new weights.now row.new detector.new)
         ≡ (driven format (machine_of limiter b (stores_at delay.old marks.old minima.old weights.now row.old detector.old)) position frames
         [] audio.old).machine }
     ensures audio_after { (b : SmootherBank) → AtRest limiter target b → audio.new
@@ -91,7 +91,7 @@ pub fn drive_turns(
     asked: bool,
 ) -> Driven
     requires { BlockAsked (machine_of limiter bank (stores_at delay.old marks.old minima.old weights.now row.old detector.old)) format position frames audio.old }
-    ensures detector_value { machine_of result.limiter result.bank (stores_at delay.new marks.new minima.new weights.now row.new detector.new)
+    ensures machine_after { machine_of result.limiter result.bank (stores_at delay.new marks.new minima.new weights.now row.new detector.new)
         ≡ (driven format (machine_of limiter bank (stores_at delay.old marks.old minima.old weights.now row.old detector.old)) position frames
         events.now audio.old).machine }
     ensures audio_after { audio.new
@@ -159,7 +159,7 @@ pub fn drive(
     asked: bool,
 ) -> Driven
     requires { BlockAsked (machine_of limiter bank (stores_at delay.old marks.old minima.old weights.now row.old detector.old)) format position frames audio.old }
-    ensures detector_value { machine_of result.limiter result.bank (stores_at delay.new marks.new minima.new weights.now row.new detector.new)
+    ensures machine_after { machine_of result.limiter result.bank (stores_at delay.new marks.new minima.new weights.now row.new detector.new)
         ≡ (driven format (machine_of limiter bank (stores_at delay.old marks.old minima.old weights.now row.old detector.old)) position frames
         events.now audio.old).machine }
     ensures audio_after { audio.new

@@ -1,0 +1,18 @@
+-- `drain_frames`: a turn of the loop is a run of silence.
+use mathlib.Core.Path.{◌≡◌, refl, sym, ◌∙◌}
+use Prim.Native.Nat.{◌-◌}
+use native.Mathlib.Omega.{arith}
+use lib.ListN.{length}
+use Rattle.limiter.specs.Stores.{stores_at}
+use Rattle.limiter.proofs.Frames.{bounds_of}
+use Rattle.turns.proofs.Draining.{Drained, drained_start, tail_inside, drain_asks, audio_size, drain_held, drained_more, drained_limiter, drained_stores, drained_audio}
+use Rattle.turns.proofs.drain.drain_frames.Given as goal
+
+abbrev pub invariant-loop-first : goal.invariant-loop-first
+invariant-loop-first l =
+    Drained l.format l.initial.l l.n l.width (stores_at l.initial.delay l.initial.marks l.initial.minima l.weights l.initial.row l.initial.detector) l.initial.audio l.first l.l (stores_at l.delay l.marks l.minima l.weights l.row l.detector) l.audio l.run
+    × (length l.audio ≡ length l.initial.audio) × (length l.delay ≡ length l.initial.delay) × (length l.marks ≡ length l.initial.marks) × (length l.minima ≡ length l.initial.minima) × (length l.row ≡ length l.initial.row) × (length l.detector ≡ length l.initial.detector)
+
+abbrev pub decreases-loop-first : goal.decreases-loop-first
+decreases-loop-first l =
+    l.n - l.first

@@ -1,0 +1,14 @@
+-- `latch`: what the events from i on make of the bank now, all make of it.
+use mathlib.Core.Path.{◌≡◌, refl, ◌∙◌}
+use Prim.Native.Nat.{◌-◌, ◌/◌, ◌≤◌}
+use native.Mathlib.Omega.{arith}
+use lib.ListN.{length}
+use Rattle.turns.specs.Events.{events_from, latched}
+use Rattle.turns.proofs.Latching.{latch_stop, latch_more, latch_end}
+use Rattle.turns.proofs.events.latch.Given as goal
+
+abbrev pub invariant-loop-i : goal.invariant-loop-i
+invariant-loop-i l = (l.i ≤ l.n) × (latched l.first (events_from l.events l.i (l.n - l.i)) l.b ≡ latched l.first (events_from l.events l.cursor (l.n - l.cursor)) l.initial.b)
+
+abbrev pub decreases-loop-i : goal.decreases-loop-i
+decreases-loop-i l = l.n - l.i

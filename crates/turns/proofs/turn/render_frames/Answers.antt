@@ -1,0 +1,81 @@
+-- `render_frames`: gathered, rendered, scattered.
+use mathlib.Core.Path.{sym, ◌∙◌}
+use native.Mathlib.Omega.{arith}
+use Rattle.limiter.specs.Stores.{stores_at}
+use Rattle.limiter.proofs.Frames.{bounds_of}
+use Rattle.turns.proofs.Rendering.{kernel_asks, render_held, run_clean, run_given}
+use Rattle.turns.proofs.turn.render_frames.Goals as goal
+
+pub gather-requires : goal.gather-requires
+gather-requires c =
+    let a = c.args in
+    let p = c.requires in
+    record {
+      channels_bound = (bounds_of a.limiter p.ready.set_up).most;
+      width_bound = p.lends.short;
+      width_value = sym p.lends.audio_fit;
+      n_bound = p.inside;
+      n_bound_2 = p.short;
+      run_len = p.run_fit;
+    }
+
+pub render-after-requires : goal.render-after-requires
+render-after-requires c =
+    let a = c.args in
+    let p = c.requires in
+    let g = c.gather in
+    let stores = stores_at a.delay.now a.marks.now a.minima.now a.weights.now a.row.now a.detector.now in record {
+      kernel_ready = kernel_asks a.limiter a.n stores g.new.run p.ready p.some p.short (g.auto.run ∙ p.run_fit);
+      sanitized = run_clean a.limiter a.format a.target a.width a.first a.n stores a.audio.now a.run.now g.new.run p g.ensures;
+      first_bound = omega (arith, p.inside, p.lends.short);
+    }
+
+pub scatter-requires : goal.scatter-requires
+scatter-requires c =
+    let a = c.args in
+    let p = c.requires in
+    let g = c.gather in
+    let r = c.render-after in
+    let stores = stores_at a.delay.now a.marks.now a.minima.now a.weights.now a.row.now a.detector.now in
+    let fit = g.auto.run ∙ p.run_fit in
+    let k = kernel_asks a.limiter a.n stores g.new.run p.ready p.some p.short fit in
+    let held = render_held a.limiter a.format a.target a.n stores g.new.run k r.result.limiter _ r.new.audio r.ensures.audio_after in
+    record {
+      channels_bound = (bounds_of a.limiter p.ready.set_up).most;
+      width_bound = p.lends.short;
+      width_value = sym p.lends.audio_fit;
+      n_bound = omega (arith, p.inside);
+      n_bound_2 = omega (arith, p.short);
+      run_len = r.auto.audio ∙ fit;
+      held_all = held;
+    }
+
+pub shape_of-audio : goal.shape_of-audio
+shape_of-audio c = c.scatter.auto.bytes
+
+pub shape_of-run : goal.shape_of-run
+shape_of-run c = c.render-after.auto.audio ∙ c.gather.auto.run
+
+pub shape_of-delay : goal.shape_of-delay
+shape_of-delay c = c.render-after.auto.delay
+
+pub shape_of-marks : goal.shape_of-marks
+shape_of-marks c = c.render-after.auto.marks
+
+pub shape_of-minima : goal.shape_of-minima
+shape_of-minima c = c.render-after.auto.minima
+
+pub shape_of-row : goal.shape_of-row
+shape_of-row c = c.render-after.auto.row
+
+pub shape_of-detector : goal.shape_of-detector
+shape_of-detector c = c.render-after.auto.detector
+
+pub returns : goal.returns
+returns c =
+    let a = c.args in
+    let g = c.gather in
+    let r = c.render-after in
+    let s = c.scatter in
+    run_given a.limiter a.format a.target a.width a.first a.n (stores_at a.delay.now a.marks.now a.minima.now a.weights.now a.row.now a.detector.now) a.audio.now a.run.now g.new.run r.new.audio s.new.bytes r.result.limiter
+    (stores_at r.new.delay r.new.marks r.new.minima a.weights.now r.new.row r.new.detector) a.best r.result.highest c.requires g.auto.run g.ensures r.ensures.audio_after r.ensures.highest_value s.ensures

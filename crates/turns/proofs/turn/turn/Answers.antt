@@ -1,0 +1,74 @@
+-- `turn`: the run's length, what latches before it, its target, and its frames.
+use native.Mathlib.Omega.{arith}
+use Rattle.limiter.specs.Stores.{stores_at}
+use Rattle.turns.specs.Machine.{Machine, machine_of, threshold_of}
+use Rattle.turns.proofs.Turning.{turn_inside, turn_asks, turn_given}
+use Rattle.turns.proofs.turn.turn.Goals as goal
+
+pub overflow_add-at : goal.overflow_add-at
+overflow_add-at c = omega (arith, c.requires.far, c.requires.more)
+
+pub overflow_sub-block : goal.overflow_sub-block
+overflow_sub-block c = omega (arith, c.requires.more)
+
+pub run_length-n-requires : goal.run_length-n-requires
+run_length-n-requires c = tt
+
+pub before_run-before-requires : goal.before_run-before-requires
+before_run-before-requires c = c.requires.events_left
+
+pub target_now-requires : goal.target_now-requires
+target_now-requires c = tt
+
+pub render_frames-after-requires : goal.render_frames-after-requires
+render_frames-after-requires c =
+    let machine : Machine =
+        let a = c.args in
+            machine_of a.limiter a.bank (stores_at a.delay.now a.marks.now a.minima.now a.weights.now a.row.now a.detector.now) in
+    let a = c.args in
+    let n = c.run_length-n in
+    let t = c.target_now in
+    turn_asks machine a.block a.format a.events.now a.audio.now a.run.now c.requires n.result n.ensures t.result (threshold_of c.before_run-before.result.bank).cur a.limiter.settings.true_peak_margin_db t.ensures
+
+pub overflow_add-result : goal.overflow_add-result
+overflow_add-result c =
+    let machine : Machine =
+        let a = c.args in
+            machine_of a.limiter a.bank (stores_at a.delay.now a.marks.now a.minima.now a.weights.now a.row.now a.detector.now) in
+    let a = c.args in
+    let n = c.run_length-n in
+    omega (arith, (turn_inside machine a.block a.format a.events.now a.audio.now a.run.now c.requires n.result n.ensures).2, c.requires.lends.short)
+
+pub shape_of-audio : goal.shape_of-audio
+shape_of-audio c = c.render_frames-after.auto.audio
+
+pub shape_of-run : goal.shape_of-run
+shape_of-run c = c.render_frames-after.auto.run
+
+pub shape_of-delay : goal.shape_of-delay
+shape_of-delay c = c.render_frames-after.auto.delay
+
+pub shape_of-marks : goal.shape_of-marks
+shape_of-marks c = c.render_frames-after.auto.marks
+
+pub shape_of-minima : goal.shape_of-minima
+shape_of-minima c = c.render_frames-after.auto.minima
+
+pub shape_of-row : goal.shape_of-row
+shape_of-row c = c.render_frames-after.auto.row
+
+pub shape_of-detector : goal.shape_of-detector
+shape_of-detector c = c.render_frames-after.auto.detector
+
+pub returns : goal.returns
+returns c =
+    let machine : Machine =
+        let a = c.args in
+            machine_of a.limiter a.bank (stores_at a.delay.now a.marks.now a.minima.now a.weights.now a.row.now a.detector.now) in
+    let a = c.args in
+    let n = c.run_length-n in
+    let b = c.before_run-before in
+    let t = c.target_now in
+    let r = c.render_frames-after in
+    turn_given machine a.block a.format a.events.now a.audio.now a.run.now c.requires n.result n.ensures b.result b.ensures.events_value b.ensures.cursor_in_bounds t.result t.ensures r.result.limiter
+    (stores_at r.new.delay r.new.marks r.new.minima a.weights.now r.new.row r.new.detector) r.new.audio r.new.run r.result.highest r.ensures
