@@ -1,0 +1,6 @@
+-- `bank_with`: the one smoother, and vacant slots.
+use borrow.Author.Rules.{rules}
+use Rattle.state_bytes.proofs.block.bank_with.Goals as goal
+
+pub returns : goal.returns
+returns c = cc

@@ -1,0 +1,6 @@
+-- `limiter_out`: word by word.
+use borrow.Author.Rules.{rules}
+use Rattle.state_bytes.proofs.write.limiter_out.Goals as goal
+
+pub returns : goal.returns
+returns c = cc
