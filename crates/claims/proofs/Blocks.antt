@@ -55,6 +55,8 @@ peaks_joining_lem rules look channels weights coeff drops fs [] [] h = refl
 peaks_joining_lem rules look channels weights coeff drops fs (j ∷ js) (f ∷ shown) h =
     ap (λ (p : PeakAt). p ∷ peaks_of_frames shown) h.0.at
     ∙ ap (λ (ps : List PeakAt). peak_at_of rules.linking channels (j ∷ fs) ∷ ps) (peaks_joining_lem rules look channels weights coeff (drops + f.dropped) (j ∷ fs) js shown h.1)
+peaks_joining_lem rules look channels weights coeff drops fs [] (f ∷ shown) none_here = elim none_here [ ]
+peaks_joining_lem rules look channels weights coeff drops fs (j ∷ js) [] none_here = elim none_here [ ]
 
 module _ (drops : ℕ) (b : Book) (m : Machine) (t : Tied b m) (n : CountedIn drops b m) (format : Format) (position frames : ℕ) (events : List Event) (bytes : List ℕ) where
   abbrev rules : Rules

@@ -49,6 +49,8 @@ module _ (s : LimiterSettings) (format : Format) (look channels : ℕ) where
   outputs_back weights coeff drops fs [] [] h i c = nan_back format
   outputs_back weights coeff drops fs (j ∷ js) (f ∷ shown) h zero c = rw h.0.outputs (leaving_back f.gain (j ∷ fs) 0 channels c)
   outputs_back weights coeff drops fs (j ∷ js) (f ∷ shown) h (suc i) c = outputs_back weights coeff (drops + f.dropped) (j ∷ fs) js shown h.1 i c
+  outputs_back weights coeff drops fs [] (f ∷ shown) none_here i c = elim none_here [ ]
+  outputs_back weights coeff drops fs (j ∷ js) [] none_here i c = elim none_here [ ]
 
 -- ---- outputs in their samples' places
 module _ (format : Format) (width channels n : ℕ) (bytes : List ℕ) (outputs : List (List Float)) (m : length outputs ≡ n) (short : n ≤ width) (fit : size_of format bytes ≡ channels * width)
