@@ -7,8 +7,7 @@ use Rattle.interleaving.specs.Calls.{Outcome, rearranged_reply, outcome}
 use Rattle.interleaving.specs.declared.calls.Rearranged.{Rearranged}
 use Rattle.interleaving.specs.declared.calls.Rearranged.TheVariants.{Finished, Channels, Length}
 use Rattle.host.specs.Files.{rearranged_at}
-use Rattle.host.proofs.files.rearrange_as.Statement.{statement}
-use Rattle.host.proofs.files.rearrange_as.Tie as tie
+use Rattle.host.proofs.files.rearrange_as.Goals as goal
 
 -- no answer has values
 bare : (answer : Rearranged) (after : List ℕ) → rearranged_at (rearranged_reply answer).number after ≡ outcome answer after
@@ -19,17 +18,5 @@ bare Length after = refl
 told : (answer : Rearranged) (n : ℕ) (after : List ℕ) (o : Outcome) → n ≡ (rearranged_reply answer).number → outcome answer after ≡ o → rearranged_at n after ≡ o
 told answer n after o e f = ap (λ (m : ℕ). rearranged_at m after) e ∙ bare answer after ∙ f
 
-rearrange-requires : tie.Need-rearrange-requires
-rearrange-requires c κs = search rules
-
-number-requires : tie.Need-number-requires
-number-requires c κs = search rules
-
-same_length : tie.Need-same-length
-same_length c = search rules
-
-returns : tie.Need-returns
-returns c = let call = c.before.before.before.rearrange in told call.result c.number.result _ _ c.number.ensures call.ensures
-
-pub rearrange-as-spec : {M : Type 1} → statement M
-rearrange-as-spec = tie.close (tie.spec rearrange-requires number-requires same_length returns)
+pub returns : goal.returns
+returns c = let call = c.rearrange in told call.result c.number.result _ _ c.number.ensures call.ensures
