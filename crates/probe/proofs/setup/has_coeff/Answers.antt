@@ -1,0 +1,7 @@
+-- `has_coeff`: the settings' own tests.
+use mathlib.Core.Path.{refl}
+use borrow.Author.Rules.{rules}
+use Rattle.probe.proofs.setup.has_coeff.Goals as goal
+
+pub returns : goal.returns
+returns c = rw (c.release_taken.ensures, c.rate_taken.ensures) refl
