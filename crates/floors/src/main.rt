@@ -3,6 +3,9 @@
 
 ghost use Rattle.std.specs.Prelude.{◌≡◌, length};
 
+use records::words::read_full;
+use std::io;
+
 // Room for one byte more than the most input, so that too long an input shows.
 fn input_room() -> [u8; 60001]
     ensures { 60001 ≡ length result }
@@ -17,10 +20,10 @@ fn output_room() -> [u8; 160000]
     [0; 160000]
 }
 
-fn main() {
+fn main(rt: HostRuntime) -> io::Result<()> {
     let mut input = input_room();
-    let read = io::read_full(0, &mut input);
+    let read = read_full(&mut rt.stdin(), &mut input)?;
     let mut output = output_room();
     let written = floors_text::floors(&input[..read], &mut output);
-    io::write_all(1, &output[..written]);
+    rt.write_all(&output[..written])
 }

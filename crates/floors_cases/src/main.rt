@@ -2,7 +2,12 @@
 // named in data/names): each is run through the library's function, and what differs is told.
 #![tactic(auto)]
 
-ghost use Rattle.std.specs.Prelude.{◌≡◌, ◌+◌, ◌≤◌, ◌<◌, length};
+ghost use Rattle.std.specs.Prelude.{◌≡◌, ◌+◌, ◌≤◌, ◌<◌, length, IfOk};
+
+use records::words::read_full;
+use std::alloc::{AllocError, Allocator};
+use std::rt::Files;
+use std::{fs, io};
 
 // Room for one byte more than the most input.
 fn input_room() -> [u8; 60001]
@@ -25,19 +30,17 @@ enum File {
     Bytes(usize),
 }
 
-fn read_file(path: &[u8], buf: &mut [u8]) -> File {
-    let fd = os::open_read(path);
-    if fd < 0 {
-        return File::Missing;
-    }
-    let count = io::read_full(fd, buf);
-    libc::close(fd);
-    File::Bytes(count)
+fn read_file(rt: &impl Files, path: &str, buf: &mut [u8]) -> io::Result<File> {
+    let Ok(mut file) = fs::open(rt, path) else {
+        return Ok(File::Missing);
+    };
+    let count = read_full(&mut file, buf)?;
+    Ok(File::Bytes(count))
 }
 
-// A case's two digits.
-fn digit(n: usize) -> u8 {
-    48 + (n % 10) as u8
+// A case's file: its two digits and what the file is.
+fn path<A: Allocator>(alloc: A, number: usize, kind: &str) -> Result<String<A>, AllocError> {
+    format!(in alloc; "{number:02}.{kind}")
 }
 
 // The first of two texts' bytes that differs, or the length of the shorter one.
@@ -81,33 +84,36 @@ fn judge(text: &[u8], count: usize, recorded: &[u8], size: usize) -> Case {
     Case::Same
 }
 
-fn run(number: usize, input: &mut [u8], text: &mut [u8], recorded: &mut [u8]) -> Case {
-    let tens = digit(number / 10);
-    let ones = digit(number);
-    let from = [tens, ones, b'.', b'i', b'n'];
-    let File::Bytes(read) = read_file(&from, input) else {
-        return Case::Missing;
+fn run(
+    rt: &(impl Files + Alloc),
+    number: usize,
+    input: &mut [u8],
+    text: &mut [u8],
+    recorded: &mut [u8],
+) -> io::Result<Case> {
+    let from = path(rt.alloc(), number, "in")?;
+    let File::Bytes(read) = read_file(rt, &from, input)? else {
+        return Ok(Case::Missing);
     };
-    let to = [tens, ones, b'.', b'o', b'u', b't'];
-    let File::Bytes(size) = read_file(&to, recorded) else {
-        return Case::Missing;
+    let to = path(rt.alloc(), number, "out")?;
+    let File::Bytes(size) = read_file(rt, &to, recorded)? else {
+        return Ok(Case::Missing);
     };
     if read > input.len() {
-        return Case::Missing;
+        return Ok(Case::Missing);
     }
     let count = floors_text::floors(&input[..read], text);
-    judge(text, count, recorded, size)
+    Ok(judge(text, count, recorded, size))
 }
 
-fn tell(word: &[u8], number: usize) {
-    io::write_all(1, word);
-    io::print_decimal(1, number as u64);
+fn tell(rt: &impl Print, word: &str, number: usize) -> io::Result<()> {
+    print!(rt; "{word}{number}")
 }
 
-fn tell_difference(number: usize, place: usize) {
-    tell(b"case=", number);
-    tell(b" byte=", place);
-    io::write_all(1, b"\n");
+fn tell_difference(rt: &impl Print, number: usize, place: usize) -> io::Result<()> {
+    tell(rt, "case=", number)?;
+    tell(rt, " byte=", place)?;
+    println!(rt)
 }
 
 // How many cases there are, and how many of them differ.
@@ -119,44 +125,49 @@ struct Tally {
 
 impl Tally {
     // With a case more; one that differs is told.
-    fn with(self, number: usize, case: Case) -> Tally
+    fn with(self, rt: &impl Print, number: usize, case: Case) -> io::Result<Tally>
         requires { (self.cases < 100) × (self.differ < 100) }
-        ensures { (result.cases ≤ self.cases + 1) × (result.differ ≤ self.differ + 1) }
+        ensures { IfOk result (λ t. (t.cases ≤ self.cases + 1) × (t.differ ≤ self.differ + 1)) }
     {
         match case {
-            Case::Missing => self,
-            Case::Same => Tally {
+            Case::Missing => Ok(self),
+            Case::Same => Ok(Tally {
                 cases: self.cases + 1,
                 differ: self.differ,
-            },
+            }),
             Case::Differs(place) => {
-                tell_difference(number, place);
-                Tally {
+                tell_difference(rt, number, place)?;
+                Ok(Tally {
                     cases: self.cases + 1,
                     differ: self.differ + 1,
-                }
+                })
             }
         }
     }
 }
 
-fn run_all(input: &mut [u8], text: &mut [u8], recorded: &mut [u8]) -> Tally {
+fn run_all(
+    rt: &(impl Files + Alloc + Print),
+    input: &mut [u8],
+    text: &mut [u8],
+    recorded: &mut [u8],
+) -> io::Result<Tally> {
     let mut tally = Tally {
         cases: 0,
         differ: 0,
     };
     for number in 1..100usize {
-        tally = tally.with(number, run(number, input, text, recorded));
+        tally = tally.with(rt, number, run(rt, number, input, text, recorded)?)?;
     }
-    tally
+    Ok(tally)
 }
 
-fn main() {
+fn main(rt: HostRuntime) -> io::Result<()> {
     let mut input = input_room();
     let mut text = text_room();
     let mut recorded = text_room();
-    let tally = run_all(&mut input, &mut text, &mut recorded);
-    tell(b"cases=", tally.cases);
-    tell(b" differ=", tally.differ);
-    io::write_all(1, b"\n");
+    let tally = run_all(&rt, &mut input, &mut text, &mut recorded)?;
+    tell(&rt, "cases=", tally.cases)?;
+    tell(&rt, " differ=", tally.differ)?;
+    println!(rt)
 }

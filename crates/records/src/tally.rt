@@ -1,4 +1,4 @@
-use libc::STDOUT_FILENO;
+use std::io;
 
 // What a record came to: whether it counts, and whether the answer was the recorded one.
 #[derive(Clone, Copy)]
@@ -51,21 +51,16 @@ pub struct Replayed {
 impl Replayed {
     // A line for the layer; a second one where something differs; a third where the file ends inside
     // a record.
-    pub fn print(self, layer: &[u8]) {
+    pub fn print(self, rt: &impl Print, layer: &[u8]) -> io::Result<()> {
         let tally = self.tally;
-        io::write_all(STDOUT_FILENO, layer);
-        io::write_all(STDOUT_FILENO, b": ");
-        io::print_decimal(STDOUT_FILENO, tally.count);
-        io::write_all(STDOUT_FILENO, b" recorded, ");
-        io::print_decimal(STDOUT_FILENO, tally.differ);
-        io::write_all(STDOUT_FILENO, b" differ\n");
+        rt.write_all(layer)?;
+        println!(rt; ": {} recorded, {} differ", tally.count, tally.differ)?;
         if tally.differ != 0 {
-            io::write_all(STDOUT_FILENO, b"first difference: record ");
-            io::print_decimal(STDOUT_FILENO, tally.first);
-            io::write_all(STDOUT_FILENO, b", counted from 0\n");
+            println!(rt; "first difference: record {}, counted from 0", tally.first)?;
         }
         if self.rest != 0 {
-            io::write_all(STDOUT_FILENO, b"the file ends inside a record\n");
+            println!(rt; "the file ends inside a record")?;
         }
+        Ok(())
     }
 }

@@ -1,4 +1,7 @@
 // Words of 64 bits, low byte first.
+ghost use Rattle.std.specs.Io.{ReadsAtMost};
+
+use std::io;
 
 fn wide(b: u8) -> u64 {
     b as u64
@@ -24,12 +27,27 @@ pub struct Read {
     pub word: u64,
 }
 
-pub fn next(fd: i32) -> Read {
+// Reads until buf is full or the file ends; how many bytes it put at the start of buf.
+pub fn read_full<R: io::Read>(file: &mut R, buf: &mut [u8]) -> io::Result<usize>
+    ensures { ReadsAtMost result buf.new }
+{
+    let mut done = 0;
+    while done < buf.len() {
+        let n = file.read(&mut buf[done..])?;
+        if n == 0 {
+            break;
+        }
+        done += n;
+    }
+    Ok(done)
+}
+
+pub fn next<R: io::Read>(file: &mut R) -> io::Result<Read> {
     let mut bytes = [0u8; 8];
-    let got = io::read_full(fd, &mut bytes);
-    Read {
+    let got = read_full(file, &mut bytes)?;
+    Ok(Read {
         whole: got == 8,
         rest: got,
         word: word(&bytes),
-    }
+    })
 }

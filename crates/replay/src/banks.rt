@@ -5,6 +5,7 @@ use bank::param::{BankAnswer, BankRefusal, ParamInfo, Smoothing};
 use bank::smoother_bank::{BankParamSet, BankStep, BankStepped, BankValue, ParamSet, SmootherBank};
 use records::tally::Step;
 use records::words::next;
+use std::io;
 
 // What goes from record to record: the declarations since the last setup and how many they are, the
 // bank, and how many parameters it was set up for. That last number is kept beside the bank since a
@@ -95,32 +96,32 @@ impl Held {
     }
 }
 
-fn float(fd: i32) -> f64 {
-    from_bits(next(fd).word)
+fn float<R: io::Read>(file: &mut R) -> io::Result<f64> {
+    Ok(from_bits(next(file)?.word))
 }
 
 // Ids and rates are words of 32 bits.
-fn half(fd: i32) -> u32 {
-    (next(fd).word % 4294967296) as u32
+fn half<R: io::Read>(file: &mut R) -> io::Result<u32> {
+    Ok((next(file)?.word % 4294967296) as u32)
 }
 
-fn shape(fd: i32) -> Smoothing {
-    let word = next(fd).word;
-    match word {
+fn shape<R: io::Read>(file: &mut R) -> io::Result<Smoothing> {
+    let word = next(file)?.word;
+    Ok(match word {
         0 => Smoothing::Step,
         1 => Smoothing::Linear,
         _ => Smoothing::OnePole,
-    }
+    })
 }
 
 // A declaration has no answer, so it is not counted.
-fn declaration(fd: i32, held: Held) -> Played {
-    let id = half(fd);
-    let low = float(fd);
-    let high = float(fd);
-    let default = float(fd);
-    let smoothing_ms = float(fd);
-    let smoothing = shape(fd);
+fn declaration<R: io::Read>(file: &mut R, held: Held) -> io::Result<Played> {
+    let id = half(file)?;
+    let low = float(file)?;
+    let high = float(file)?;
+    let default = float(file)?;
+    let smoothing_ms = float(file)?;
+    let smoothing = shape(file)?;
     let info = ParamInfo {
         id,
         low,
@@ -129,13 +130,13 @@ fn declaration(fd: i32, held: Held) -> Played {
         smoothing_ms,
         smoothing,
     };
-    Played {
+    Ok(Played {
         step: Step {
             counted: false,
             same: true,
         },
         held: held.declare(info),
-    }
+    })
 }
 
 fn indexed(number: u64, index: usize) -> Answered {
@@ -168,16 +169,16 @@ fn same(got: Answered, number: u64, word: u64) -> bool {
     (got.number == number) & (got.word == word)
 }
 
-fn setup(fd: i32, held: Held) -> Played {
-    let rate = half(fd);
-    let number = next(fd).word;
-    let index = next(fd).word;
+fn setup<R: io::Read>(file: &mut R, held: Held) -> io::Result<Played> {
+    let rate = half(file)?;
+    let number = next(file)?.word;
+    let index = next(file)?.word;
     let infos = held.infos;
     let done = SmootherBank::try_new(infos, held.declared, rate);
     let answer = done.answer;
     let bank = done.bank;
-    held.set_up(bank)
-        .told(same(set_up_answer(answer), number, index))
+    let same = same(set_up_answer(answer), number, index);
+    Ok(held.set_up(bank).told(same))
 }
 
 fn set_number(answer: ParamSet) -> u64 {
@@ -197,15 +198,15 @@ fn param_call(bank: SmootherBank, id: u32, value: f64, at_once: bool) -> BankPar
     }
 }
 
-fn set(fd: i32, held: Held, at_once: bool) -> Played {
-    let id = half(fd);
-    let value = float(fd);
-    let number = next(fd).word;
+fn set<R: io::Read>(file: &mut R, held: Held, at_once: bool) -> io::Result<Played> {
+    let id = half(file)?;
+    let value = float(file)?;
+    let number = next(file)?.word;
     let bank = held.bank;
     let done = param_call(bank, id, value, at_once);
     let answer = done.answer;
     let after = done.bank;
-    held.called(after).told(set_number(answer) == number)
+    Ok(held.called(after).told(set_number(answer) == number))
 }
 
 fn is_finished(answer: BankStep) -> bool {
@@ -217,13 +218,13 @@ fn is_finished(answer: BankStep) -> bool {
 
 // The recorded values are those of the first `width` parameters. All are read, whether or not an
 // earlier one differs, so that the next record starts where it does.
-fn values_same(fd: i32, bank: SmootherBank, width: usize) -> bool {
+fn values_same<R: io::Read>(file: &mut R, bank: SmootherBank, width: usize) -> io::Result<bool> {
     let mut same = true;
     for i in 0..width {
-        let word = next(fd).word;
+        let word = next(file)?.word;
         same = same & (to_bits(bank.value_at(i)) == word);
     }
-    same
+    Ok(same)
 }
 
 fn turn_call(bank: SmootherBank, back: bool) -> BankStepped {
@@ -231,13 +232,13 @@ fn turn_call(bank: SmootherBank, back: bool) -> BankStepped {
 }
 
 // A step, or back to the defaults.
-fn turn(fd: i32, held: Held, back: bool) -> Played {
+fn turn<R: io::Read>(file: &mut R, held: Held, back: bool) -> io::Result<Played> {
     let bank = held.bank;
     let done = turn_call(bank, back);
     let answer = done.answer;
     let after = done.bank;
-    let values = values_same(fd, after, held.width);
-    held.called(after).told(is_finished(answer) & values)
+    let values = values_same(file, after, held.width)?;
+    Ok(held.called(after).told(is_finished(answer) & values))
 }
 
 fn value_answer(answer: BankValue) -> Answered {
@@ -251,24 +252,24 @@ fn value_answer(answer: BankValue) -> Answered {
     }
 }
 
-fn value(fd: i32, held: Held) -> Played {
-    let id = half(fd);
-    let number = next(fd).word;
-    let word = next(fd).word;
+fn value<R: io::Read>(file: &mut R, held: Held) -> io::Result<Played> {
+    let id = half(file)?;
+    let number = next(file)?.word;
+    let word = next(file)?.word;
     let bank = held.bank;
-    held.told(same(value_answer(bank.value(id)), number, word))
+    Ok(held.told(same(value_answer(bank.value(id)), number, word)))
 }
 
 // The rest of a record whose op was read. Another op is no record's, and differs.
-pub fn record(fd: i32, op: u64, held: Held) -> Played {
+pub fn record<R: io::Read>(file: &mut R, op: u64, held: Held) -> io::Result<Played> {
     match op {
-        1 => declaration(fd, held),
-        2 => setup(fd, held),
-        3 => set(fd, held, false),
-        4 => set(fd, held, true),
-        5 => turn(fd, held, false),
-        6 => turn(fd, held, true),
-        7 => value(fd, held),
-        _ => held.told(false),
+        1 => declaration(file, held),
+        2 => setup(file, held),
+        3 => set(file, held, false),
+        4 => set(file, held, true),
+        5 => turn(file, held, false),
+        6 => turn(file, held, true),
+        7 => value(file, held),
+        _ => Ok(held.told(false)),
     }
 }

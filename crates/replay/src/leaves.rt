@@ -5,6 +5,7 @@ use arithmetic::narrow::to_bits32;
 use arithmetic::pattern::{from_bits, to_bits};
 use records::tally::Step;
 use records::words;
+use std::io;
 
 // One record.
 #[derive(Clone, Copy)]
@@ -84,26 +85,26 @@ fn same(leaf: Leaf) -> bool {
 }
 
 // The five words after the op, which a whole file has.
-fn rest(fd: i32, op: u64) -> Leaf {
-    let a = words::next(fd).word;
-    let b = words::next(fd).word;
-    let c = words::next(fd).word;
-    let status = words::next(fd).word;
-    let answer = words::next(fd).word;
-    Leaf {
+fn rest<R: io::Read>(file: &mut R, op: u64) -> io::Result<Leaf> {
+    let a = words::next(file)?.word;
+    let b = words::next(file)?.word;
+    let c = words::next(file)?.word;
+    let status = words::next(file)?.word;
+    let answer = words::next(file)?.word;
+    Ok(Leaf {
         op,
         a,
         b,
         c,
         status,
         answer,
-    }
+    })
 }
 
 // The rest of a record whose op was read.
-pub fn record(fd: i32, op: u64) -> Step {
-    Step {
+pub fn record<R: io::Read>(file: &mut R, op: u64) -> io::Result<Step> {
+    Ok(Step {
         counted: true,
-        same: same(rest(fd, op)),
-    }
+        same: same(rest(file, op)?),
+    })
 }

@@ -5,6 +5,9 @@
 use crate::banks::{Held, Played};
 use records::tally::{Replayed, Tally};
 use records::words;
+use std::fs::File;
+use std::io::{self, BufReader};
+use std::rt::Files;
 
 // Modules 1 and 2 of document 01, and the helpers.
 mod leaves;
@@ -14,56 +17,61 @@ mod peaks;
 mod banks;
 
 // The layers by number: 0 leaves, 1 peaks, else the bank, the only one that changes what is held.
-fn record(layer: usize, fd: i32, first: u64, store: &mut [f64; 12], held: Held) -> Played {
+fn record<R: io::Read>(
+    layer: usize,
+    file: &mut R,
+    first: u64,
+    store: &mut [f64; 12],
+    held: Held,
+) -> io::Result<Played> {
     if layer == 0 {
-        return Played {
-            step: leaves::record(fd, first),
+        return Ok(Played {
+            step: leaves::record(file, first)?,
             held,
-        };
+        });
     }
     if layer == 1 {
-        return Played {
-            step: peaks::record(fd, first, store),
+        return Ok(Played {
+            step: peaks::record(file, first, store)?,
             held,
-        };
+        });
     }
-    banks::record(fd, first, held)
+    banks::record(file, first, held)
 }
 
 // Each record of a layer's file, up to a million.
-fn each(layer: usize, fd: i32) -> Replayed {
+fn each<R: io::Read>(layer: usize, file: &mut R) -> io::Result<Replayed> {
     let mut tally = Tally::new();
     let mut store = [0.0; 12];
     let mut held = Held::new();
     for turn in 0..1000000usize {
-        let first = words::next(fd);
+        let first = words::next(file)?;
         if !first.whole {
-            return Replayed {
+            return Ok(Replayed {
                 tally,
                 rest: first.rest,
-            };
+            });
         }
-        let played = record(layer, fd, first.word, &mut store, held);
+        let played = record(layer, file, first.word, &mut store, held)?;
         let step = played.step;
         tally = tally.with(step);
         held = played.held;
     }
-    Replayed { tally, rest: 0 }
+    Ok(Replayed { tally, rest: 0 })
 }
 
-fn replay(layer: usize, path: &[u8]) {
-    let fd = os::open_read(path);
-    if fd < 0 {
-        os::fail(path);
-        return;
-    }
-    let replayed = each(layer, fd);
-    libc::close(fd);
-    replayed.print(path);
+fn replay(rt: &(impl Files + Alloc + Print + Eprint), layer: usize, path: &str) -> io::Result<()> {
+    let file = match File::open(rt, path) {
+        Ok(file) => file,
+        Err(error) => return eprintln!(rt; "{path}: {error}"),
+    };
+    let mut file = BufReader::new(rt.alloc(), file)?;
+    let replayed = each(layer, &mut file)?;
+    replayed.print(rt, path.as_bytes())
 }
 
-fn main() {
-    replay(0, b"leaves");
-    replay(1, b"peaks");
-    replay(2, b"bank");
+fn main(rt: HostRuntime) -> io::Result<()> {
+    replay(&rt, 0, "leaves")?;
+    replay(&rt, 1, "peaks")?;
+    replay(&rt, 2, "bank")
 }

@@ -3,6 +3,7 @@
 use arithmetic::pattern::{from_bits, to_bits};
 use records::tally::Step;
 use records::words;
+use std::io;
 
 const MARK: u64 = 0x7ff8_0000_0000_0001;
 
@@ -12,17 +13,17 @@ fn same(store: &mut [f64; 12], sample: u64, answer: u64) -> bool {
 }
 
 // The rest of a record whose sample was read; a mark silences the detector and is not counted.
-pub fn record(fd: i32, sample: u64, store: &mut [f64; 12]) -> Step {
-    let answer = words::next(fd).word;
+pub fn record<R: io::Read>(file: &mut R, sample: u64, store: &mut [f64; 12]) -> io::Result<Step> {
+    let answer = words::next(file)?.word;
     if sample == MARK {
         *store = [0.0; 12];
-        return Step {
+        return Ok(Step {
             counted: false,
             same: true,
-        };
+        });
     }
-    Step {
+    Ok(Step {
         counted: true,
         same: same(store, sample, answer),
-    }
+    })
 }

@@ -5,6 +5,7 @@ use driver::answers::{BlockAnswer, FlushAnswer, GainAnswer, SetupAnswer};
 use frame::highest::Seat;
 use limiter::prepare::PrepareAnswer;
 use records::words::next;
+use std::io;
 
 fn is_prepared(answer: PrepareAnswer) -> bool {
     match answer {
@@ -30,17 +31,17 @@ struct Place {
     phase: u64,
 }
 
-fn recorded_place(fd: i32) -> Place {
-    let kind = next(fd).word;
-    let frame = next(fd).word;
-    let channel = next(fd).word;
-    let phase = next(fd).word;
-    Place {
+fn recorded_place<R: io::Read>(file: &mut R) -> io::Result<Place> {
+    let kind = next(file)?.word;
+    let frame = next(file)?.word;
+    let channel = next(file)?.word;
+    let phase = next(file)?.word;
+    Ok(Place {
         kind,
         frame,
         channel,
         phase,
-    }
+    })
 }
 
 fn seat_same(frame: usize, seat: Seat, due: Place) -> bool {
@@ -59,10 +60,10 @@ fn seat_same(frame: usize, seat: Seat, due: Place) -> bool {
 }
 
 // A block is finished, its outputs have the recorded digest, and its highest peak sat where it was recorded.
-pub fn block_same(fd: i32, answer: BlockAnswer, digest: u64) -> bool {
-    let digested = digest == next(fd).word;
-    let due = recorded_place(fd);
-    digested & placed_same(answer, due)
+pub fn block_same<R: io::Read>(file: &mut R, answer: BlockAnswer, digest: u64) -> io::Result<bool> {
+    let digested = digest == next(file)?.word;
+    let due = recorded_place(file)?;
+    Ok(digested & placed_same(answer, due))
 }
 
 fn placed_same(answer: BlockAnswer, due: Place) -> bool {
@@ -100,10 +101,10 @@ fn one(done: bool) -> u64 {
 }
 
 // What a drain tells, with the digest of the frames written, is what was recorded.
-pub fn drained_same(fd: i32, told: Told, digest: u64) -> bool {
-    let written = told.written as u64 == next(fd).word;
-    let done = one(told.done) == next(fd).word;
-    told.finished & written & done & (digest == next(fd).word)
+pub fn drained_same<R: io::Read>(file: &mut R, told: Told, digest: u64) -> io::Result<bool> {
+    let written = told.written as u64 == next(file)?.word;
+    let done = one(told.done) == next(file)?.word;
+    Ok(told.finished & written & done & (digest == next(file)?.word))
 }
 
 pub fn set_number(answer: ParamSet) -> u64 {
@@ -135,21 +136,21 @@ pub struct Step {
     gain: u64,
 }
 
-pub fn recorded_step(fd: i32) -> Step {
-    let floor = next(fd).word;
-    let dropped = next(fd).word;
-    let kept = next(fd).word;
-    let tally = next(fd).word;
-    let mean = next(fd).word;
-    let gain = next(fd).word;
-    Step {
+pub fn recorded_step<R: io::Read>(file: &mut R) -> io::Result<Step> {
+    let floor = next(file)?.word;
+    let dropped = next(file)?.word;
+    let kept = next(file)?.word;
+    let tally = next(file)?.word;
+    let mean = next(file)?.word;
+    let gain = next(file)?.word;
+    Ok(Step {
         floor,
         dropped,
         kept,
         tally,
         mean,
         gain,
-    }
+    })
 }
 
 pub fn step_same(answer: GainAnswer, due: Step) -> bool {

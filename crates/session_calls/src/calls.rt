@@ -1,6 +1,6 @@
 // The calls of a recorded session. Every one is made whatever the file says, since no call of the limiter
 // asks for anything; damage is told by the answers.
-ghost use Rattle.std.specs.Prelude.{◌≡◌, ◌≤◌, length};
+ghost use Rattle.std.specs.Prelude.{◌≡◌, ◌≤◌, length, IfOk};
 
 use crate::head::{Head, count, float, places};
 use crate::{answers, samples};
@@ -8,6 +8,7 @@ use audio::format::{Format, sample_bytes};
 use driver::answers::SetUp;
 use driver::state::KernelProcessor;
 use records::words::next;
+use std::io;
 
 // What a call leaves, the limiter and the state of the samples' source, and whether it told what was recorded.
 #[derive(Clone, Copy)]
@@ -33,27 +34,28 @@ fn events_room() -> [u64; 192]
 }
 
 // The next words of the file.
-fn words(fd: i32, into: &mut [u64]) {
+fn words<R: io::Read>(file: &mut R, into: &mut [u64]) -> io::Result<()> {
     let mut i: usize = 0;
     while i < into.len() {
-        into[i] = next(fd).word;
+        into[i] = next(file)?.word;
         i += 1;
     }
+    Ok(())
 }
 
 // Ids are words of 32 bits.
-fn id(fd: i32) -> u32 {
-    (next(fd).word % 4294967296) as u32
+fn id<R: io::Read>(file: &mut R) -> io::Result<u32> {
+    Ok((next(file)?.word % 4294967296) as u32)
 }
 
 // The events of a block, in the first places.
-fn events(fd: i32, told: usize) -> [u64; 192]
+fn events<R: io::Read>(file: &mut R, told: usize) -> io::Result<[u64; 192]>
     requires { told ≤ 192 }
-    ensures { length result ≡ 192 }
+    ensures { IfOk result (λ e. length e ≡ 192) }
 {
     let mut events = events_room();
-    words(fd, &mut events[0..told]);
-    events
+    words(file, &mut events[0..told])?;
+    Ok(events)
 }
 
 // The bytes of so many samples.
@@ -65,8 +67,8 @@ fn bytes_of(format: Format, samples: usize) -> usize
 }
 
 // A block of so many frames, on bytes that it fills.
-fn process(
-    fd: i32,
+fn process<R: io::Read>(
+    file: &mut R,
     h: Head,
     p: KernelProcessor,
     before: u64,
@@ -80,7 +82,7 @@ fn process(
     weights: &[f64],
     row: &mut [f64],
     detector: &mut [f64],
-) -> Played {
+) -> io::Result<Played> {
     let format = h.format;
     let x = samples::fill(audio, format, before, h.kind);
     let done = p.process(
@@ -88,13 +90,13 @@ fn process(
     );
     let answer = done.answer;
     let digest = samples::digest(audio, format, frames, frames);
-    let same = answers::block_same(fd, answer, digest);
+    let same = answers::block_same(file, answer, digest)?;
     let processor = done.processor;
-    Played { processor, x, same }
+    Ok(Played { processor, x, same })
 }
 
-pub fn block(
-    fd: i32,
+pub fn block<R: io::Read>(
+    file: &mut R,
     h: Head,
     p: KernelProcessor,
     before: u64,
@@ -104,16 +106,16 @@ pub fn block(
     weights: &[f64],
     row: &mut [f64],
     detector: &mut [f64],
-) -> Played {
-    let position = next(fd).word;
-    let frames = next(fd).word as usize;
-    let told = 3 * count(fd, 64) as usize;
-    let events = events(fd, told);
+) -> io::Result<Played> {
+    let position = next(file)?.word;
+    let frames = next(file)?.word as usize;
+    let told = 3 * count(file, 64)? as usize;
+    let events = events(file, told)?;
     let format = h.format;
     let bytes = bytes_of(format, places(h.spec.channels, frames, 512));
     let mut audio = audio_room();
     process(
-        fd,
+        file,
         h,
         p,
         before,
@@ -131,8 +133,8 @@ pub fn block(
 }
 
 // A drain of so many frames into these bytes.
-fn flush(
-    fd: i32,
+fn flush<R: io::Read>(
+    file: &mut R,
     format: Format,
     p: KernelProcessor,
     x: u64,
@@ -144,20 +146,20 @@ fn flush(
     weights: &[f64],
     row: &mut [f64],
     detector: &mut [f64],
-) -> Played {
+) -> io::Result<Played> {
     let done = p.flush(
         format, frames, audio, delay, marks, minima, weights, row, detector,
     );
     let answer = done.answer;
     let told = answers::drained(answer);
     let digest = samples::digest(audio, format, frames, told.written);
-    let same = answers::drained_same(fd, told, digest);
+    let same = answers::drained_same(file, told, digest)?;
     let processor = done.processor;
-    Played { processor, x, same }
+    Ok(Played { processor, x, same })
 }
 
-pub fn drain(
-    fd: i32,
+pub fn drain<R: io::Read>(
+    file: &mut R,
     h: Head,
     p: KernelProcessor,
     x: u64,
@@ -167,13 +169,13 @@ pub fn drain(
     weights: &[f64],
     row: &mut [f64],
     detector: &mut [f64],
-) -> Played {
-    let frames = next(fd).word as usize;
+) -> io::Result<Played> {
+    let frames = next(file)?.word as usize;
     let format = h.format;
     let bytes = bytes_of(format, places(h.spec.channels, frames, 512));
     let mut audio = audio_room();
     flush(
-        fd,
+        file,
         format,
         p,
         x,
@@ -205,44 +207,44 @@ pub fn reset(
     Played { processor, x, same }
 }
 
-pub fn set(fd: i32, p: KernelProcessor, x: u64) -> Played {
-    let id = id(fd);
-    let value = float(fd);
+pub fn set<R: io::Read>(file: &mut R, p: KernelProcessor, x: u64) -> io::Result<Played> {
+    let id = id(file)?;
+    let value = float(file)?;
     let done = p.set_parameter_immediate(id, value);
     let answer = done.answer;
-    let same = answers::set_number(answer) == next(fd).word;
+    let same = answers::set_number(answer) == next(file)?.word;
     let processor = done.processor;
-    Played { processor, x, same }
+    Ok(Played { processor, x, same })
 }
 
-pub fn read(fd: i32, p: KernelProcessor, x: u64) -> Played {
-    let id = id(fd);
-    let number = next(fd).word;
-    let bits = next(fd).word;
+pub fn read<R: io::Read>(file: &mut R, p: KernelProcessor, x: u64) -> io::Result<Played> {
+    let id = id(file)?;
+    let number = next(file)?.word;
+    let bits = next(file)?.word;
     let same = answers::value_same(p.value(id), number, bits);
-    Played {
+    Ok(Played {
         processor: p,
         x,
         same,
-    }
+    })
 }
 
-pub fn gain_step(
-    fd: i32,
+pub fn gain_step<R: io::Read>(
+    file: &mut R,
     p: KernelProcessor,
     x: u64,
     marks: &mut [u64],
     minima: &mut [f64],
     weights: &[f64],
     row: &mut [f64],
-) -> Played {
-    let gain = float(fd);
-    let due = answers::recorded_step(fd);
+) -> io::Result<Played> {
+    let gain = float(file)?;
+    let due = answers::recorded_step(file)?;
     let done = p.step_env(gain, marks, minima, weights, row);
     let answer = done.answer;
     let same = answers::step_same(answer, due);
     let processor = done.processor;
-    Played { processor, x, same }
+    Ok(Played { processor, x, same })
 }
 
 // What a setup leaves; the look that it derives is the recorded one.

@@ -1,11 +1,12 @@
 // The head of a recorded session: what the limiter was set up with.
-ghost use Rattle.std.specs.Prelude.{◌*◌, ◌≤◌};
+ghost use Rattle.std.specs.Prelude.{◌*◌, ◌≤◌, IfOk};
 
 use arithmetic::pattern::from_bits;
 use audio::format::Format;
 use records::words::next;
 use settings::memory::Cap;
 use settings::{LimiterSettings, ProcessSpec};
+use std::io;
 
 #[derive(Clone, Copy)]
 pub struct Head {
@@ -18,16 +19,16 @@ pub struct Head {
     pub kind: u64,
 }
 
-pub fn float(fd: i32) -> f64 {
-    from_bits(next(fd).word)
+pub fn float<R: io::Read>(file: &mut R) -> io::Result<f64> {
+    Ok(from_bits(next(file)?.word))
 }
 
 // A count of at most `most`; a larger one is damage, which the answers tell.
-pub fn count(fd: i32, most: u64) -> u64
-    ensures { result ≤ most }
+pub fn count<R: io::Read>(file: &mut R, most: u64) -> io::Result<u64>
+    ensures { IfOk result (λ n. n ≤ most) }
 {
-    let n = next(fd).word;
-    if n <= most { n } else { most }
+    let n = next(file)?.word;
+    Ok(if n <= most { n } else { most })
 }
 
 // So many places for each channel; none where there are more than 8 channels or `most` places.
@@ -44,17 +45,17 @@ pub fn places(channels: usize, n: usize, most: usize) -> usize
     channels * n
 }
 
-fn settings(fd: i32) -> LimiterSettings {
-    let threshold_db = float(fd);
-    let true_peak_margin_db = float(fd);
-    let lookahead_ms = float(fd);
-    LimiterSettings {
+fn settings<R: io::Read>(file: &mut R) -> io::Result<LimiterSettings> {
+    let threshold_db = float(file)?;
+    let true_peak_margin_db = float(file)?;
+    let lookahead_ms = float(file)?;
+    Ok(LimiterSettings {
         threshold_db,
         true_peak_margin_db,
         lookahead_ms,
-        release_ms: float(fd),
+        release_ms: float(file)?,
         left_out: 0,
-    }
+    })
 }
 
 // The sample type that a session's first word tells.
@@ -62,19 +63,19 @@ fn format(first: u64) -> Format {
     if first == 9 { Format::F32 } else { Format::F64 }
 }
 
-pub fn read(fd: i32, first: u64) -> Head
-    ensures { (result.look ≤ 4096) × (result.rows ≤ 4096) }
+pub fn read<R: io::Read>(file: &mut R, first: u64) -> io::Result<Head>
+    ensures { IfOk result (λ h. (h.look ≤ 4096) × (h.rows ≤ 4096)) }
 {
-    let rate = count(fd, 192000) as u32;
-    let channels = count(fd, 8) as usize;
-    let s = settings(fd);
-    let look = count(fd, 4096) as usize;
-    let rows = count(fd, 4096) as usize;
-    let seed = next(fd).word;
-    let kind = next(fd).word;
-    let max_block = count(fd, 65536) as usize;
-    let house = count(fd, 1) == 1;
-    let left_out = count(fd, 255) as u8;
+    let rate = count(file, 192000)? as u32;
+    let channels = count(file, 8)? as usize;
+    let s = settings(file)?;
+    let look = count(file, 4096)? as usize;
+    let rows = count(file, 4096)? as usize;
+    let seed = next(file)?.word;
+    let kind = next(file)?.word;
+    let max_block = count(file, 65536)? as usize;
+    let house = count(file, 1)? == 1;
+    let left_out = count(file, 255)? as u8;
     let spec = ProcessSpec {
         rate,
         channels,
@@ -82,7 +83,7 @@ pub fn read(fd: i32, first: u64) -> Head
         cap: Cap::Unlimited,
         house,
     };
-    Head {
+    Ok(Head {
         format: format(first),
         settings: s.left_out(left_out),
         spec,
@@ -90,16 +91,17 @@ pub fn read(fd: i32, first: u64) -> Head
         rows,
         seed,
         kind,
-    }
+    })
 }
 
 // The weights, as the Rust computed them.
-pub fn weights(fd: i32, into: &mut [f64]) {
+pub fn weights<R: io::Read>(file: &mut R, into: &mut [f64]) -> io::Result<()> {
     let mut i: usize = 0;
     while i < into.len() {
-        into[i] = float(fd);
+        into[i] = float(file)?;
         i += 1;
     }
+    Ok(())
 }
 
 // Whether two stores hold the same weights; a NaN is the same as nothing.

@@ -2,11 +2,13 @@
 // the weights that each session leaves, and how many of them differ. `oracle/run record-whole` writes data/sessions.
 #![tactic(auto)]
 
-ghost use Rattle.std.specs.Prelude.{◌≡◌, ◌≤◌, length};
+ghost use Rattle.std.specs.Prelude.{◌≡◌, ◌≤◌, length, IfOk};
 
 use records::tally::{Replayed, Tally};
 use records::words::next;
 use session_calls::head;
+use std::fs::File;
+use std::io::{self, BufReader};
 
 // The session.
 mod session;
@@ -51,23 +53,23 @@ fn lent(house: bool, weights: [f64; 4097]) -> [f64; 4097]
 }
 
 // The weights, in the first places.
-fn weights(fd: i32, rows: usize) -> [f64; 4097]
+fn weights<R: io::Read>(file: &mut R, rows: usize) -> io::Result<[f64; 4097]>
     requires { rows ≤ 4096 }
-    ensures { length result ≡ 4097 }
+    ensures { IfOk result (λ w. length w ≡ 4097) }
 {
     let mut weights = room();
-    head::weights(fd, &mut weights[0..rows]);
-    weights
+    head::weights(file, &mut weights[0..rows])?;
+    Ok(weights)
 }
 
 // A session whose first word was read, on stores of its lengths.
-fn replayed(fd: i32, first: u64, before: Tally) -> Tally {
-    let h = head::read(fd, first);
+fn replayed<R: io::Read>(file: &mut R, first: u64, before: Tally) -> io::Result<Tally> {
+    let h = head::read(file, first)?;
     let rows = h.rows;
     let entries = h.look + 1;
     let lines = head::places(h.spec.channels, h.look, 4096);
     let heard = head::places(h.spec.channels, 12, 12);
-    let due = weights(fd, rows);
+    let due = weights(file, rows)?;
     let mut weights = lent(h.spec.house, due);
     let mut delay = delay_room();
     let mut marks = marks_room();
@@ -75,7 +77,7 @@ fn replayed(fd: i32, first: u64, before: Tally) -> Tally {
     let mut row = room();
     let mut detector = [1.0; 96];
     session::whole(
-        fd,
+        file,
         h,
         before,
         &due[0..rows],
@@ -89,28 +91,27 @@ fn replayed(fd: i32, first: u64, before: Tally) -> Tally {
 }
 
 // Each session of the file, up to ten thousand.
-fn each(fd: i32) -> Replayed {
+fn each<R: io::Read>(file: &mut R) -> io::Result<Replayed> {
     let mut tally = Tally::new();
     for turn in 0..10000usize {
-        let first = next(fd);
+        let first = next(file)?;
         if !first.whole {
-            return Replayed {
+            return Ok(Replayed {
                 tally,
                 rest: first.rest,
-            };
+            });
         }
-        tally = replayed(fd, first.word, tally);
+        tally = replayed(file, first.word, tally)?;
     }
-    Replayed { tally, rest: 0 }
+    Ok(Replayed { tally, rest: 0 })
 }
 
-fn main() {
-    let fd = os::open_read(b"sessions");
-    if fd < 0 {
-        os::fail(b"sessions");
-        return;
-    }
-    let replayed = each(fd);
-    libc::close(fd);
-    replayed.print(b"calls and weights of the limiter");
+fn main(rt: HostRuntime) -> io::Result<()> {
+    let file = match File::open(&rt, "sessions") {
+        Ok(file) => file,
+        Err(error) => return eprintln!(rt; "sessions: {error}"),
+    };
+    let mut file = BufReader::new(rt.alloc(), file)?;
+    let replayed = each(&mut file)?;
+    replayed.print(&rt, b"calls and weights of the limiter")
 }

@@ -5,6 +5,7 @@ use records::words::{Read, next};
 use session_calls::calls::Played;
 use session_calls::head::Head;
 use session_calls::{calls, head};
+use std::io;
 
 // The tally with a call, or with the weights that a session leaves.
 fn counted(tally: Tally, same: bool) -> Tally {
@@ -28,8 +29,8 @@ fn ended(tally: Tally, op: Read) -> Tally {
 }
 
 // The rest of a call whose op was read. Another op is no call's, and differs.
-fn play(
-    fd: i32,
+fn play<R: io::Read>(
+    file: &mut R,
     op: u64,
     h: Head,
     p: KernelProcessor,
@@ -40,26 +41,26 @@ fn play(
     weights: &mut [f64],
     row: &mut [f64],
     detector: &mut [f64],
-) -> Played {
+) -> io::Result<Played> {
     match op {
-        2 => calls::block(fd, h, p, x, delay, marks, minima, weights, row, detector),
-        3 => calls::drain(fd, h, p, x, delay, marks, minima, weights, row, detector),
-        4 => calls::reset(p, x, delay, marks, minima, weights, row, detector),
-        5 => calls::set(fd, p, x),
-        6 => calls::read(fd, p, x),
-        7 => calls::gain_step(fd, p, x, marks, minima, weights, row),
-        8 => calls::setup(h, x, delay, marks, minima, weights, row, detector),
-        _ => Played {
+        2 => calls::block(file, h, p, x, delay, marks, minima, weights, row, detector),
+        3 => calls::drain(file, h, p, x, delay, marks, minima, weights, row, detector),
+        4 => Ok(calls::reset(p, x, delay, marks, minima, weights, row, detector)),
+        5 => calls::set(file, p, x),
+        6 => calls::read(file, p, x),
+        7 => calls::gain_step(file, p, x, marks, minima, weights, row),
+        8 => Ok(calls::setup(h, x, delay, marks, minima, weights, row, detector)),
+        _ => Ok(Played {
             processor: p,
             x,
             same: false,
-        },
+        }),
     }
 }
 
 // The setup (8), then the calls that the file has, up to the session's end.
-fn each(
-    fd: i32,
+fn each<R: io::Read>(
+    file: &mut R,
     h: Head,
     before: Tally,
     delay: &mut [f64],
@@ -68,7 +69,7 @@ fn each(
     weights: &mut [f64],
     row: &mut [f64],
     detector: &mut [f64],
-) -> Tally {
+) -> io::Result<Tally> {
     let mut tally = before;
     let mut op = Read {
         whole: true,
@@ -79,24 +80,24 @@ fn each(
     let mut x = h.seed;
     for turn in 0..1000000usize {
         if is_end(op) {
-            return ended(tally, op);
+            return Ok(ended(tally, op));
         }
         let played = play(
-            fd, op.word, h, processor, x, delay, marks, minima, weights, row, detector,
-        );
+            file, op.word, h, processor, x, delay, marks, minima, weights, row, detector,
+        )?;
         tally = counted(tally, played.same);
         let after = played.processor;
         processor = after;
         x = played.x;
-        op = next(fd);
+        op = next(file)?;
     }
-    tally
+    Ok(tally)
 }
 
 // A session's calls, and at its end the weights: those that the Rust computed, whoever laid them into
 // the store.
-pub fn whole(
-    fd: i32,
+pub fn whole<R: io::Read>(
+    file: &mut R,
     h: Head,
     before: Tally,
     due: &[f64],
@@ -106,7 +107,9 @@ pub fn whole(
     weights: &mut [f64],
     row: &mut [f64],
     detector: &mut [f64],
-) -> Tally {
-    let tally = each(fd, h, before, delay, marks, minima, weights, row, detector);
-    counted(tally, head::same(due, weights))
+) -> io::Result<Tally> {
+    let tally = each(
+        file, h, before, delay, marks, minima, weights, row, detector,
+    )?;
+    Ok(counted(tally, head::same(due, weights)))
 }
