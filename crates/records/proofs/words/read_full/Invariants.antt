@@ -1,5 +1,5 @@
 -- proofs/words/read_full/Invariants.antt
-use Rattle.std.proofs.Common.{length, ◌-◌, ◌≡◌, ℕ, ◌+◌, ◌*◌, ◌<◌, ◌≤◌}
+use Rattle.std.proofs.Common.{length, ◌-◌, ◌≤◌}
 use Rattle.records.proofs.words.read_full.Given as goal
 
 -- as many bytes as were read stand in buf
