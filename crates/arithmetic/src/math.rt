@@ -42,8 +42,8 @@ pub fn exp(x: f64) -> ExpAnswer
 
 // The three ranges of h, the upper 32 bits of x without its sign.
 fn exp_at(h: u64, x: f64) -> f64
-    requires x_value { in_domain x ≡ true }
-    requires h_value { h ≡ high_of x }
+    requires domain { in_domain x ≡ true }
+    requires high { h ≡ high_of x }
     ensures { result ≡ exp_at h x }
 {
     if h <= 0x3e30_0000 {
@@ -67,10 +67,10 @@ fn cutting(x: f64) -> f64
 
 // −k: how often ln 2 goes into −x, rounded.
 fn cut(x: f64) -> u64
-    requires x_value { in_domain x ≡ true }
-    requires x_nonzero { 0 < high_of x }
+    requires domain { in_domain x ≡ true }
+    requires some { 0 < high_of x }
     ensures value { result ≡ cut_of x }
-    ensures upper_bound { result ≤ 1010 }
+    ensures few { result ≤ 1010 }
 {
     std::num::truncating_f64_to_u64(cutting(x))
 }

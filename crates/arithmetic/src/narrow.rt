@@ -56,9 +56,9 @@ pub fn to_bits32(x: f64) -> u32
 
 // n in units, to the closest whole number of them, a tie to the even one. The unit is even.
 fn closest_to(n: u64, unit: u64) -> u64
-    requires unit_nonzero { 0 < unit }
-    requires unit_value { unit % 2 ≡ 0 }
-    requires unit_bound { n + unit < 2 ^ 64 }
+    requires unit_some { 0 < unit }
+    requires unit_even { unit % 2 ≡ 0 }
+    requires room { n + unit < 2 ^ 64 }
     ensures { result ≡ closest n unit }
 {
     (n + (unit / 2 - 1) + n / unit % 2) / unit

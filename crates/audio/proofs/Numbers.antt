@@ -1,7 +1,7 @@
 -- Numbers and their bytes: each is had back from the other. Bytes cut into places, and joined.
 use mathlib.Core.Path.{◌≡◌, refl, sym, ap, ◌∙◌}
 use mathlib.Core.List.{List, [], ◌∷◌, ◌++◌, append_assoc, append-nil}
-use Prim.Native.Nat.{ℕ, zero, suc, ◌+◌, ◌-◌, ◌*◌, ◌/◌, ◌%◌, ◌^◌, ◌≤◌, ◌<◌}
+use Prim.Native.Nat.{ℕ, zero, suc, ◌+◌, ◌*◌, ◌/◌, ◌%◌, ◌^◌, ◌≤◌, ◌<◌}
 use native.Mathlib.Numerals.{add-one, towards_suc}
 use native.Mathlib.Nat.{zero-add, mul-zero, mul-suc, mul-le-mul_left, pow-suc, mod-add-div, mod-eq_of_lt, div-div-eq-div-mul, div-eq_of_lt, div-lt_iff_lt-mul, add-mul-div_left, add-mul-mod_self_left}
 use native.Mathlib.Omega.{arith}

@@ -25,9 +25,9 @@ fn sample(format: Format, bytes: &[u8], i: usize) -> f64
 
 // A value of the sample type into its place, in bytes that are whole samples.
 fn put_sample(format: Format, bytes: &mut [u8], i: usize, x: f64)
-    requires t { T (fits (binary_of format) x) }
-    requires format_len { length bytes.old % sample_bytes format ≡ 0 }
-    requires i_in_bounds { i < length (places_of format bytes.old) }
+    requires held { T (fits (binary_of format) x) }
+    requires whole { length bytes.old % sample_bytes format ≡ 0 }
+    requires inside { i < length (places_of format bytes.old) }
     ensures { places_of format bytes.new ≡ set (places_of format bytes.old) i (bytes_for format x) }
 {
     match format {
@@ -38,8 +38,8 @@ fn put_sample(format: Format, bytes: &mut [u8], i: usize, x: f64)
 
 // n samples from one place on to another place on, sanitized.
 fn read_channel(format: Format, n: usize, from: usize, bytes: &[u8], to: usize, run: &mut [f64])
-    requires n_in_bounds { from + n ≤ length (places_of format bytes.now) }
-    requires n_in_bounds_2 { to + n ≤ length run.old }
+    requires from_inside { from + n ≤ length (places_of format bytes.now) }
+    requires to_inside { to + n ≤ length run.old }
     ensures { PlacesCopied nan n from (sounds_of format bytes.now) to run.old run.new }
 {
     for i in 0..n {
@@ -59,9 +59,9 @@ pub fn gather(
 )
     requires channels_bound { channels ≤ 8 }
     requires width_bound { width ≤ 65536 }
-    requires width_value { channels * width ≡ size_of format bytes.now }
-    requires n_bound { first + n ≤ width }
-    requires n_bound_2 { n ≤ 32 }
+    requires audio_size { channels * width ≡ size_of format bytes.now }
+    requires run_inside { first + n ≤ width }
+    requires run_short { n ≤ 32 }
     requires run_len { length run.old ≡ 256 }
     ensures { PlacesCarried nan channels n width first (sounds_of format bytes.now) 32 0 run.old run.new }
 {
@@ -72,9 +72,9 @@ pub fn gather(
 
 // The bytes of n samples from one place on to another place on, in bytes that are whole samples.
 fn write_channel(format: Format, n: usize, from: usize, run: &[f64], to: usize, bytes: &mut [u8])
-    requires format_len { length bytes.old % sample_bytes format ≡ 0 }
-    requires n_in_bounds { from + n ≤ length run.now }
-    requires n_in_bounds_2 { to + n ≤ length (places_of format bytes.old) }
+    requires whole { length bytes.old % sample_bytes format ≡ 0 }
+    requires from_inside { from + n ≤ length run.now }
+    requires to_inside { to + n ≤ length (places_of format bytes.old) }
     requires held { Held format n from run.now }
     ensures { PlacesCopied (bytes_for format nan) n from (map (bytes_for format) run.now)
         to (places_of format bytes.old) (places_of format bytes.new) }
@@ -96,9 +96,9 @@ pub fn scatter(
 )
     requires channels_bound { channels ≤ 8 }
     requires width_bound { width ≤ 65536 }
-    requires width_value { channels * width ≡ size_of format bytes.old }
-    requires n_bound { first + n ≤ width }
-    requires n_bound_2 { n ≤ 32 }
+    requires audio_size { channels * width ≡ size_of format bytes.old }
+    requires run_inside { first + n ≤ width }
+    requires run_short { n ≤ 32 }
     requires run_len { length run.now ≡ 256 }
     requires held_all { HeldAll format channels n run.now }
     ensures { Placed format channels n width first (frames_at nan 32 channels 0 n run.now) bytes.old bytes.new }

@@ -60,8 +60,8 @@ fn lay_run(samples: &[f64], line: &mut [f64])
 
 // The newest n sanitized samples of a run into the first places of a store, the newest first.
 fn lay_newest(store: &mut [f64], samples: &[f64], n: usize)
-    requires n_in_bounds { n ≤ length store.old }
-    requires n_in_bounds_2 { n ≤ length samples.now }
+    requires store_enough { n ≤ length store.old }
+    requires samples_enough { n ≤ length samples.now }
     ensures { store.new
         ≡ take n (reverse (map finite_or_zero samples.now)) ++ drop n store.old }
 {

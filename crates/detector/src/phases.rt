@@ -68,7 +68,7 @@ fn magnitude(sum: f64) -> f64
 fn larger_of(peak: f64, sum: f64) -> f64
     requires { lt peak zero ≡ false }
     ensures value { result ≡ larger peak sum }
-    ensures zero_value { lt result zero ≡ false }
+    ensures not_below_zero { lt result zero ≡ false }
 {
     let m = magnitude(sum);
     if m > peak { m } else { peak }
@@ -159,7 +159,7 @@ pub fn answer_one(table: &[f64], store: &[f64], run: &[f64], i: usize) -> Peak
 
 // The samples newer than that at `at`, which only the three answers ahead read.
 fn add_first(sums: &mut [f64], table: &[f64], run: &[f64], at: usize)
-    requires sums_value { sums.old ≡ replicate (factor * 4) zero }
+    requires sums_zero { sums.old ≡ replicate (factor * 4) zero }
     requires table_len { length table.now ≡ tap_count }
     requires at_in_bounds { at + 3 < length run.now }
     ensures { sums.new ≡ newer_of table.now run.now at }
@@ -213,7 +213,7 @@ fn sums_of_four(table: &[f64], store: &[f64], run: &[f64], at: usize) -> [f64; 1
     requires table_len { length table.now ≡ tap_count }
     requires store_len { length store.now ≡ remembered }
     requires at_in_bounds { at + 3 < length run.now }
-    requires at_value { at % 4 ≡ 0 }
+    requires at_a_fourth { at % 4 ≡ 0 }
     ensures { result ≡ fours_of table.now store.now run.now at }
 {
     let mut sums = [0.0; 16];
@@ -233,7 +233,7 @@ fn answer_four(table: &[f64], store: &[f64], run: &[f64], answers: &mut [f64], a
     requires store_len { length store.now ≡ remembered }
     requires at_in_bounds { at + 3 < length run.now }
     requires run_in_bounds { length run.now ≤ length answers.old }
-    requires at_value { at % 4 ≡ 0 }
+    requires at_a_fourth { at % 4 ≡ 0 }
     ensures { take at answers.old ≡ take at (answers_of (sums_by table.now) store.now run.now)
         → take (at + 4) answers.new ≡ take (at + 4) (answers_of (sums_by table.now) store.now run.now) }
 {

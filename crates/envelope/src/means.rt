@@ -36,8 +36,8 @@ fn all_one(floors: &[f64]) -> bool
 
 // n values from one place on to another place on.
 fn copy_to(from: &[f64], at: usize, to: &mut [f64], place: usize, n: usize)
-    requires n_in_bounds { at + n ≤ length from.now }
-    requires n_in_bounds_2 { place + n ≤ length to.old }
+    requires from_inside { at + n ≤ length from.now }
+    requires to_inside { place + n ≤ length to.old }
     ensures { to.new ≡ paste to.old place (drop at from.now) n }
 {
     for i in 0..n {
@@ -131,9 +131,9 @@ fn long_line() -> [f64; 4128]
 impl AttackRow {
     // Frame by frame, each mean by a walk of the ring.
     fn means_in_turn(self, weights: &[f64], row: &mut [f64], floors: &mut [f64]) -> AttackRow
-        requires row_value { row_in_order self row.old ≡ true }
+        requires row_ordered { row_in_order self row.old ≡ true }
         requires weights_len { length weights.now ≡ length row.old }
-        requires floors_value { all_unit floors.old ≡ true }
+        requires floors_unit { all_unit floors.old ≡ true }
         ensures { means_at result row.new floors.new
             ≡ means_of weights.now (rowed_at self row.old) floors.old }
     {
@@ -148,9 +148,9 @@ impl AttackRow {
 
     // Frame by frame, with the weighted sums at hand: those of any weights.
     fn means_given(self, row: &mut [f64], floors: &mut [f64], sums: &[f64]) -> AttackRow
-        requires row_value { row_in_order self row.old ≡ true }
+        requires row_ordered { row_in_order self row.old ≡ true }
         requires floors_in_bounds { length floors.old ≤ length sums.now }
-        requires floors_value { all_unit floors.old ≡ true }
+        requires floors_unit { all_unit floors.old ≡ true }
         ensures { (weights : List Float)
             → take (length floors.old) sums.now ≡ sums_of weights (rowed_at self row.old) floors.old
             → means_at result row.new floors.new ≡ means_of weights (rowed_at self row.old) floors.old }
@@ -172,9 +172,9 @@ impl AttackRow {
         floors: &mut [f64],
         line: &mut [f64],
     ) -> AttackRow
-        requires row_value { row_in_order self row.old ≡ true }
+        requires row_ordered { row_in_order self row.old ≡ true }
         requires weights_len { length weights.now ≡ length row.old }
-        requires floors_value { all_unit floors.old ≡ true }
+        requires floors_unit { all_unit floors.old ≡ true }
         requires floors_len_bound { length floors.old ≤ 32 }
         requires row_in_bounds { length row.old + 32 ≤ length line.old }
         ensures { means_at result row.new floors.new
@@ -188,9 +188,9 @@ impl AttackRow {
     }
 
     fn means_short(self, weights: &[f64], row: &mut [f64], floors: &mut [f64]) -> AttackRow
-        requires row_value { row_in_order self row.old ≡ true }
+        requires row_ordered { row_in_order self row.old ≡ true }
         requires weights_len { length weights.now ≡ length row.old }
-        requires floors_value { all_unit floors.old ≡ true }
+        requires floors_unit { all_unit floors.old ≡ true }
         requires floors_len_bound { length floors.old ≤ 32 }
         requires row_len_bound { length row.old ≤ 96 }
         ensures { means_at result row.new floors.new
@@ -201,9 +201,9 @@ impl AttackRow {
     }
 
     fn means_long(self, weights: &[f64], row: &mut [f64], floors: &mut [f64]) -> AttackRow
-        requires row_value { row_in_order self row.old ≡ true }
+        requires row_ordered { row_in_order self row.old ≡ true }
         requires weights_len { length weights.now ≡ length row.old }
-        requires floors_value { all_unit floors.old ≡ true }
+        requires floors_unit { all_unit floors.old ≡ true }
         requires floors_len_bound { length floors.old ≤ 32 }
         requires row_len_bound { length row.old ≤ 4096 }
         ensures { means_at result row.new floors.new
@@ -216,9 +216,9 @@ impl AttackRow {
     // Each floor of a run gives way to its mean. Where row and floors are nothing but 1, so are the
     // means, and only the position goes on. A short run goes frame by frame.
     pub fn means(self, weights: &[f64], row: &mut [f64], floors: &mut [f64]) -> AttackRow
-        requires row_value { row_in_order self row.old ≡ true }
+        requires row_ordered { row_in_order self row.old ≡ true }
         requires weights_len { length weights.now ≡ length row.old }
-        requires floors_value { all_unit floors.old ≡ true }
+        requires floors_unit { all_unit floors.old ≡ true }
         ensures { means_at result row.new floors.new
             ≡ means_of weights.now (rowed_at self row.old) floors.old }
     {

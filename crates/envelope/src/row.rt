@@ -25,7 +25,7 @@ fn other_than_one(floor: f64) -> usize
 pub fn next_pos(l: usize, pos: usize) -> usize
     requires { pos < l }
     ensures value { result ≡ next_pos l pos }
-    ensures upper_bound { result < l }
+    ensures inside { result < l }
 {
     let next = pos + 1;
     if next == l { 0 } else { next }
@@ -33,8 +33,8 @@ pub fn next_pos(l: usize, pos: usize) -> usize
 
 // The products of n floors from `from` on, read downward, and the weights from j on, added to acc.
 fn weighted(acc: f64, weights: &[f64], j: usize, row: &[f64], from: usize, n: usize) -> f64
-    requires n_in_bounds { from + n ≤ length row.now }
-    requires n_in_bounds_2 { j + n ≤ length weights.now }
+    requires row_inside { from + n ≤ length row.now }
+    requires weights_inside { j + n ≤ length weights.now }
     ensures { result ≡ weighted_from acc (drop j weights.now) (down row.now from n) }
 {
     let mut sum = acc;
@@ -104,7 +104,7 @@ impl AttackRow {
 
     // The weighted mean of the row, newest floor first; exactly 1.0 where every floor is 1.0.
     pub fn mean(self, weights: &[f64], row: &[f64]) -> f64
-        requires row_value { row_in_order self row.now ≡ true }
+        requires row_ordered { row_in_order self row.now ≡ true }
         requires weights_len { length weights.now ≡ length row.now }
         ensures { result ≡ mean_of weights.now (newest_first self.pos row.now) }
     {

@@ -1,5 +1,5 @@
 -- The whole text of `floors`, from the bytes of its input.
-use Rattle.std.specs.Prelude.{ℕ, zero, ◌+◌, cond, List, [], ◌∷◌, ◌++◌, leb, length, replicate, Float}
+use Rattle.std.specs.Prelude.{ℕ, ◌+◌, cond, List, [], ◌∷◌, ◌++◌, leb, length, replicate, Float}
 use Rattle.arithmetic.specs.Number
 use Rattle.arithmetic.specs.Number.{bits}
 use Rattle.keeper.specs.Keeper.{Keeping, keeping_at, fresh_keeper, stepped_of}

@@ -36,8 +36,8 @@ fn step_line(
     at: usize,
 ) -> Turn
     requires ready { Ready (keeping_at keeper marks.old minima.old) }
-    requires pattern_bound { at + length (frame_text (keeping_at keeper marks.old minima.old) (bits pattern)) ≤ 2 ^ 32 }
-    ensures minima_after { keeping_at result.keeper marks.new minima.new
+    requires room { at + length (frame_text (keeping_at keeper marks.old minima.old) (bits pattern)) ≤ 2 ^ 32 }
+    ensures keeping_after { keeping_at result.keeper marks.new minima.new
         ≡ (stepped_of (keeping_at keeper marks.old minima.old) (bits pattern)).keeping }
     ensures put { Put output.old at
         (frame_text (keeping_at keeper marks.old minima.old) (bits pattern)) output.new result.next }
@@ -63,8 +63,8 @@ fn gain_lines(
     minima: &mut [f64],
     output: &mut [u8],
 ) -> usize
-    requires input_len_bound { (length input.now ≤ 60000) × (from ≤ length input.now) × (11 ≤ look) × (look ≤ 4096) }
-    requires marks_len { (length marks.old ≡ look + 1) × (length minima.old ≡ look + 1) }
+    requires taken { (length input.now ≤ 60000) × (from ≤ length input.now) × (11 ≤ look) × (look ≤ 4096) }
+    requires stores_long { (length marks.old ≡ look + 1) × (length minima.old ≡ look + 1) }
     ensures put { Put output.old 0 (gain_text (opened look) 2 (lines_of (drop from input.now))) output.new result }
     ensures marks_after { marks.new ≡ (gains_left (opened look) (lines_of (drop from input.now))).marks }
     ensures minima_after { minima.new ≡ (gains_left (opened look) (lines_of (drop from input.now))).minima }

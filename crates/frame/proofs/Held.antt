@@ -1,7 +1,7 @@
 -- Every output is a value of the call's sample type, so that its bytes hold it.
 use mathlib.Core.Path.{◌≡◌, subst, sym, ◌∙◌}
 use mathlib.Core.List.{List, [], ◌∷◌, map}
-use Prim.Native.Nat.{ℕ, zero, suc, ◌+◌, ◌*◌, ◌≤◌, ◌<◌}
+use Prim.Native.Nat.{ℕ, zero, suc, ◌*◌, ◌≤◌}
 use lib.Dec.{T}
 use lib.ListN.{length, get_or, length-map}
 use lib.Ieee.{Float, nan, binary64, fits, mul, lt}

@@ -67,9 +67,9 @@ pub fn gain_steps(
 ) -> GainStep
     requires env_ready { EnvReady weights.now (enveloped_at env marks.old minima.old row.old) }
     requires gains_bound { env.keeper.frame + length gains.old ≤ most_frames }
-    ensures gains_after { gains_at result.env marks.new minima.new row.new gains.new
+    ensures stepped { gains_at result.env marks.new minima.new row.new gains.new
         ≡ gains_of weights.now coeff (enveloped_at env marks.old minima.old row.old) gains.old }
-    ensures row_after { (x : Float) → gains.old ≡ x ∷ [] → gain_step_at result marks.new minima.new row.new
+    ensures one_step { (x : Float) → gains.old ≡ x ∷ [] → gain_step_at result marks.new minima.new row.new
         ≡ gain_step_of weights.now coeff (enveloped_at env marks.old minima.old row.old) x }
 {
     let keeper = env.keeper;

@@ -50,8 +50,8 @@ fn shorter(a: usize, b: usize) -> usize
 // it. The position that the next frame finds is handed back.
 fn exchange(line: &mut [f64], pos: usize, samples: &mut [f64]) -> usize
     requires pos_in_bounds { pos < length line.old }
-    requires samples_value { map finite_or_zero samples.old ≡ samples.old }
-    ensures line_after { exchanged_at samples.new line.new
+    requires sanitized { map finite_or_zero samples.old ≡ samples.old }
+    ensures exchanged { exchanged_at samples.new line.new
         ≡ exchange_of (length line.old) pos line.old samples.old }
     ensures value { result ≡ pos_after (length line.old) pos (length samples.old) }
 {
@@ -92,8 +92,8 @@ fn channel_outputs(
 ) -> usize
     requires pos_in_bounds { pos < length line.old }
     requires gains_len { length gains.now ≡ length samples.old }
-    requires samples_value { map finite_or_zero samples.old ≡ samples.old }
-    ensures line_after { outputs_at samples.new line.new
+    requires sanitized { map finite_or_zero samples.old ≡ samples.old }
+    ensures given_out { outputs_at samples.new line.new
         ≡ channel_outputs (leaves_by format) (length line.old) pos gains.now line.old samples.old }
     ensures value { result ≡ pos_after (length line.old) pos (length samples.old) }
 {
@@ -113,7 +113,7 @@ pub fn all_outputs(
     delay: &mut [f64],
     audio: &mut [f64],
 ) -> usize
-    requires le_channels { 1 ≤ channels }
+    requires some_channel { 1 ≤ channels }
     requires channels_bound { channels ≤ 8 }
     requires n_le_run_length { n ≤ run_length }
     requires pos_lt_look { pos < look }
@@ -121,7 +121,7 @@ pub fn all_outputs(
     requires delay_len { length delay.old ≡ channels * look }
     requires gains_len { length gains.now ≡ n }
     requires sanitized { Sanitized channels n audio.old }
-    ensures delay_after { written_at audio.new delay.new
+    ensures given_out { written_at audio.new delay.new
         ≡ outputs_pass (leaves_by format) look pos gains.now channels n delay.old audio.old }
     ensures value { result ≡ pos_after look pos n }
 {

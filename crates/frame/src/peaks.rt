@@ -23,7 +23,7 @@ use settings::counted::counts_in;
 fn heard_in(peak: f64, x: f64, answer: f64) -> f64
     requires { le zero peak ≡ true }
     ensures value { result ≡ heard true peak x answer }
-    ensures result_value { le zero result ≡ true }
+    ensures from_zero { le zero result ≡ true }
 {
     let y = finite_or_zero(x);
     let mut top = peak;
@@ -43,9 +43,9 @@ fn heard_in(peak: f64, x: f64, answer: f64) -> f64
 fn hear_run(peaks: &mut [f64], samples: &[f64], answers: &[f64])
     requires samples_len { length samples.now ≡ length peaks.old }
     requires answers_len { length answers.now ≡ length peaks.old }
-    requires peaks_value { all_from_zero peaks.old ≡ true }
+    requires from_zero { all_from_zero peaks.old ≡ true }
     ensures peaks_after { peaks.new ≡ heard_all true peaks.old samples.now answers.now }
-    ensures peaks_after_2 { all_from_zero peaks.new ≡ true }
+    ensures still_from_zero { all_from_zero peaks.new ≡ true }
 {
     let n = samples.len();
     for i in 0..n {
@@ -66,13 +66,13 @@ fn hear_channel(
     requires store_len { length store.now ≡ remembered }
     requires samples_len { length samples.now ≡ length peaks.old }
     requires answers_len { length answers.old ≡ length samples.now }
-    requires samples_len_bound { length samples.now ≤ run_length }
-    requires peaks_value { all_from_zero peaks.old ≡ true }
-    requires c_value { counts_in settings c ≡ true }
+    requires run_short { length samples.now ≤ run_length }
+    requires from_zero { all_from_zero peaks.old ≡ true }
+    requires counted { counts_in settings c ≡ true }
     ensures peaks_after { peaks.new
         ≡ (channel_peaks (linking_of settings) c peaks.old store.now samples.now).peaks }
     ensures answers_after { answers.new ≡ (pushes_of (taps_of settings) store.now samples.now).peaks }
-    ensures peaks_after_2 { all_from_zero peaks.new ≡ true }
+    ensures still_from_zero { all_from_zero peaks.new ≡ true }
 {
     answers_abs(store, samples, answers);
     hear_run(peaks, samples, answers);
@@ -88,12 +88,12 @@ fn channel_peaks(
 )
     requires store_len { length store.now ≡ remembered }
     requires samples_len { length samples.now ≡ length peaks.old }
-    requires samples_len_bound { length samples.now ≤ run_length }
-    requires peaks_value { all_from_zero peaks.old ≡ true }
-    requires c_value { counts_in settings c ≡ true }
+    requires run_short { length samples.now ≤ run_length }
+    requires from_zero { all_from_zero peaks.old ≡ true }
+    requires counted { counts_in settings c ≡ true }
     ensures peaks_after { peaks.new
         ≡ (channel_peaks (linking_of settings) c peaks.old store.now samples.now).peaks }
-    ensures peaks_after_2 { all_from_zero peaks.new ≡ true }
+    ensures still_from_zero { all_from_zero peaks.new ≡ true }
 {
     let n = samples.len();
     let mut answers = [0.0; 32];
@@ -113,8 +113,8 @@ fn hear_or_pass(
 ) -> bool
     requires store_len { length store.now ≡ remembered }
     requires samples_len { length samples.now ≡ length peaks.old }
-    requires samples_len_bound { length samples.now ≤ run_length }
-    requires peaks_value { all_from_zero peaks.old ≡ true }
+    requires run_short { length samples.now ≤ run_length }
+    requires from_zero { all_from_zero peaks.old ≡ true }
     requires c_bound { c < 8 }
     ensures all_alike { (ceiling : Float) (whole : List Float) → level ≡ level_of ceiling → AllAlike ceiling peaks.old whole
         → AllAlike ceiling peaks.new (channel_peaks (linking_of settings) c whole store.now samples.now).peaks }
@@ -145,7 +145,7 @@ pub fn all_peaks(
     requires n_le_run_length { n ≤ run_length }
     requires audio_len { length audio.now ≡ 8 * run_length }
     requires detector_len { length detector.now ≡ channels * remembered }
-    requires peaks_value { peaks.old ≡ replicate n zero }
+    requires peaks_zero { peaks.old ≡ replicate n zero }
     ensures all_alike { AllAlike ceiling peaks.new
         (peaks_pass (linking_of settings) 0 channels n peaks.old detector.now audio.now).peaks }
     ensures peaks_unchanged { result ≡ false → peaks.new ≡ peaks.old }

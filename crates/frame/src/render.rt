@@ -49,8 +49,8 @@ fn render_in(
 ) -> Rendered
     requires run_ready { RunReady weights.now look channels n (moving_at env pos delay.old marks.old minima.old row.old detector.old) audio.old }
     requires first_bound { first ≤ 65536 }
-    requires gains_value { gains.old ≡ replicate n zero }
-    ensures audio_after { done_at (moving_at result.env result.pos delay.new marks.new minima.new row.new detector.new) audio.new
+    requires gains_zero { gains.old ≡ replicate n zero }
+    ensures run_done { done_at (moving_at result.env result.pos delay.new marks.new minima.new row.new detector.new) audio.new
         ≡ run_of (rules_of settings format) weights.now coeff look target channels n
         (moving_at env pos delay.old marks.old minima.old row.old detector.old) audio.old }
     ensures highest_value { result.highest
@@ -98,7 +98,7 @@ pub fn render_run(
 ) -> Rendered
     requires run_ready { RunReady weights.now look channels n (moving_at env pos delay.old marks.old minima.old row.old detector.old) audio.old }
     requires first_bound { first ≤ 65536 }
-    ensures audio_after { done_at (moving_at result.env result.pos delay.new marks.new minima.new row.new detector.new) audio.new
+    ensures run_done { done_at (moving_at result.env result.pos delay.new marks.new minima.new row.new detector.new) audio.new
         ≡ run_of (rules_of settings format) weights.now coeff look target channels n
         (moving_at env pos delay.old marks.old minima.old row.old detector.old) audio.old }
     ensures highest_value { result.highest

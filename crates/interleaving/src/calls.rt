@@ -36,8 +36,8 @@ fn tile_room() -> [u8; 4096]
 
 // A bit for each of 8,192 rows.
 fn row_bits() -> [u8; 1024]
-    ensures result_len { length result ≡ 1024 }
-    ensures by_index { (k : ℕ) → bit_at result k ≡ false }
+    ensures bytes { length result ≡ 1024 }
+    ensures clear { (k : ℕ) → bit_at result k ≡ false }
 {
     [0; 1024]
 }

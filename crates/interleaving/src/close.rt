@@ -10,8 +10,8 @@ use audio::format::{Format, sample_bytes};
 // n rows of `size` bytes to places further down, the first row first.
 fn slide_down(size: usize, n: usize, from: usize, to: usize, bytes: &mut [u8], room: &mut [u8])
     requires to_le_from { to ≤ from }
-    requires size_in_bounds { from + n * size ≤ length bytes.old }
-    requires size_in_bounds_2 { size ≤ length room.old }
+    requires from_inside { from + n * size ≤ length bytes.old }
+    requires room_enough { size ≤ length room.old }
     ensures { bytes.new ≡ put bytes.old to (take (n * size) (drop from bytes.old)) }
 {
     for i in 0..n {

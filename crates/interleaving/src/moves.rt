@@ -9,8 +9,8 @@ use audio::words::{put_word, put_word32, word, word32};
 
 // n bytes from one place on to another place on.
 pub fn copy_bytes(n: usize, from: usize, source: &[u8], to: usize, target: &mut [u8])
-    requires n_in_bounds { from + n ≤ length source.now }
-    requires n_in_bounds_2 { to + n ≤ length target.old }
+    requires from_inside { from + n ≤ length source.now }
+    requires to_inside { to + n ≤ length target.old }
     ensures { target.new ≡ put target.old to (take n (drop from source.now)) }
 {
     for i in 0..n {
@@ -20,9 +20,9 @@ pub fn copy_bytes(n: usize, from: usize, source: &[u8], to: usize, target: &mut 
 
 // The same within one slice, where the two may overlap: through a room.
 pub fn carry(n: usize, from: usize, to: usize, bytes: &mut [u8], room: &mut [u8])
-    requires n_in_bounds { from + n ≤ length bytes.old }
-    requires n_in_bounds_2 { to + n ≤ length bytes.old }
-    requires n_in_bounds_3 { n ≤ length room.old }
+    requires from_inside { from + n ≤ length bytes.old }
+    requires to_inside { to + n ≤ length bytes.old }
+    requires room_enough { n ≤ length room.old }
     ensures { bytes.new ≡ put bytes.old to (take n (drop from bytes.old)) }
 {
     copy_bytes(n, from, bytes, 0, room);
@@ -31,8 +31,8 @@ pub fn carry(n: usize, from: usize, to: usize, bytes: &mut [u8], room: &mut [u8]
 
 // Sample i of a source into place k.
 fn move_sample(format: Format, source: &[u8], i: usize, target: &mut [u8], k: usize)
-    requires format_in_bounds { sample_bytes format * i + sample_bytes format ≤ length source.now }
-    requires format_in_bounds_2 { sample_bytes format * k + sample_bytes format ≤ length target.old }
+    requires from_inside { sample_bytes format * i + sample_bytes format ≤ length source.now }
+    requires to_inside { sample_bytes format * k + sample_bytes format ≤ length target.old }
     ensures { target.new ≡ put target.old (sample_bytes format * k) (piece (sample_bytes format) i source.now) }
 {
     match format {
@@ -51,8 +51,8 @@ pub fn move_spaced(
     target: &mut [u8],
     to: usize,
 )
-    requires by_index { (k : ℕ) → k < n → sample_bytes format * (from + k * step) + sample_bytes format ≤ length source.now }
-    requires n_in_bounds { sample_bytes format * (to + n) ≤ length target.old }
+    requires from_inside { (k : ℕ) → k < n → sample_bytes format * (from + k * step) + sample_bytes format ≤ length source.now }
+    requires to_inside { sample_bytes format * (to + n) ≤ length target.old }
     ensures { Spaced (sample_bytes format) n from step source.now to target.old target.new }
 {
     for k in 0..n {
@@ -62,9 +62,9 @@ pub fn move_spaced(
 
 // A table of samples, stored row after row, column after column.
 pub fn transpose_into(format: Format, rows: usize, columns: usize, source: &[u8], target: &mut [u8])
-    requires columns_bound { rows * columns ≤ 512 }
-    requires columns_in_bounds { sample_bytes format * (rows * columns) ≤ length source.now }
-    requires columns_in_bounds_2 { sample_bytes format * (rows * columns) ≤ length target.old }
+    requires table_small { rows * columns ≤ 512 }
+    requires source_holds { sample_bytes format * (rows * columns) ≤ length source.now }
+    requires target_holds { sample_bytes format * (rows * columns) ≤ length target.old }
     ensures { Transposed (sample_bytes format) rows columns source.now target.new }
 {
     for c in 0..columns {

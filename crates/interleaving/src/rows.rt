@@ -13,8 +13,8 @@ fn is_done(done: &[u8], k: usize) -> bool
 }
 
 fn mark(done: &mut [u8], k: usize)
-    requires k_bound { k < 8 * length done.old }
-    requires k_value { bit_at done.old k ≡ false }
+    requires inside { k < 8 * length done.old }
+    requires fresh { bit_at done.old k ≡ false }
     ensures { (i : ℕ) → bit_at done.new i ≡ (eqb i k || bit_at done.old i) }
 {
     done[k / 8] = done[k / 8] + (1 << (k % 8));
@@ -22,8 +22,8 @@ fn mark(done: &mut [u8], k: usize)
 
 // The row that comes to a place.
 fn source_of(rows: usize, columns: usize, at: usize) -> usize
-    requires columns_bound { rows * columns ≤ 8192 }
-    requires at_bound { at < rows * columns }
+    requires table_small { rows * columns ≤ 8192 }
+    requires at_inside { at < rows * columns }
     ensures { result ≡ source_of rows columns at }
 {
     at % rows * columns + at / rows
@@ -41,9 +41,9 @@ fn walk(
     done: &mut [u8],
 )
     requires size_bound { size ≤ 512 }
-    requires columns_bound { rows * columns ≤ 8192 }
-    requires start_bound { start < rows * columns }
-    requires columns_in_bounds { size * (rows * columns) ≤ length bytes.old }
+    requires table_small { rows * columns ≤ 8192 }
+    requires start_inside { start < rows * columns }
+    requires rows_inside { size * (rows * columns) ≤ length bytes.old }
     requires room_len { length room.old ≡ 4096 }
     requires kept_len { length kept.old ≡ 4096 }
     requires done_len { length done.old ≡ 1024 }
@@ -77,12 +77,12 @@ pub fn transpose_rows(
     done: &mut [u8],
 )
     requires size_bound { size ≤ 512 }
-    requires columns_bound { rows * columns ≤ 8192 }
-    requires columns_in_bounds { size * (rows * columns) ≤ length bytes.old }
+    requires table_small { rows * columns ≤ 8192 }
+    requires rows_inside { size * (rows * columns) ≤ length bytes.old }
     requires room_len { length room.old ≡ 4096 }
     requires kept_len { length kept.old ≡ 4096 }
     requires done_len { length done.old ≡ 1024 }
-    requires by_index { (k : ℕ) → bit_at done.old k ≡ false }
+    requires clear { (k : ℕ) → bit_at done.old k ≡ false }
     ensures { TransposedFirst size rows columns bytes.old bytes.new }
 {
     let n = rows * columns;

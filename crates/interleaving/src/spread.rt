@@ -10,8 +10,8 @@ use audio::format::{Format, sample_bytes};
 // n rows of `size` bytes to places further up, the last row first.
 fn slide_up(size: usize, n: usize, from: usize, to: usize, bytes: &mut [u8], room: &mut [u8])
     requires from_le_to { from ≤ to }
-    requires size_in_bounds { to + n * size ≤ length bytes.old }
-    requires size_in_bounds_2 { size ≤ length room.old }
+    requires to_inside { to + n * size ≤ length bytes.old }
+    requires room_enough { size ≤ length room.old }
     ensures { bytes.new ≡ put bytes.old to (take (n * size) (drop from bytes.old)) }
 {
     for i in 0..n {

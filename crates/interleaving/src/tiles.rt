@@ -8,7 +8,7 @@ use audio::format::Format;
 
 // One tile.
 fn transpose_tile(format: Format, rows: usize, columns: usize, tile: &mut [u8], room: &mut [u8])
-    requires columns_bound { rows * columns ≤ 512 }
+    requires table_small { rows * columns ≤ 512 }
     requires tile_len { length tile.old ≡ sample_bytes format * (rows * columns) }
     requires room_len { length room.old ≡ 4096 }
     ensures { Transposed (sample_bytes format) rows columns tile.old tile.new }
@@ -28,10 +28,10 @@ pub fn transpose_tiles(
     bytes: &mut [u8],
     room: &mut [u8],
 )
-    requires columns_bound { rows * columns ≤ 512 }
+    requires table_small { rows * columns ≤ 512 }
     requires size_value { size ≡ sample_bytes format * (rows * columns) }
     requires tiles_bound { tiles ≤ 8192 }
-    requires size_in_bounds { tiles * size ≤ length bytes.old }
+    requires tiles_inside { tiles * size ≤ length bytes.old }
     requires room_len { length room.old ≡ 4096 }
     ensures { TransposedEach (sample_bytes format) rows columns tiles bytes.old bytes.new }
 {

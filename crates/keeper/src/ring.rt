@@ -48,9 +48,9 @@ pub struct Front {
 // any minima. The front moves on by as many places as entries are dropped.
 pub fn drop_front(marks: &[u64], look: usize, head: usize, len: usize, frame: u64) -> Front
     requires { (head ≤ look) × (len ≤ look + 1) × (length marks.now ≡ look + 1) }
-    ensures len_value { (minima : List Float) → ring_of (look + 1) marks.now minima result.head result.len
+    ensures ring_left { (minima : List Float) → ring_of (look + 1) marks.now minima result.head result.len
         ≡ drop_front look frame (ring_of (look + 1) marks.now minima head len) }
-    ensures len_le_len { (result.len ≤ len) × (result.head ≡ Ring.wrap (look + 1) (head + (len - result.len))) }
+    ensures places { (result.len ≤ len) × (result.head ≡ Ring.wrap (look + 1) (head + (len - result.len))) }
 {
     let cap = look + 1;
     // an entry with a mark below this one is more than look back

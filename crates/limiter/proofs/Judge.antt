@@ -1,8 +1,8 @@
 -- What the tests of setup come to, on plain values.
 use mathlib.Core.Path.{◌≡◌, refl, sym, ap, ◌∙◌}
 use mathlib.Core.Bool.{Bool, true, false, cond, not, ◌&&◌, ◌||◌}
-use mathlib.Core.List.{List, [], ◌∷◌, map}
-use Prim.Native.Nat.{ℕ, suc, ◌+◌, ◌*◌, ◌≤◌}
+use mathlib.Core.List.{List}
+use Prim.Native.Nat.{ℕ, ◌+◌, ◌*◌, ◌≤◌}
 use native.Mathlib.Omega.{arith}
 use lib.Dec.{eqb, leb}
 use lib.ListN.{length}
@@ -28,7 +28,6 @@ use Rattle.limiter.specs.Stores.{Stores, lengths_of, lengths_fit}
 use Rattle.limiter.specs.declared.prepare.PrepareAnswer.{PrepareAnswer}
 use Rattle.limiter.specs.declared.prepare.PrepareAnswer.TheVariants.{Finished, Settings, OverCap, NoHouse, StoreLength, Weights}
 use Rattle.limiter.specs.declared.stores.StoreLengths.{StoreLengths}
-use Rattle.limiter.specs.contracts.prepare.PrepareAnswer.{the_type}
 
 -- what fitting lengths say
 pub record Fit (channels look : ℕ) (l : StoreLengths) : Type 0 where

@@ -61,8 +61,8 @@ fn weights_taken(house: bool, weights: &[f64]) -> bool
 
 // 29, 16 and 17, of a look that is taken.
 fn judge_stores(spec: ProcessSpec, look: usize, l: StoreLengths, weights: &[f64]) -> PrepareAnswer
-    requires channels_bound { (spec.channels ≤ 8) × (look ≤ 4096) }
-    requires weights_value { l.weights ≡ length weights.now }
+    requires small { (spec.channels ≤ 8) × (look ≤ 4096) }
+    requires weights_lent { l.weights ≡ length weights.now }
     ensures { prepare_reply result ≡ numbered (stores_refusal spec look l weights.now) }
 {
     let housed = has_house(spec, look);
@@ -100,8 +100,8 @@ fn judge(s: LimiterSettings, spec: ProcessSpec, l: StoreLengths, weights: &[f64]
 
 // The weights store of a finished setup.
 fn lay_weights(s: LimiterSettings, spec: ProcessSpec, weights: &mut [f64])
-    requires rate_value { spec.house ≡ true → house_fits spec.rate (look_of s.lookahead_ms spec.rate) ≡ true }
-    requires weights_len { spec.house ≡ true → length weights.old ≡ row_of (look_of s.lookahead_ms spec.rate) }
+    requires housed { spec.house ≡ true → house_fits spec.rate (look_of s.lookahead_ms spec.rate) ≡ true }
+    requires weights_long { spec.house ≡ true → length weights.old ≡ row_of (look_of s.lookahead_ms spec.rate) }
     ensures { weights.new ≡ weights_for s spec weights.old }
 {
     if spec.house {

@@ -67,7 +67,7 @@ impl Limiter {
         requires kernel_ready { KernelReady self n (stores_at delay.old marks.old minima.old weights.now row.old detector.old) audio.old }
         requires sanitized { Sanitized self.channels n audio.old }
         requires first_bound { first ≤ 65536 }
-        ensures audio_after { ran_at result.limiter (stores_at delay.new marks.new minima.new weights.now row.new detector.new) audio.new
+        ensures run_done { ran_at result.limiter (stores_at delay.new marks.new minima.new weights.now row.new detector.new) audio.new
             ≡ render_of (rules_of self.settings format) self target n (stores_at delay.old marks.old minima.old weights.now row.old detector.old) audio.old }
         ensures highest_value { result.highest
             ≡ highest_from first best (peaks_in (rules_of self.settings format) self target n (stores_at delay.old marks.old minima.old weights.now row.old detector.old) audio.old) }

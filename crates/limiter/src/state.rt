@@ -75,8 +75,8 @@ impl Limiter {
 
     // The starting values for accepted settings.
     pub fn started(s: LimiterSettings, spec: ProcessSpec) -> Self
-        requires release_ms_value { release_taken s.release_ms ≡ true }
-        requires rate_value { rate_taken spec.rate ≡ true }
+        requires release_taken { release_taken s.release_ms ≡ true }
+        requires rate_taken { rate_taken spec.rate ≡ true }
         ensures { result ≡ started s spec }
     {
         let look = settings::derived::look(s.lookahead_ms, spec.rate);

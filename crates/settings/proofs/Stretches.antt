@@ -1,5 +1,5 @@
 -- The house weights: a test that is computed once over the list of stretches holds of the stretch of every rate and look that it has.
-use Rattle.std.proofs.Common.{◌≡◌, ℕ, ◌+◌, ◌-◌, ◌<◌, ◌≤◌, Bool, true, false, cond, not, ◌&&◌, eqb, leb, List, [], ◌∷◌, length, get_or, take, drop, set, sym, refl, ap, ◌∙◌, subst, arith, length-drop, length-take, get_or-drop, take_all, eqb-true, leb-true}
+use Rattle.std.proofs.Common.{◌≡◌, ℕ, ◌+◌, ◌<◌, ◌≤◌, Bool, true, false, cond, ◌&&◌, eqb, leb, List, [], ◌∷◌, length, get_or, take, drop, set, sym, refl, ap, ◌∙◌, subst, arith, length-drop, length-take, get_or-drop, take_all, eqb-true, leb-true}
 use lib.Ieee.{Float, nan, of_bits, lt, le}
 use borrow.Author.Tests.{eqb-false, not-true}
 use Rattle.arithmetic.proofs.Order.{and-true}

@@ -23,8 +23,8 @@ pub fn look(lookahead_ms: f64, rate: u32) -> u64
 
 // How much of the way to a higher mean the gain goes in a frame.
 pub fn release_coeff(release_ms: f64, rate: u32) -> f64
-    requires release_ms_value { release_taken release_ms ≡ true }
-    requires rate_value { rate_taken rate ≡ true }
+    requires release_taken { release_taken release_ms ≡ true }
+    requires rate_taken { rate_taken rate ≡ true }
     ensures { result ≡ coefficient_of release_ms rate }
 {
     let rel = frames(release_ms, rate);

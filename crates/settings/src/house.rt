@@ -54,7 +54,7 @@ fn copy_house(from: usize, into: &mut [f64])
 
 // Fills the weights store with those of a rate and look.
 pub fn fill(rate: u32, look: usize, weights: &mut [f64])
-    requires look_value { house_fits rate look ≡ true }
+    requires housed { house_fits rate look ≡ true }
     requires weights_len { length weights.old ≡ row_of look }
     ensures { weights.new ≡ house_of rate look }
 {

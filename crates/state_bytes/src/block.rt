@@ -70,7 +70,7 @@ fn render_still(
     asked: bool,
 ) -> RenderedBlock
     requires block_asked { BlockAsked (machine_of l (bank_with t) (stores_at delay.old marks.old minima.old weights.now row.old detector.old)) format position frames audio.old }
-    requires t_value { all_changed stepped (bank_with t) ≡ bank_with t }
+    requires at_rest { all_changed stepped (bank_with t) ≡ bank_with t }
     ensures shown { rendered_at result (stores_at delay.new marks.new minima.new weights.now row.new detector.new)
         ≡ showing (driven format (machine_of l (bank_with t) (stores_at delay.old marks.old minima.old weights.now row.old detector.old)) position frames
         [] audio.old).machine }

@@ -22,7 +22,7 @@ use Rattle.frame.proofs.Found.{SoFar, so_far_start, so_far_more, so_far_done}
 use Rattle.bank.specs.declared.smoother_bank.SmootherBank.{SmootherBank}
 use Rattle.turns.specs.Machine.{Machine, machine_of}
 use Rattle.turns.specs.Events.{Event, events_of, latched_all}
-use Rattle.turns.specs.Block.{Renderer, rendered, rendered_in, run_at, runs_from, runs_of, Turn, turn_by, RunsLeft, runs_through, outputs_of}
+use Rattle.turns.specs.Block.{Renderer, rendered_in, run_at, runs_from, runs_of, Turn, turn_by, RunsLeft, runs_through, outputs_of}
 use Rattle.turns.specs.Inner.{waiting_at, RunsReady, frames_left, stands_at, turn_at, TurnAsked, TurnGiven, BlockAsked, driven}
 use Rattle.turns.specs.declared.turn.Unfinished.{Unfinished}
 use Rattle.turns.proofs.Rendering.{shown_many, shown_from_zero, channels_kept, settings_kept, audio_small}

@@ -2,7 +2,6 @@
 use mathlib.Core.Path.{sym, ◌∙◌}
 use Prim.Native.Nat.{◌≤◌}
 use native.Mathlib.Omega.{arith}
-use borrow.Author.Rules.{rules}
 use lib.ListN.{length, take, drop}
 use lib.Seq.{length-take-le}
 use Rattle.floors_text.specs.Print.{refusal_line}
@@ -22,7 +21,7 @@ returns-then-input-gt-MOST_INPUT c =
 pub slice_bounds-look_of-end : goal.slice_bounds-look_of-end
 slice_bounds-look_of-end c =
     let ended : c.line_end-end.result ≤ length c.args.input.now =
-        first_end c.args.input.now c.if-input-gt-MOST_INPUT.false c.line_end-end.result c.line_end-end.ensures in
+    first_end c.args.input.now c.if-input-gt-MOST_INPUT.false c.line_end-end.result c.line_end-end.ensures in
     sym (length-take-le c.line_end-end.result c.args.input.now ended)
 
 pub put_refusal-requires-in-Malformed : goal.put_refusal-requires-in-Malformed
@@ -31,7 +30,7 @@ put_refusal-requires-in-Malformed c = let h = refusal_most 1 (omega arith) in om
 pub gains-requires : goal.gains-requires
 gains-requires c =
     let ended : c.line_end-end.result ≤ length c.args.input.now =
-        first_end c.args.input.now c.if-input-gt-MOST_INPUT.false c.line_end-end.result c.line_end-end.ensures in
+    first_end c.args.input.now c.if-input-gt-MOST_INPUT.false c.line_end-end.result c.line_end-end.ensures in
     let r = look_range (take c.line_end-end.result c.args.input.now) c.in-Number.look (sym c.look_of.ensures ∙ c.in-Number.is) in
     (c.if-input-gt-MOST_INPUT.false, ended, r.0, r.1)
 

@@ -2,19 +2,18 @@
 use mathlib.Core.Path.{◌≡◌, sym, ap, ◌∙◌}
 use Prim.Native.Nat.{ℕ, ◌-◌, ◌≤◌, ◌<◌}
 use native.Mathlib.Omega.{arith}
-use borrow.Author.Rules.{rules}
 use mathlib.Core.List.{List}
 use lib.ListN.{length, take, drop}
 use Rattle.floors_text.specs.Lines.{lines_of, first_of}
 use Rattle.keeper.specs.Keeper.{Keeping, keeping_at, KeeperLeft}
 use Rattle.floors_text.proofs.Turns.{line-is, line_ends}
-use Rattle.floors_text.proofs.Going.{Going, going_start, going_few, going_ready, going_done, going_stops, left_whole, left_stopped, refusal_room, frame_room, going_turn, setup_opened}
+use Rattle.floors_text.proofs.Going.{going_start, going_few, going_ready, going_done, going_stops, left_whole, left_stopped, refusal_room, frame_room, going_turn, setup_opened}
 use Rattle.floors_text.proofs.Puts.{put_length}
 use Rattle.floors_text.proofs.gain_lines.Goals as goal
 
 pub loop-at-init : goal.loop-at-init
 loop-at-init c =
-    going_start c.args.input.now c.args.from c.args.look c.args.output.now c.requires.input_len_bound.0 c.requires.input_len_bound.3 c.requires.input_len_bound.1 (keeping_at c.setup-ready.result.keeper c.setup-ready.new.marks c.setup-ready.new.minima) (ap (λ (o : KeeperLeft). o.keeping) (c.setup-ready.ensures ∙ setup_opened c.args.look c.args.marks.now c.args.minima.now c.requires.input_len_bound.2 c.requires.input_len_bound.3 c.requires.marks_len.0 c.requires.marks_len.1))
+    going_start c.args.input.now c.args.from c.args.look c.args.output.now c.requires.taken.0 c.requires.taken.3 c.requires.taken.1 (keeping_at c.setup-ready.result.keeper c.setup-ready.new.marks c.setup-ready.new.minima) (ap (λ (o : KeeperLeft). o.keeping) (c.setup-ready.ensures ∙ setup_opened c.args.look c.args.marks.now c.args.minima.now c.requires.taken.2 c.requires.taken.3 c.requires.stores_long.0 c.requires.stores_long.1))
 
 pub line_end-end-requires : goal.line_end-end-requires
 line_end-end-requires c = c.loop-at.invariant.within
@@ -22,47 +21,47 @@ line_end-end-requires c = c.loop-at.invariant.within
 pub slice_bounds-gain_of-count : goal.slice_bounds-gain_of-count
 slice_bounds-gain_of-count c =
     let ends : (c.loop-at.at < c.line_end-end.result) × (c.line_end-end.result ≤ length c.args.input.now) =
-        let h = line_ends c.args.input.now c.loop-at.at c.loop-at-test.true in
-            omega (arith, c.line_end-end.ensures) in
+    let h = line_ends c.args.input.now c.loop-at.at c.loop-at-test.true in
+    omega (arith, c.line_end-end.ensures) in
     let h = ends.0 in omega arith
 
 pub slice_bounds-gain_of-start : goal.slice_bounds-gain_of-start
 slice_bounds-gain_of-start c =
     let ends : (c.loop-at.at < c.line_end-end.result) × (c.line_end-end.result ≤ length c.args.input.now) =
-        let h = line_ends c.args.input.now c.loop-at.at c.loop-at-test.true in
-            omega (arith, c.line_end-end.ensures) in
+    let h = line_ends c.args.input.now c.loop-at.at c.loop-at-test.true in
+    omega (arith, c.line_end-end.ensures) in
     let h = ends.0 in omega arith
 
 pub slice_bounds-gain_of-end : goal.slice_bounds-gain_of-end
 slice_bounds-gain_of-end c =
     let ends : (c.loop-at.at < c.line_end-end.result) × (c.line_end-end.result ≤ length c.args.input.now) =
-        let h = line_ends c.args.input.now c.loop-at.at c.loop-at-test.true in
-            omega (arith, c.line_end-end.ensures) in
+    let h = line_ends c.args.input.now c.loop-at.at c.loop-at-test.true in
+    omega (arith, c.line_end-end.ensures) in
     ends.1
 
 pub put_refusal-requires : goal.put_refusal-requires
 put_refusal-requires c =
     let line : List ℕ =
-        take (c.line_end-end.result - c.loop-at.at) (drop c.loop-at.at c.args.input.now) in
+    take (c.line_end-end.result - c.loop-at.at) (drop c.loop-at.at c.args.input.now) in
     let cut : line ≡ first_of (lines_of (drop c.loop-at.at c.args.input.now)) =
-        line-is c.args.input.now c.loop-at.at c.line_end-end.result c.line_end-end.ensures in
+    line-is c.args.input.now c.loop-at.at c.line_end-end.result c.line_end-end.ensures in
     let h = refusal_room c.loop-at.invariant c.loop-at-test.true line cut (sym c.gain_of.ensures ∙ c.in-Malformed.is) in
     omega arith
 
 pub shape_of-marks-in-Malformed : goal.shape_of-marks-in-Malformed
 shape_of-marks-in-Malformed c =
-    omega (arith, c.loop-at.invariant.steady.marks_fit, c.loop-at.invariant.same_look, c.requires.marks_len.0)
+    omega (arith, c.loop-at.invariant.steady.marks_fit, c.loop-at.invariant.same_look, c.requires.stores_long.0)
 
 pub shape_of-minima-in-Malformed : goal.shape_of-minima-in-Malformed
 shape_of-minima-in-Malformed c =
-    omega (arith, c.loop-at.invariant.steady.minima_fit, c.loop-at.invariant.same_look, c.requires.marks_len.1)
+    omega (arith, c.loop-at.invariant.steady.minima_fit, c.loop-at.invariant.same_look, c.requires.stores_long.1)
 
 pub returns-in-Malformed : goal.returns-in-Malformed
 returns-in-Malformed c =
     let line : List ℕ =
-        take (c.line_end-end.result - c.loop-at.at) (drop c.loop-at.at c.args.input.now) in
+    take (c.line_end-end.result - c.loop-at.at) (drop c.loop-at.at c.args.input.now) in
     let cut : line ≡ first_of (lines_of (drop c.loop-at.at c.args.input.now)) =
-        line-is c.args.input.now c.loop-at.at c.line_end-end.result c.line_end-end.ensures in
+    line-is c.args.input.now c.loop-at.at c.line_end-end.result c.line_end-end.ensures in
     let e = sym c.gain_of.ensures ∙ c.in-Malformed.is in
     let k = left_stopped c.loop-at.invariant c.loop-at-test.true line cut e in
     record {
@@ -77,12 +76,12 @@ shape_of-output-in-Malformed c = put_length (returns-in-Malformed c).put
 pub step_line-turn-requires : goal.step_line-turn-requires
 step_line-turn-requires c =
     let line : List ℕ =
-        take (c.line_end-end.result - c.loop-at.at) (drop c.loop-at.at c.args.input.now) in
+    take (c.line_end-end.result - c.loop-at.at) (drop c.loop-at.at c.args.input.now) in
     let cut : line ≡ first_of (lines_of (drop c.loop-at.at c.args.input.now)) =
-        line-is c.args.input.now c.loop-at.at c.line_end-end.result c.line_end-end.ensures in
+    line-is c.args.input.now c.loop-at.at c.line_end-end.result c.line_end-end.ensures in
     record {
       ready = going_ready c.loop-at.invariant;
-      pattern_bound = let h = frame_room c.loop-at.invariant c.loop-at-test.true line cut c.in-Number.pattern (sym c.gain_of.ensures ∙ c.in-Number.is) in omega arith;
+      room = let h = frame_room c.loop-at.invariant c.loop-at-test.true line cut c.in-Number.pattern (sym c.gain_of.ensures ∙ c.in-Number.is) in omega arith;
     }
 
 pub overflow_add-number : goal.overflow_add-number
@@ -93,26 +92,26 @@ overflow_add-number c =
 pub loop-at-smaller : goal.loop-at-smaller
 loop-at-smaller c =
     let ends : (c.loop-at.at < c.line_end-end.result) × (c.line_end-end.result ≤ length c.args.input.now) =
-        let h = line_ends c.args.input.now c.loop-at.at c.loop-at-test.true in
-            omega (arith, c.line_end-end.ensures) in
+    let h = line_ends c.args.input.now c.loop-at.at c.loop-at-test.true in
+    omega (arith, c.line_end-end.ensures) in
     let h = ends in
     omega arith
 
 pub loop-at-preserved : goal.loop-at-preserved
 loop-at-preserved c =
     let line : List ℕ =
-        take (c.line_end-end.result - c.loop-at.at) (drop c.loop-at.at c.args.input.now) in
+    take (c.line_end-end.result - c.loop-at.at) (drop c.loop-at.at c.args.input.now) in
     let cut : line ≡ first_of (lines_of (drop c.loop-at.at c.args.input.now)) =
-        line-is c.args.input.now c.loop-at.at c.line_end-end.result c.line_end-end.ensures in
+    line-is c.args.input.now c.loop-at.at c.line_end-end.result c.line_end-end.ensures in
     let t = c.step_line-turn in
-    going_turn c.loop-at.invariant c.loop-at-test.true line cut c.in-Number.pattern (sym c.gain_of.ensures ∙ c.in-Number.is) t.new.output t.result.next t.ensures.put (keeping_at t.result.keeper t.new.marks t.new.minima) t.ensures.minima_after c.line_end-end.result c.line_end-end.ensures
+    going_turn c.loop-at.invariant c.loop-at-test.true line cut c.in-Number.pattern (sym c.gain_of.ensures ∙ c.in-Number.is) t.new.output t.result.next t.ensures.put (keeping_at t.result.keeper t.new.marks t.new.minima) t.ensures.keeping_after c.line_end-end.result c.line_end-end.ensures
 
 pub shape_of-marks : goal.shape_of-marks
-shape_of-marks c = omega (arith, c.loop-at.invariant.steady.marks_fit, c.loop-at.invariant.same_look, c.requires.marks_len.0)
+shape_of-marks c = omega (arith, c.loop-at.invariant.steady.marks_fit, c.loop-at.invariant.same_look, c.requires.stores_long.0)
 
 pub shape_of-minima : goal.shape_of-minima
 shape_of-minima c =
-    omega (arith, c.loop-at.invariant.steady.minima_fit, c.loop-at.invariant.same_look, c.requires.marks_len.1)
+    omega (arith, c.loop-at.invariant.steady.minima_fit, c.loop-at.invariant.same_look, c.requires.stores_long.1)
 
 pub shape_of-output : goal.shape_of-output
 shape_of-output c = c.loop-at.invariant.same_length

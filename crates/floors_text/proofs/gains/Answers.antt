@@ -2,7 +2,6 @@
 use mathlib.Core.Path.{sym}
 use Prim.Native.Nat.{◌+◌}
 use native.Mathlib.Omega.{arith}
-use borrow.Author.Rules.{rules}
 use lib.Seq.{length-take-le}
 use Rattle.floors_text.proofs.gains.Goals as goal
 
@@ -17,6 +16,6 @@ slice_bounds-gain_lines-end-2 c =
 pub gain_lines-requires : goal.gain_lines-requires
 gain_lines-requires c =
     record {
-      input_len_bound = c.requires;
-      marks_len = (length-take-le (c.args.look + 1) c.marks_store-marks.result (omega arith), length-take-le (c.args.look + 1) c.minima_store-minima.result (omega arith));
+      taken = c.requires;
+      stores_long = (length-take-le (c.args.look + 1) c.marks_store-marks.result (omega arith), length-take-le (c.args.look + 1) c.minima_store-minima.result (omega arith));
     }

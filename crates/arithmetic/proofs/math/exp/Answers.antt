@@ -11,8 +11,8 @@ float_to_bits-h c = not_nan c.args.x c.if-x-2.true
 pub exp_at-requires : goal.exp_at-requires
 unfolding of_bits neg
 exp_at-requires c = record {
-  x_value = in_domain_lem c.args.x c.if-x.true c.if-x-2.true;
-  h_value = refl;
+  domain = in_domain_lem c.args.x c.if-x.true c.if-x-2.true;
+  high = refl;
 }
 
 pub returns-then-x-2 : goal.returns-then-x-2

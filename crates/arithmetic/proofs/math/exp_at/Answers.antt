@@ -23,12 +23,12 @@ pub cut-requires : goal.cut-requires
 cut-requires c =
     let s = c in
     record {
-      x_value = s.requires.x_value;
-      x_nonzero = omega (arith, s.requires.h_value);
+      domain = s.requires.domain;
+      some = omega (arith, s.requires.high);
     }
 
 pub reduced-requires-2 : goal.reduced-requires-2
-reduced-requires-2 c = c.cut.ensures.upper_bound
+reduced-requires-2 c = c.cut.ensures.few
 
 pub returns : goal.returns
 returns c =

@@ -3,4 +3,4 @@ use Rattle.arithmetic.proofs.Places32.{closest_is}
 use Rattle.arithmetic.proofs.narrow.closest_to.Goals as goal
 
 pub returns : goal.returns
-returns c = closest_is c.args.n c.args.unit c.requires.unit_nonzero c.requires.unit_value
+returns c = closest_is c.args.n c.args.unit c.requires.unit_some c.requires.unit_even

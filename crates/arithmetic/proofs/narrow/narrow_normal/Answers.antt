@@ -8,7 +8,7 @@ float_to_bits-x c = normal_known c.args.x c.requires
 pub closest_to-requires : goal.closest_to-requires
 closest_to-requires c =
     let room = normal_room c.args.x c.well_formed.0.1 c.requires in
-    record { unit_nonzero = room.0; unit_value = room.1.0; unit_bound = room.1.1 }
+    record { unit_some = room.0; unit_even = room.1.0; room = room.1.1 }
 
 pub overflow_mul-result : goal.overflow_mul-result
 overflow_mul-result c = let s = c in record { fits = normal_fits s.args.x s.well_formed.0.1 s.requires c.closest_to.result c.closest_to.ensures }

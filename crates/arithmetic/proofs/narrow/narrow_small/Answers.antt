@@ -9,7 +9,7 @@ returns-then-exponent-lt873 c = c.widen.ensures ∙ narrow_none c.args.b c.requi
 pub closest_to-count-requires : goal.closest_to-count-requires
 closest_to-count-requires c =
     let fine = unit_fine c.args.b c.requires c.ranges.b.fits c.if-exponent-lt873.false in
-    record { unit_nonzero = fine.0; unit_value = fine.1.0; unit_bound = fine.1.1 }
+    record { unit_some = fine.0; unit_even = fine.1.0; room = fine.1.1 }
 
 -- the count
 few : (c : goal.After-closest_to-count) → c.closest_to-count.result ≤ 2 ^ 23

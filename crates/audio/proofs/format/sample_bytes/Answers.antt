@@ -1,5 +1,4 @@
 use mathlib.Core.Path.{sym, ap}
-use borrow.Author.Rules.{rules}
 use Rattle.audio.specs.Format.{sample_bytes}
 use Rattle.audio.proofs.format.sample_bytes.Goals as goal
 

@@ -1,17 +1,10 @@
 -- `gather`: the channels passed are carried.
-use mathlib.Core.Path.{◌≡◌, sym, subst, ◌∙◌}
-use Prim.Native.Nat.{ℕ, ◌+◌, ◌-◌, ◌*◌, ◌≤◌, ◌<◌}
-use native.Mathlib.Nat.{add-zero}
-use native.Mathlib.Omega.{arith}
-use borrow.Author.Rules.{rules}
+use mathlib.Core.Path.{◌≡◌}
+use Prim.Native.Nat.{◌-◌, ◌≤◌}
 use lib.ListN.{length}
 use lib.Ieee.{nan}
-use Rattle.arithmetic.specs.Number.{largest}
-use Rattle.audio.specs.Format.{places_of, sounds_of}
-use Rattle.audio.specs.Inner.{PlacesCopied, PlacesCarried}
-use Rattle.audio.proofs.Carry.{places-end, carried_none, carried_more}
-use Rattle.audio.proofs.Places.{places_fit}
-use Rattle.audio.proofs.Written.{size_small}
+use Rattle.audio.specs.Format.{sounds_of}
+use Rattle.audio.specs.Inner.{PlacesCarried}
 use Rattle.audio.proofs.planar.gather.Given as goal
 
 abbrev pub invariant-loop-c : goal.invariant-loop-c

@@ -3,7 +3,6 @@ use mathlib.Core.Path.{◌≡◌, ap, subst, ◌∙◌}
 use mathlib.Core.List.{List}
 use Prim.Native.Nat.{ℕ, ◌*◌, ◌<◌}
 use native.Mathlib.Omega.{arith}
-use borrow.Author.Rules.{rules}
 use lib.Dec.{T}
 use lib.ListN.{length, set}
 use lib.Ieee.{Float, fits, to_bits}
@@ -28,34 +27,34 @@ stored_of f bytes i x h known e = subst (λ (g : Format). places_of f (put_as g 
 
 pub overflow_mul-i : goal.overflow_mul-i
 overflow_mul-i c =
-    omega (arith, room_of c.args.format c.args.bytes.now c.args.i c.requires.i_in_bounds F64 c.in-F64.is)
+    omega (arith, room_of c.args.format c.args.bytes.now c.args.i c.requires.inside F64 c.in-F64.is)
 
 pub put_word-requires : goal.put_word-requires
 put_word-requires c =
-    room_of c.args.format c.args.bytes.now c.args.i c.requires.i_in_bounds F64 c.in-F64.is
+    room_of c.args.format c.args.bytes.now c.args.i c.requires.inside F64 c.in-F64.is
 
 pub overflow_mul-i-in-F32 : goal.overflow_mul-i-in-F32
 overflow_mul-i-in-F32 c =
-    omega (arith, room_of c.args.format c.args.bytes.now c.args.i c.requires.i_in_bounds F32 c.in-F32.is)
+    omega (arith, room_of c.args.format c.args.bytes.now c.args.i c.requires.inside F32 c.in-F32.is)
 
 pub to_bits32-requires : goal.to_bits32-requires
 to_bits32-requires c =
-    subst (λ (f : Format). T (fits (binary_of f) c.args.x)) c.in-F32.is c.requires.t
+    subst (λ (f : Format). T (fits (binary_of f) c.args.x)) c.in-F32.is c.requires.held
 
 pub put_word32-requires : goal.put_word32-requires
 put_word32-requires c =
-    room_of c.args.format c.args.bytes.now c.args.i c.requires.i_in_bounds F32 c.in-F32.is
+    room_of c.args.format c.args.bytes.now c.args.i c.requires.inside F32 c.in-F32.is
 
 pub returns-in-F64 : goal.returns-in-F64
 returns-in-F64 c =
     let a = c.args in
     ap (places_of a.format) c.put_word.ensures
     ∙ ap (λ (w : ℕ). places_of a.format (put a.bytes.now (8 * a.i) (bytes_of 8 w))) c.to_bits.ensures
-    ∙ stored_of a.format a.bytes.now a.i a.x c.requires.i_in_bounds F64 c.in-F64.is
+    ∙ stored_of a.format a.bytes.now a.i a.x c.requires.inside F64 c.in-F64.is
 
 pub returns-in-F32 : goal.returns-in-F32
 returns-in-F32 c =
     let a = c.args in
     ap (places_of a.format) c.put_word32.ensures
     ∙ ap (λ (w : ℕ). places_of a.format (put a.bytes.now (4 * a.i) (bytes_of 4 w))) c.to_bits32.ensures
-    ∙ stored_of a.format a.bytes.now a.i a.x c.requires.i_in_bounds F32 c.in-F32.is
+    ∙ stored_of a.format a.bytes.now a.i a.x c.requires.inside F32 c.in-F32.is

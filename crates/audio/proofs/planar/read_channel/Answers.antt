@@ -1,9 +1,8 @@
 -- `read_channel`: the samples passed are there.
 use mathlib.Core.Path.{◌≡◌, refl, sym, subst}
-use Prim.Native.Nat.{ℕ, ◌+◌, ◌-◌, ◌≤◌}
+use Prim.Native.Nat.{ℕ, ◌+◌}
 use native.Mathlib.Omega.{arith}
-use borrow.Author.Rules.{rules}
-use lib.ListN.{length, set, length-set}
+use lib.ListN.{set, length-set}
 use lib.Ieee.{Float, nan}
 use Rattle.audio.specs.Format.{sounds_of}
 use Rattle.audio.specs.Inner.{PlacesCopied}

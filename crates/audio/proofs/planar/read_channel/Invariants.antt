@@ -1,14 +1,10 @@
 -- `read_channel`: the samples passed are there.
-use mathlib.Core.Path.{◌≡◌, refl, sym, subst}
-use Prim.Native.Nat.{ℕ, ◌+◌, ◌-◌, ◌≤◌}
-use native.Mathlib.Omega.{arith}
-use borrow.Author.Rules.{rules}
-use lib.ListN.{length, set, length-set}
-use lib.Ieee.{Float, nan}
+use mathlib.Core.Path.{◌≡◌}
+use Prim.Native.Nat.{◌-◌, ◌≤◌}
+use lib.ListN.{length}
+use lib.Ieee.{nan}
 use Rattle.audio.specs.Format.{sounds_of}
 use Rattle.audio.specs.Inner.{PlacesCopied}
-use Rattle.audio.proofs.Carry.{copied_none, copied_more}
-use Rattle.audio.proofs.Places.{places_few}
 use Rattle.audio.proofs.planar.read_channel.Given as goal
 
 abbrev pub invariant-loop-i : goal.invariant-loop-i

@@ -1,10 +1,9 @@
 -- `scatter`: the channels passed are carried.
 use mathlib.Core.Path.{◌≡◌, refl, sym, subst, ◌∙◌}
 use mathlib.Core.List.{map}
-use Prim.Native.Nat.{ℕ, ◌+◌, ◌-◌, ◌*◌, ◌%◌, ◌≤◌, ◌<◌}
+use Prim.Native.Nat.{ℕ, ◌+◌, ◌*◌, ◌%◌, ◌≤◌, ◌<◌}
 use native.Mathlib.Nat.{add-zero}
 use native.Mathlib.Omega.{arith}
-use borrow.Author.Rules.{rules}
 use lib.ListN.{length}
 use lib.Ieee.{nan}
 use Rattle.arithmetic.specs.Number.{largest}
@@ -18,7 +17,7 @@ use Rattle.audio.proofs.planar.scatter.Goals as goal
 pub loop-c-init : goal.loop-c-init
 loop-c-init c =
     let a = c.args in
-    (omega arith, refl, carried_none a.n 32 0 (map (bytes_for a.format) a.run.now) a.width a.first c.requires.n_bound (places_of a.format a.bytes.now))
+    (omega arith, refl, carried_none a.n 32 0 (map (bytes_for a.format) a.run.now) a.width a.first c.requires.run_inside (places_of a.format a.bytes.now))
 
 pub overflow_mul-c : goal.overflow_mul-c
 overflow_mul-c c = omega arith
@@ -26,39 +25,39 @@ overflow_mul-c c = omega arith
 pub overflow_mul-c-in-loop-c : goal.overflow_mul-c-in-loop-c
 overflow_mul-c-in-loop-c c =
     let inside : (let a = c.args in let k = c.loop-c.c in let b = c.loop-c.bytes in (k * a.width + a.width ≤ length (places_of a.format b)) × (length (places_of a.format b) < largest) × (length b % sample_bytes a.format ≡ 0)) =
-        let a = c.args in
-            let small = size_small a.channels a.width c.requires.channels_bound c.requires.width_bound in
-            let size = size_same a.format c.loop-c.bytes a.bytes.now c.loop-c.invariant.1 ∙ sym c.requires.width_value in
-            let fit = places_fit a.format c.loop-c.bytes (a.channels * a.width) size small in
-            let e = places-end c.loop-c.c a.channels a.width c.loop-c-test.true in
-            (omega (arith, e, fit), omega (arith, small, fit), (whole a.format c.loop-c.bytes (a.channels * a.width) size small).0) in
+    let a = c.args in
+    let small = size_small a.channels a.width c.requires.channels_bound c.requires.width_bound in
+    let size = size_same a.format c.loop-c.bytes a.bytes.now c.loop-c.invariant.1 ∙ sym c.requires.audio_size in
+    let fit = places_fit a.format c.loop-c.bytes (a.channels * a.width) size small in
+    let e = places-end c.loop-c.c a.channels a.width c.loop-c-test.true in
+    (omega (arith, e, fit), omega (arith, small, fit), (whole a.format c.loop-c.bytes (a.channels * a.width) size small).0) in
     let i = inside in omega arith
 
 pub overflow_add-c : goal.overflow_add-c
 overflow_add-c c =
     let inside : (let a = c.args in let k = c.loop-c.c in let b = c.loop-c.bytes in (k * a.width + a.width ≤ length (places_of a.format b)) × (length (places_of a.format b) < largest) × (length b % sample_bytes a.format ≡ 0)) =
-        let a = c.args in
-            let small = size_small a.channels a.width c.requires.channels_bound c.requires.width_bound in
-            let size = size_same a.format c.loop-c.bytes a.bytes.now c.loop-c.invariant.1 ∙ sym c.requires.width_value in
-            let fit = places_fit a.format c.loop-c.bytes (a.channels * a.width) size small in
-            let e = places-end c.loop-c.c a.channels a.width c.loop-c-test.true in
-            (omega (arith, e, fit), omega (arith, small, fit), (whole a.format c.loop-c.bytes (a.channels * a.width) size small).0) in
+    let a = c.args in
+    let small = size_small a.channels a.width c.requires.channels_bound c.requires.width_bound in
+    let size = size_same a.format c.loop-c.bytes a.bytes.now c.loop-c.invariant.1 ∙ sym c.requires.audio_size in
+    let fit = places_fit a.format c.loop-c.bytes (a.channels * a.width) size small in
+    let e = places-end c.loop-c.c a.channels a.width c.loop-c-test.true in
+    (omega (arith, e, fit), omega (arith, small, fit), (whole a.format c.loop-c.bytes (a.channels * a.width) size small).0) in
     let i = inside in omega arith
 
 pub write_channel-requires : goal.write_channel-requires
 write_channel-requires c =
     let inside : (let a = c.args in let k = c.loop-c.c in let b = c.loop-c.bytes in (k * a.width + a.width ≤ length (places_of a.format b)) × (length (places_of a.format b) < largest) × (length b % sample_bytes a.format ≡ 0)) =
-        let a = c.args in
-            let small = size_small a.channels a.width c.requires.channels_bound c.requires.width_bound in
-            let size = size_same a.format c.loop-c.bytes a.bytes.now c.loop-c.invariant.1 ∙ sym c.requires.width_value in
-            let fit = places_fit a.format c.loop-c.bytes (a.channels * a.width) size small in
-            let e = places-end c.loop-c.c a.channels a.width c.loop-c-test.true in
-            (omega (arith, e, fit), omega (arith, small, fit), (whole a.format c.loop-c.bytes (a.channels * a.width) size small).0) in
+    let a = c.args in
+    let small = size_small a.channels a.width c.requires.channels_bound c.requires.width_bound in
+    let size = size_same a.format c.loop-c.bytes a.bytes.now c.loop-c.invariant.1 ∙ sym c.requires.audio_size in
+    let fit = places_fit a.format c.loop-c.bytes (a.channels * a.width) size small in
+    let e = places-end c.loop-c.c a.channels a.width c.loop-c-test.true in
+    (omega (arith, e, fit), omega (arith, small, fit), (whole a.format c.loop-c.bytes (a.channels * a.width) size small).0) in
     let i = inside in
     record {
-      format_len = i.2;
-      n_in_bounds = omega arith;
-      n_in_bounds_2 = omega arith;
+      whole = i.2;
+      from_inside = omega arith;
+      to_inside = omega arith;
       held = c.requires.held_all c.loop-c.c c.loop-c-test.true;
     }
 
@@ -75,7 +74,7 @@ loop-c-preserved c =
     let after = c.write_channel.new.bytes in (
       omega arith,
       c.write_channel.auto.bytes ∙ c.loop-c.invariant.1,
-      carried_more a.n 32 0 (map (bytes_for a.format) a.run.now) a.width a.first c.requires.n_bound (places_of a.format a.bytes.now) k (places_of a.format c.loop-c.bytes) (places_of a.format after) c.loop-c.invariant.2
+      carried_more a.n 32 0 (map (bytes_for a.format) a.run.now) a.width a.first c.requires.run_inside (places_of a.format a.bytes.now) k (places_of a.format c.loop-c.bytes) (places_of a.format after) c.loop-c.invariant.2
           (subst (λ (from : ℕ). PlacesCopied (bytes_for a.format nan) a.n from (map (bytes_for a.format) a.run.now) (k * a.width + a.first) (places_of a.format c.loop-c.bytes) (places_of a.format after)) (sym (add-zero (k * 32))) c.write_channel.ensures),
     )
 

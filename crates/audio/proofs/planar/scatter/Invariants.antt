@@ -1,18 +1,11 @@
 -- `scatter`: the channels passed are carried.
-use mathlib.Core.Path.{◌≡◌, refl, sym, subst, ◌∙◌}
+use mathlib.Core.Path.{◌≡◌}
 use mathlib.Core.List.{map}
-use Prim.Native.Nat.{ℕ, ◌+◌, ◌-◌, ◌*◌, ◌%◌, ◌≤◌, ◌<◌}
-use native.Mathlib.Nat.{add-zero}
-use native.Mathlib.Omega.{arith}
-use borrow.Author.Rules.{rules}
+use Prim.Native.Nat.{◌-◌, ◌≤◌}
 use lib.ListN.{length}
 use lib.Ieee.{nan}
-use Rattle.arithmetic.specs.Number.{largest}
-use Rattle.audio.specs.Format.{sample_bytes, bytes_for, places_of}
-use Rattle.audio.specs.Inner.{PlacesCopied, PlacesCarried}
-use Rattle.audio.proofs.Carry.{places-end, carried_none, carried_more}
-use Rattle.audio.proofs.Places.{whole, places_fit, size_same}
-use Rattle.audio.proofs.Written.{size_small, carried_placed}
+use Rattle.audio.specs.Format.{bytes_for, places_of}
+use Rattle.audio.specs.Inner.{PlacesCarried}
 use Rattle.audio.proofs.planar.scatter.Given as goal
 
 abbrev pub invariant-loop-c : goal.invariant-loop-c

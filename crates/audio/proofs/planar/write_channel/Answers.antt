@@ -1,10 +1,9 @@
 -- `write_channel`: the words passed are there.
 use mathlib.Core.Path.{◌≡◌, refl, sym, ap, subst, ◌∙◌}
 use mathlib.Core.List.{List, map}
-use Prim.Native.Nat.{ℕ, ◌+◌, ◌-◌, ◌%◌, ◌≤◌}
+use Prim.Native.Nat.{ℕ, ◌+◌, ◌%◌}
 use native.Mathlib.Omega.{arith}
-use borrow.Author.Rules.{rules}
-use lib.ListN.{length, get_or, set, length-set, get_or-map}
+use lib.ListN.{get_or, set, length-set, get_or-map}
 use lib.Ieee.{nan}
 use Rattle.audio.specs.Format.{sample_bytes, bytes_for, places_of}
 use Rattle.audio.specs.Inner.{PlacesCopied}
@@ -21,9 +20,9 @@ overflow_add-to c = let a = c.args in omega (arith, places_few a.format a.bytes.
 pub put_sample-requires : goal.put_sample-requires
 put_sample-requires c =
     record {
-      t = c.requires.held c.loop-i.i c.loop-i-test.true;
-      format_len = ap (λ (n : ℕ). n % sample_bytes c.args.format) c.loop-i.invariant.1 ∙ c.requires.format_len;
-      i_in_bounds = omega arith;
+      held = c.requires.held c.loop-i.i c.loop-i-test.true;
+      whole = ap (λ (n : ℕ). n % sample_bytes c.args.format) c.loop-i.invariant.1 ∙ c.requires.whole;
+      inside = omega arith;
     }
 
 pub loop-i-preserved : goal.loop-i-preserved

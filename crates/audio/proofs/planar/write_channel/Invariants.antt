@@ -1,15 +1,11 @@
 -- `write_channel`: the words passed are there.
-use mathlib.Core.Path.{◌≡◌, refl, sym, ap, subst, ◌∙◌}
-use mathlib.Core.List.{List, map}
-use Prim.Native.Nat.{ℕ, ◌+◌, ◌-◌, ◌%◌, ◌≤◌}
-use native.Mathlib.Omega.{arith}
-use borrow.Author.Rules.{rules}
-use lib.ListN.{length, get_or, set, length-set, get_or-map}
+use mathlib.Core.Path.{◌≡◌}
+use mathlib.Core.List.{map}
+use Prim.Native.Nat.{◌-◌, ◌≤◌}
+use lib.ListN.{length}
 use lib.Ieee.{nan}
-use Rattle.audio.specs.Format.{sample_bytes, bytes_for, places_of}
+use Rattle.audio.specs.Format.{bytes_for, places_of}
 use Rattle.audio.specs.Inner.{PlacesCopied}
-use Rattle.audio.proofs.Carry.{copied_none, copied_more}
-use Rattle.audio.proofs.Places.{places_few}
 use Rattle.audio.proofs.planar.write_channel.Given as goal
 
 abbrev pub invariant-loop-i : goal.invariant-loop-i

@@ -1,7 +1,6 @@
 -- `put_word`: byte by byte.
 use native.Mathlib.Omega.{arith}
 use lib.ListN.{length-set}
-use borrow.Author.Rules.{rules}
 use Rattle.audio.proofs.Numbers.{put_eight, bytes_eight}
 use Rattle.audio.proofs.words.put_word.Goals as goal
 

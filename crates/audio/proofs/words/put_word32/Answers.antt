@@ -1,7 +1,6 @@
 -- `put_word32`: byte by byte.
 use native.Mathlib.Omega.{arith}
 use lib.ListN.{length-set}
-use borrow.Author.Rules.{rules}
 use Rattle.audio.proofs.Numbers.{put_four, bytes_four}
 use Rattle.audio.proofs.words.put_word32.Goals as goal
 

@@ -1,5 +1,4 @@
 -- `word`: the eight bytes.
-use borrow.Author.Rules.{rules}
 use Rattle.audio.proofs.Numbers.{take_eight}
 use Rattle.audio.proofs.words.word.Goals as goal
 

@@ -1,5 +1,4 @@
 -- `word32`: the four bytes.
-use borrow.Author.Rules.{rules}
 use Rattle.audio.proofs.Numbers.{take_four}
 use Rattle.audio.proofs.words.word32.Goals as goal
 

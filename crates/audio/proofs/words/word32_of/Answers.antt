@@ -1,5 +1,4 @@
 use native.Mathlib.Omega.{arith}
-use borrow.Author.Rules.{rules}
 use Rattle.audio.specs.Bytes.{word_of}
 use Rattle.audio.proofs.words.word32_of.Goals as goal
 

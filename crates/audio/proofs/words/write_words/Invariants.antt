@@ -1,12 +1,9 @@
 -- `write_words`: the bytes passed, and those of the words that are left.
-use mathlib.Core.Path.{◌≡◌, refl, ◌∙◌}
+use mathlib.Core.Path.{◌≡◌}
 use mathlib.Core.List.{◌++◌}
 use Prim.Native.Nat.{◌-◌, ◌*◌, ◌≤◌}
-use native.Mathlib.Omega.{arith}
-use borrow.Author.Rules.{rules}
 use lib.ListN.{length, take, drop}
 use Rattle.audio.specs.Bytes.{bytes_out}
-use Rattle.audio.proofs.Numbers.{write_more, write_done}
 use Rattle.audio.proofs.words.write_words.Given as goal
 
 abbrev pub invariant-loop-i : goal.invariant-loop-i

@@ -1,4 +1,3 @@
-use borrow.Author.Rules.{rules}
 use Rattle.bank.proofs.param.range_holds.Goals as goal
 
 pub returns-then-is_finite-2 : goal.returns-then-is_finite-2

@@ -1,5 +1,4 @@
 use lib.Ieee.{of_bits}
-use borrow.Author.Rules.{rules}
 use Rattle.bank.proofs.param.time_holds.Goals as goal
 
 pub returns-then-ms : goal.returns-then-ms

@@ -3,7 +3,6 @@ use mathlib.Core.Path.{refl}
 use lib.Ieee.{of_bits, neg}
 use Rattle.bank.specs.Smoother.{coeff_of}
 use Rattle.bank.proofs.Domain.{exp_value, exp_answers, coeff_pole}
-use borrow.Author.Rules.{rules}
 use Rattle.bank.proofs.smoother.coeff_of.Goals as goal
 
 pub returns-in-Step : goal.returns-in-Step

@@ -1,7 +1,6 @@
 -- `steps_of`: the definition with its literals.
 use lib.Ieee.{of_bits}
 use Rattle.bank.specs.Smoother.{steps_of}
-use borrow.Author.Rules.{rules}
 use Rattle.bank.proofs.smoother.steps_of.Goals as goal
 
 pub returns : goal.returns

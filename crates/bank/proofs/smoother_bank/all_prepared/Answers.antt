@@ -1,10 +1,7 @@
 -- `all_prepared`: what is left from i on answers for all.
 use mathlib.Core.Path.{◌≡◌}
-use Prim.Native.Nat.{◌≤◌, ◌-◌}
 use native.Mathlib.Omega.{arith}
-use borrow.Author.Rules.{rules}
-use lib.ListN.{length, take, drop}
-use Rattle.bank.specs.Bank.{all_prepared}
+use lib.ListN.{length}
 use Rattle.bank.proofs.Tests.{held, failed}
 use Rattle.bank.proofs.Slots.{prepared_start, prepared_end, prepared_fails, prepared_more}
 use Rattle.bank.proofs.smoother_bank.all_prepared.Goals as goal
@@ -26,7 +23,7 @@ bounds-smoothers-i c = omega arith
 pub returns-then-not-is_prepared : goal.returns-then-not-is_prepared
 returns-then-not-is_prepared c =
     let eight : length c.args.smoothers ≡ 8 =
-        c.well_formed.0.1.0.1 in
+    c.well_formed.0.1.0.1 in
     let a = c.args in
     prepared_fails a.rate a.count c.loop-i.i a.smoothers c.loop-i.invariant.0 _ (omega arith) (omega (arith, eight)) (failed c.is_prepared.ensures c.if-not-is_prepared.true)
 
@@ -39,14 +36,14 @@ loop-i-smaller c = omega arith
 pub loop-i-preserved : goal.loop-i-preserved
 loop-i-preserved c =
     let eight : length c.args.smoothers ≡ 8 =
-        c.well_formed.0.1.0.1 in
+    c.well_formed.0.1.0.1 in
     let a = c.args in
     (prepared_more a.rate a.count c.loop-i.i a.smoothers c.loop-i.invariant.0 _ (omega arith) (omega (arith, eight)) (held c.is_prepared.ensures c.if-not-is_prepared.false), omega arith)
 
 pub returns : goal.returns
 returns c =
     let eight : length c.args.smoothers ≡ 8 =
-        c.well_formed.0.1.0.1 in
+    c.well_formed.0.1.0.1 in
     let a = c.args in
     let e = eight in
     prepared_end a.rate a.count c.loop-i.i a.smoothers c.loop-i.invariant.0 (omega arith)

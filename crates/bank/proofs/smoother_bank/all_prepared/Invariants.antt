@@ -1,12 +1,8 @@
 -- `all_prepared`: what is left from i on answers for all.
 use mathlib.Core.Path.{◌≡◌}
 use Prim.Native.Nat.{◌≤◌, ◌-◌}
-use native.Mathlib.Omega.{arith}
-use borrow.Author.Rules.{rules}
-use lib.ListN.{length, take, drop}
+use lib.ListN.{take, drop}
 use Rattle.bank.specs.Bank.{all_prepared}
-use Rattle.bank.proofs.Tests.{held, failed}
-use Rattle.bank.proofs.Slots.{prepared_start, prepared_end, prepared_fails, prepared_more}
 use Rattle.bank.proofs.smoother_bank.all_prepared.Given as goal
 
 abbrev pub invariant-loop-i : goal.invariant-loop-i

@@ -1,6 +1,6 @@
 -- `change_all`: at turn i the first i slots are changed.
 use mathlib.Core.Path.{◌≡◌, ap, ◌∙◌}
-use Prim.Native.Nat.{ℕ, ◌≤◌, ◌-◌}
+use Prim.Native.Nat.{ℕ}
 use native.Mathlib.Omega.{arith}
 use lib.ListN.{length}
 use Rattle.bank.specs.Smoother.{applied}
@@ -39,11 +39,11 @@ loop-i-smaller c = omega arith
 pub loop-i-preserved : goal.loop-i-preserved
 loop-i-preserved c =
     let eight : length c.args.smoothers ≡ 8 =
-        c.well_formed.0.1.0.1 in
+    c.well_formed.0.1.0.1 in
     (mapped_more (applied c.args.change) c.loop-i.i c.args.smoothers c.loop-i.slots _ c.apply.result c.loop-i.invariant.0 (omega (arith, eight)) c.apply.ensures, omega arith, omega arith)
 
 pub returns : goal.returns
 returns c =
     let eight : length c.args.smoothers ≡ 8 =
-        c.well_formed.0.1.0.1 in
+    c.well_formed.0.1.0.1 in
     c.loop-i.invariant.0 ∙ mapped_past (applied c.args.change) c.loop-i.i c.args.count c.args.smoothers (omega (arith, eight)) (omega (arith, eight))

@@ -1,8 +1,7 @@
 -- `slots_of`: at turn i the first i slots hold their smoothers.
 use mathlib.Core.Path.{◌≡◌, sym, ap, ◌∙◌}
-use Prim.Native.Nat.{ℕ, ◌≤◌, ◌-◌}
+use Prim.Native.Nat.{ℕ}
 use native.Mathlib.Omega.{arith}
-use borrow.Author.Rules.{rules}
 use lib.ListN.{length, replicate}
 use Rattle.bank.specs.Smoother.{vacant}
 use Rattle.bank.specs.Bank.{slots_of}
@@ -12,7 +11,7 @@ use Rattle.bank.proofs.smoother_bank.slots_of.Goals as goal
 pub loop-i-init : goal.loop-i-init
 loop-i-init c =
     let eight : length c.args.params ≡ 8 =
-        c.well_formed.0.1.0.1 in
+    c.well_formed.0.1.0.1 in
     let a = c.args in
     (rw c.vacant-empty.ensures (ap (λ (n : ℕ). replicate n vacant) (sym eight) ∙ slots_none a.rate a.params), omega arith, omega arith)
 
@@ -42,14 +41,14 @@ loop-i-smaller c = omega arith
 pub loop-i-preserved : goal.loop-i-preserved
 loop-i-preserved c =
     let eight : length c.args.params ≡ 8 =
-        c.well_formed.0.1.0.1 in
+    c.well_formed.0.1.0.1 in
     let a = c.args in
     (slots_more a.rate c.loop-i.i a.params c.loop-i.slots _ c.new.result c.loop-i.invariant.0 (omega (arith, eight)) c.new.ensures, omega arith, omega arith)
 
 pub returns : goal.returns
 returns c =
     let eight : length c.args.params ≡ 8 =
-        c.well_formed.0.1.0.1 in
+    c.well_formed.0.1.0.1 in
     let a = c.args in
     let e = eight in
     c.loop-i.invariant.0 ∙ slots_past a.rate c.loop-i.i a.count a.params (omega arith) (omega arith)

@@ -1,12 +1,7 @@
 -- `slots_of`: at turn i the first i slots hold their smoothers.
-use mathlib.Core.Path.{◌≡◌, sym, ap, ◌∙◌}
-use Prim.Native.Nat.{ℕ, ◌≤◌, ◌-◌}
-use native.Mathlib.Omega.{arith}
-use borrow.Author.Rules.{rules}
-use lib.ListN.{length, replicate}
-use Rattle.bank.specs.Smoother.{vacant}
+use mathlib.Core.Path.{◌≡◌}
+use Prim.Native.Nat.{◌≤◌, ◌-◌}
 use Rattle.bank.specs.Bank.{slots_of}
-use Rattle.bank.proofs.Slots.{slots_none, slots_more, slots_past}
 use Rattle.bank.proofs.smoother_bank.slots_of.Given as goal
 
 abbrev pub invariant-loop-i : goal.invariant-loop-i

@@ -1,11 +1,9 @@
 -- `validate_param_info`: what is left from i on answers for all.
 use mathlib.Core.Path.{◌≡◌, refl, sym, ap, ◌∙◌}
-use Prim.Native.Nat.{◌≤◌, ◌-◌}
 use native.Mathlib.Omega.{arith}
-use borrow.Author.Rules.{rules}
-use lib.ListN.{length, take, drop}
+use lib.ListN.{length}
 use borrow.Author.Tests.{lt-ltb}
-use Rattle.bank.specs.Bank.{first_fault, declared_reply}
+use Rattle.bank.specs.Bank.{declared_reply}
 use Rattle.bank.specs.Answers.{set_up_reply}
 use Rattle.bank.proofs.Slots.{fault_end, fault_here, fault_more, declared_few}
 use Rattle.bank.proofs.smoother_bank.validate_param_info.Goals as goal
@@ -26,7 +24,7 @@ bounds-params-i c = omega arith
 pub returns-in-Refused : goal.returns-in-Refused
 returns-in-Refused c =
     let eight : length c.args.params ≡ 8 =
-        c.well_formed.0.1.0.1 in
+    c.well_formed.0.1.0.1 in
     let a = c.args in
     let e = eight in
     let why = c.in-Refused.why in
@@ -42,7 +40,7 @@ loop-i-smaller c = omega arith
 pub loop-i-preserved : goal.loop-i-preserved
 loop-i-preserved c =
     let eight : length c.args.params ≡ 8 =
-        c.well_formed.0.1.0.1 in
+    c.well_formed.0.1.0.1 in
     let a = c.args in
     let e = eight in
     (fault_more a.count c.loop-i.i a.params c.loop-i.invariant.0 _ c.loop-i-test.true (omega arith) (sym (ap set_up_reply c.in_default.is) ∙ c.validate.ensures), omega arith)

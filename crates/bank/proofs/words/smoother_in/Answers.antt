@@ -1,6 +1,5 @@
 -- `smoother_in`: word by word.
 use mathlib.Core.Path.{refl}
-use borrow.Author.Rules.{rules}
 use Rattle.bank.proofs.words.smoother_in.Goals as goal
 
 pub returns : goal.returns

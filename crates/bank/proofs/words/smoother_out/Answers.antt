@@ -1,6 +1,5 @@
 -- `smoother_out`: word by word.
 use mathlib.Core.Path.{refl}
-use borrow.Author.Rules.{rules}
 use Rattle.bank.proofs.words.smoother_out.Goals as goal
 
 pub returns : goal.returns

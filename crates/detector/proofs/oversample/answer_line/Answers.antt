@@ -1,7 +1,6 @@
 -- `answer_line`: the answers of a run of which the line is the sanitized samples.
 use Rattle.detector.proofs.Line.{answers_are}
 use Rattle.detector.specs.Taps.{taps}
-use borrow.Author.Rules.{rules}
 use Rattle.detector.proofs.oversample.answer_line.Goals as goal
 
 pub returns : goal.returns

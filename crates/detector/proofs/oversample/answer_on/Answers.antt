@@ -5,7 +5,6 @@ use Rattle.detector.specs.Oversample.{Pushed, largest_of, phase_of, detected}
 use Rattle.detector.specs.Taps.{phase0, phase1, phase2, phase3, taps}
 use lib.Ieee.{of_bits, neg}
 use mathlib.Core.Path.{refl, sym, ap, ◌∙◌}
-use borrow.Author.Rules.{rules}
 use Rattle.detector.proofs.oversample.answer_on.Goals as goal
 
 pub returns : goal.returns

@@ -1,7 +1,6 @@
 -- `answer_run`: the code's table is that of specs/ woven, by its bits.
 use mathlib.Core.Path.{◌∙◌}
 use native.Mathlib.Omega.{arith}
-use borrow.Author.Rules.{rules}
 use lib.Ieee.{of_bits, neg}
 use Rattle.detector.specs.Taps.{phase0, phase1, phase2, phase3, taps}
 use Rattle.detector.specs.Oversample.{remembered, sums_of}

@@ -1,9 +1,8 @@
 -- `lay_newest`: at each turn the samples passed stand in the first places.
 use mathlib.Core.Path.{◌≡◌, refl, ap, ◌∙◌}
 use mathlib.Core.List.{map, reverse}
-use Prim.Native.Nat.{◌-◌, ◌≤◌}
 use borrow.Author.Rules.{rules}
-use lib.ListN.{length, length-set}
+use lib.ListN.{length-set}
 use Rattle.arithmetic.specs.Sanitize.{finite_or_zero}
 use Rattle.detector.proofs.Turns.{joined}
 use Rattle.detector.proofs.Line.{newest_more}

@@ -1,12 +1,10 @@
 -- `lay_newest`: at each turn the samples passed stand in the first places.
-use mathlib.Core.Path.{◌≡◌, refl, ap, ◌∙◌}
+use mathlib.Core.Path.{◌≡◌}
 use mathlib.Core.List.{map, reverse}
 use Prim.Native.Nat.{◌-◌, ◌≤◌}
-use borrow.Author.Rules.{rules}
-use lib.ListN.{length, length-set}
+use lib.ListN.{length}
 use Rattle.arithmetic.specs.Sanitize.{finite_or_zero}
 use Rattle.detector.proofs.Turns.{joined}
-use Rattle.detector.proofs.Line.{newest_more}
 use Rattle.detector.proofs.oversample.lay_newest.Given as goal
 
 abbrev pub invariant-loop-i : goal.invariant-loop-i

@@ -1,10 +1,9 @@
 -- `lay_run`: at each turn the line agrees with the sanitized samples on those passed.
-use mathlib.Core.Path.{◌≡◌, refl}
+use mathlib.Core.Path.{refl}
 use mathlib.Core.List.{map}
-use Prim.Native.Nat.{◌-◌, ◌≤◌}
 use native.Mathlib.Omega.{arith}
 use borrow.Author.Rules.{rules}
-use lib.ListN.{length, take, length-set, length-map}
+use lib.ListN.{length-set, length-map}
 use Rattle.arithmetic.specs.Sanitize.{finite_or_zero}
 use Rattle.arithmetic.proofs.Copy.{copied_all}
 use Rattle.detector.proofs.Line.{laid_more}

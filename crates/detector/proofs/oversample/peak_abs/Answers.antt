@@ -1,6 +1,5 @@
 -- `peak_abs`: answered and shifted, or left alone; the code's table is that of specs/ woven, by its bits.
 use mathlib.Core.Path.{refl, ap, ◌∙◌}
-use borrow.Author.Rules.{rules}
 use lib.Ieee.{of_bits, neg}
 use Rattle.detector.specs.Taps.{phase0, phase1, phase2, phase3, taps}
 use Rattle.detector.specs.Oversample.{largest_of, phase_of}

@@ -3,7 +3,6 @@ use Rattle.detector.proofs.Line.{ran, run_alone, store_alone, answers_alone}
 use Rattle.detector.proofs.Store.{run_pushes}
 use Rattle.detector.specs.Taps.{taps}
 use mathlib.Core.Path.{sym, ◌∙◌}
-use borrow.Author.Rules.{rules}
 use Rattle.detector.proofs.oversample.peaks_abs.Goals as goal
 
 pub returns-then-n-gt32 : goal.returns-then-n-gt32

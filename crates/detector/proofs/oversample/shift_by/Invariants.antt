@@ -1,11 +1,8 @@
 -- `shift_by`: at each turn what was passed has moved, and the rest stands where it stood.
-use mathlib.Core.Path.{◌≡◌, sym}
+use mathlib.Core.Path.{◌≡◌}
 use Prim.Native.Nat.{◌+◌, ◌-◌, ◌≤◌}
-use native.Mathlib.Omega.{arith}
-use borrow.Author.Rules.{rules}
-use lib.ListN.{length, length-set}
-use lib.Ieee.{nan}
-use Rattle.detector.proofs.Turns.{joined, joined_all, along, along_length, move_more, move_all}
+use lib.ListN.{length}
+use Rattle.detector.proofs.Turns.{joined, along}
 use Rattle.detector.proofs.oversample.shift_by.Given as goal
 
 abbrev pub invariant-loop-i : goal.invariant-loop-i

@@ -1,5 +1,4 @@
 -- `add_across`: the run, the store behind it, and the last three.
-use borrow.Author.Rules.{rules}
 use Rattle.detector.proofs.Fours.{across}
 use Rattle.detector.proofs.phases.add_across.Goals as goal
 

@@ -1,5 +1,4 @@
 -- `add_last`: the answers ahead keep their sums.
-use borrow.Author.Rules.{rules}
 use Rattle.detector.proofs.Fours.{last_three}
 use Rattle.detector.proofs.phases.add_last.Goals as goal
 

@@ -1,11 +1,8 @@
 -- `add_products`: the sums passed have their product, the others are as they were.
-use mathlib.Core.Path.{◌≡◌, refl}
-use Prim.Native.Nat.{◌-◌, ◌≤◌}
+use mathlib.Core.Path.{refl}
 use borrow.Author.Rules.{rules}
-use lib.ListN.{length, length-set}
+use lib.ListN.{length-set}
 use lib.Ieee.{nan}
-use Rattle.detector.specs.Sums.{added}
-use Rattle.detector.proofs.Turns.{joined}
 use Rattle.detector.proofs.Sums.{added_more, added_all}
 use Rattle.detector.proofs.phases.add_products.Goals as goal
 

@@ -1,12 +1,9 @@
 -- `add_products`: the sums passed have their product, the others are as they were.
-use mathlib.Core.Path.{◌≡◌, refl}
+use mathlib.Core.Path.{◌≡◌}
 use Prim.Native.Nat.{◌-◌, ◌≤◌}
-use borrow.Author.Rules.{rules}
-use lib.ListN.{length, length-set}
-use lib.Ieee.{nan}
+use lib.ListN.{length}
 use Rattle.detector.specs.Sums.{added}
 use Rattle.detector.proofs.Turns.{joined}
-use Rattle.detector.proofs.Sums.{added_more, added_all}
 use Rattle.detector.proofs.phases.add_products.Given as goal
 
 abbrev pub invariant-loop-p : goal.invariant-loop-p

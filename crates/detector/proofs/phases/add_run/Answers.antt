@@ -1,10 +1,10 @@
 -- `add_run`: at each turn the sums go on with the samples that are left.
-use mathlib.Core.Path.{◌≡◌, refl, ◌∙◌}
-use Prim.Native.Nat.{◌+◌, ◌*◌, ◌-◌, ◌≤◌}
+use mathlib.Core.Path.{refl, ◌∙◌}
+use Prim.Native.Nat.{◌+◌, ◌*◌, ◌-◌}
 use borrow.Author.Rules.{rules}
 use lib.ListN.{length, get_or, take, drop}
 use lib.Ieee.{nan}
-use Rattle.detector.specs.Sums.{factor, sums_on, up_to}
+use Rattle.detector.specs.Sums.{factor, up_to}
 use Rattle.detector.proofs.Sums.{sums_more, sums_none}
 use Rattle.detector.proofs.Line.{part_up_to, sample_up_to}
 use Rattle.detector.proofs.phases.add_run.Goals as goal

@@ -1,12 +1,8 @@
 -- `add_run`: at each turn the sums go on with the samples that are left.
-use mathlib.Core.Path.{◌≡◌, refl, ◌∙◌}
-use Prim.Native.Nat.{◌+◌, ◌*◌, ◌-◌, ◌≤◌}
-use borrow.Author.Rules.{rules}
-use lib.ListN.{length, get_or, take, drop}
-use lib.Ieee.{nan}
+use mathlib.Core.Path.{◌≡◌}
+use Prim.Native.Nat.{◌*◌, ◌-◌, ◌≤◌}
+use lib.ListN.{length, take, drop}
 use Rattle.detector.specs.Sums.{factor, sums_on, up_to}
-use Rattle.detector.proofs.Sums.{sums_more, sums_none}
-use Rattle.detector.proofs.Line.{part_up_to, sample_up_to}
 use Rattle.detector.proofs.phases.add_run.Given as goal
 
 abbrev pub invariant-loop-k : goal.invariant-loop-k

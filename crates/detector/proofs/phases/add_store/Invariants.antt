@@ -1,13 +1,8 @@
 -- `add_store`: at each turn the sums go on with the samples that are left.
-use mathlib.Core.Path.{◌≡◌, ◌∙◌}
-use Prim.Native.Nat.{◌+◌, ◌*◌, ◌-◌, ◌≤◌}
-use native.Mathlib.Nat.{sub_self}
-use borrow.Author.Rules.{rules}
+use mathlib.Core.Path.{◌≡◌}
+use Prim.Native.Nat.{◌*◌, ◌-◌, ◌≤◌}
 use lib.ListN.{length, take, drop}
-use lib.Ieee.{nan}
 use Rattle.detector.specs.Sums.{factor, sums_on}
-use Rattle.detector.proofs.Sums.{sums_none}
-use Rattle.detector.proofs.Line.{part_length, store_more}
 use Rattle.detector.proofs.phases.add_store.Given as goal
 
 abbrev pub invariant-loop-k : goal.invariant-loop-k

@@ -1,5 +1,4 @@
 -- `add_within`: nine samples of the run, and the last three.
-use borrow.Author.Rules.{rules}
 use Rattle.detector.proofs.Fours.{within}
 use Rattle.detector.proofs.phases.add_within.Goals as goal
 

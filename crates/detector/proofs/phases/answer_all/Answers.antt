@@ -3,9 +3,9 @@ use Rattle.detector.proofs.Line.{answers_length, answer_more, first_answers}
 use Rattle.arithmetic.proofs.Copy.{copied_all}
 use Rattle.detector.specs.Oversample.{largest_of}
 use Rattle.detector.specs.Sums.{sums_by, answers_of}
-use lib.ListN.{length, take, length-set}
-use Prim.Native.Nat.{◌-◌, ◌*◌, ◌/◌, ◌≤◌}
-use mathlib.Core.Path.{◌≡◌, ap, ◌∙◌}
+use lib.ListN.{length, length-set}
+use Prim.Native.Nat.{◌*◌, ◌/◌}
+use mathlib.Core.Path.{ap, ◌∙◌}
 use borrow.Author.Rules.{rules}
 use Rattle.detector.proofs.phases.answer_all.Goals as goal
 

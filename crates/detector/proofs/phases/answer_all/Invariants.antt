@@ -1,12 +1,8 @@
 -- `answer_all`: at each turn the answers passed are those of the run.
-use Rattle.detector.proofs.Line.{answers_length, answer_more, first_answers}
-use Rattle.arithmetic.proofs.Copy.{copied_all}
-use Rattle.detector.specs.Oversample.{largest_of}
 use Rattle.detector.specs.Sums.{sums_by, answers_of}
-use lib.ListN.{length, take, length-set}
-use Prim.Native.Nat.{◌-◌, ◌*◌, ◌/◌, ◌≤◌}
-use mathlib.Core.Path.{◌≡◌, ap, ◌∙◌}
-use borrow.Author.Rules.{rules}
+use lib.ListN.{length, take}
+use Prim.Native.Nat.{◌-◌, ◌≤◌}
+use mathlib.Core.Path.{◌≡◌}
 use Rattle.detector.proofs.phases.answer_all.Given as goal
 
 abbrev pub invariant-loop-i : goal.invariant-loop-i

@@ -1,9 +1,9 @@
 -- `answer_fours`: at each turn the answers agree with the definition's on those passed.
 use mathlib.Core.Path.{◌≡◌, refl, ◌∙◌}
-use Prim.Native.Nat.{◌+◌, ◌*◌, ◌-◌, ◌≤◌}
+use Prim.Native.Nat.{◌+◌, ◌*◌}
 use native.Mathlib.Omega.{arith}
 use borrow.Author.Rules.{rules}
-use lib.ListN.{length, take}
+use lib.ListN.{length}
 use lib.Seq.{take_all}
 use Rattle.detector.specs.Sums.{sums_by, answers_of}
 use Rattle.detector.proofs.Line.{answers_length}

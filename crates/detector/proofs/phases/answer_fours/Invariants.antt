@@ -1,12 +1,8 @@
 -- `answer_fours`: at each turn the answers agree with the definition's on those passed.
-use mathlib.Core.Path.{◌≡◌, refl, ◌∙◌}
-use Prim.Native.Nat.{◌+◌, ◌*◌, ◌-◌, ◌≤◌}
-use native.Mathlib.Omega.{arith}
-use borrow.Author.Rules.{rules}
+use mathlib.Core.Path.{◌≡◌}
+use Prim.Native.Nat.{◌*◌, ◌-◌, ◌≤◌}
 use lib.ListN.{length, take}
-use lib.Seq.{take_all}
 use Rattle.detector.specs.Sums.{sums_by, answers_of}
-use Rattle.detector.proofs.Line.{answers_length}
 use Rattle.detector.proofs.phases.answer_fours.Given as goal
 
 abbrev pub invariant-loop-g : goal.invariant-loop-g

@@ -1,6 +1,5 @@
 -- `largest_of`: the four sums in turn.
-use lib.Ieee.{nan, of_bits, lt}
-use borrow.Author.Rules.{rules}
+use lib.Ieee.{nan, of_bits}
 use Rattle.detector.proofs.Push.{four}
 use Rattle.detector.proofs.phases.largest_of.Goals as goal
 

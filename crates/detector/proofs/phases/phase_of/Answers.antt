@@ -1,10 +1,7 @@
 -- `phase_of`: what the sums from p on answer stays what they all do.
 use lib.Ieee.{Float, eq, of_bits}
-use mathlib.Core.Path.{◌≡◌, refl, sym, ap, ◌∙◌}
-use Prim.Native.Nat.{◌-◌, ◌≤◌}
+use mathlib.Core.Path.{refl, sym, ap, ◌∙◌}
 use borrow.Author.Rules.{rules}
-use lib.ListN.{drop}
-use Rattle.detector.specs.Oversample.{first_at}
 use Rattle.detector.proofs.Push.{phase_passed, phase_found, phase_none}
 use Rattle.detector.proofs.phases.phase_of.Goals as goal
 

@@ -1,11 +1,8 @@
 -- `phase_of`: what the sums from p on answer stays what they all do.
-use lib.Ieee.{Float, eq, of_bits}
-use mathlib.Core.Path.{◌≡◌, refl, sym, ap, ◌∙◌}
+use mathlib.Core.Path.{◌≡◌}
 use Prim.Native.Nat.{◌-◌, ◌≤◌}
-use borrow.Author.Rules.{rules}
 use lib.ListN.{drop}
 use Rattle.detector.specs.Oversample.{first_at}
-use Rattle.detector.proofs.Push.{phase_passed, phase_found, phase_none}
 use Rattle.detector.proofs.phases.phase_of.Given as goal
 
 abbrev pub invariant-loop-p : goal.invariant-loop-p

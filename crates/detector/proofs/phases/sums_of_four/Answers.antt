@@ -1,6 +1,5 @@
 -- `sums_of_four`: the samples that only the answers ahead read, and the twelve that the first one reads.
 use mathlib.Core.Path.{refl, ◌∙◌}
-use borrow.Author.Rules.{rules}
 use lib.Ieee.{of_bits}
 use Rattle.detector.proofs.Fours.{fours}
 use Rattle.detector.proofs.phases.sums_of_four.Goals as goal
@@ -8,10 +7,10 @@ use Rattle.detector.proofs.phases.sums_of_four.Goals as goal
 pub add_first-requires : goal.add_first-requires
 unfolding of_bits
 add_first-requires c = record {
-      sums_value = refl;
-      table_len = c.requires.table_len;
-      at_in_bounds = c.requires.at_in_bounds;
-    }
+  sums_zero = refl;
+  table_len = c.requires.table_len;
+  at_in_bounds = c.requires.at_in_bounds;
+}
 
 pub returns-then-at-lt9 : goal.returns-then-at-lt9
 returns-then-at-lt9 c =

@@ -1,7 +1,6 @@
 -- `sums_of_one`: the run from place i back, and the store behind it.
 use Rattle.detector.proofs.Fours.{one_across, one_within}
 use lib.Ieee.{of_bits}
-use borrow.Author.Rules.{rules}
 use Rattle.detector.proofs.phases.sums_of_one.Goals as goal
 
 pub returns-then-i-lt12 : goal.returns-then-i-lt12

@@ -1,11 +1,9 @@
 -- `all_within`: the answer so far and the answer on the rest are the answer on the whole.
-use mathlib.Core.Path.{◌≡◌, refl}
+use mathlib.Core.Path.{◌≡◌}
 use mathlib.Core.Bool.{◌&&◌}
 use Prim.Native.Nat.{◌-◌, ◌≤◌}
-use borrow.Author.Rules.{rules}
 use lib.ListN.{drop}
 use Rattle.detector.specs.Level.{all_within}
-use Rattle.detector.proofs.Scan.{within_more, within_all}
 use Rattle.detector.proofs.quiet.all_within.Given as goal
 
 abbrev pub invariant-loop-i : goal.invariant-loop-i

@@ -1,6 +1,4 @@
 -- `lies_within`: the length, then the two scans.
-use borrow.Author.Rules.{rules}
-use borrow.Author.Tests.{not-true, not-false}
 use Rattle.detector.proofs.Level.{lies_in, lies_loud, lies_out}
 use Rattle.detector.proofs.quiet.lies_within.Goals as goal
 

@@ -1,6 +1,5 @@
 -- `attacks`: the tests are the definition's.
 use mathlib.Core.Path.{refl}
-use borrow.Author.Rules.{rules}
 use Rattle.envelope.proofs.follow.attacks.Goals as goal
 
 pub returns : goal.returns

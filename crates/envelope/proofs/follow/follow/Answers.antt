@@ -1,6 +1,5 @@
 -- `follow`: the calls, one inside the other.
 use mathlib.Core.Path.{refl}
-use borrow.Author.Rules.{rules}
 use Rattle.envelope.specs.Follow.{followed}
 use Rattle.envelope.proofs.follow.follow.Goals as goal
 

@@ -1,13 +1,11 @@
 -- `follow_all`: the gains passed, and what the rest comes to.
-use mathlib.Core.Path.{◌≡◌, refl, sym, ap, ◌∙◌}
+use mathlib.Core.Path.{refl, sym, ap, ◌∙◌}
 use mathlib.Core.List.{List}
-use Prim.Native.Nat.{◌-◌, ◌≤◌}
 use native.Mathlib.Omega.{arith}
 use borrow.Author.Rules.{rules}
 use lib.ListN.{length, get_or, set, length-set}
 use lib.Ieee.{Float, nan}
-use Rattle.envelope.specs.Run.{followed_all}
-use Rattle.envelope.proofs.Following.{attacked, follows_from, follows_turn, follows_done, stays}
+use Rattle.envelope.proofs.Following.{attacked, follows_turn, follows_done, stays}
 use Rattle.envelope.proofs.follow.follow_all.Goals as goal
 use Rattle.envelope.proofs.follow.follow_all.Goals.{then-attacks, else-attacks}
 
@@ -20,7 +18,7 @@ loop-i-preserved c =
     let m = c.loop-i.means in
     let i = c.loop-i.i in
     elim c.if-attacks.branch [
-      then-attacks w ↦ let hit = attacked c.loop-i.g (get_or m i nan) a.coeff (sym c.attacks.ensures ∙ w.if-attacks.true) in (
+      | then-attacks w ↦ let hit = attacked c.loop-i.g (get_or m i nan) a.coeff (sym c.attacks.ensures ∙ w.if-attacks.true) in (
         omega arith,
         ap (λ (k : List Float). length k) w.means-is ∙ c.loop-i.invariant.1,
         follows_turn a.coeff c.loop-i.g i m c.if-attacks.g c.if-attacks.means (omega arith) (w.g-is ∙ hit) (stays m c.if-attacks.means i c.if-attacks.g w.means-is w.g-is) ∙ c.loop-i.invariant.2,

@@ -1,14 +1,9 @@
 -- `follow_all`: the gains passed, and what the rest comes to.
-use mathlib.Core.Path.{◌≡◌, refl, sym, ap, ◌∙◌}
-use mathlib.Core.Logic.{⊎_elim}
-use mathlib.Core.List.{List}
+use mathlib.Core.Path.{◌≡◌}
 use Prim.Native.Nat.{◌-◌, ◌≤◌}
-use native.Mathlib.Omega.{arith}
-use borrow.Author.Rules.{rules}
-use lib.ListN.{length, get_or, set, length-set}
-use lib.Ieee.{Float, nan}
+use lib.ListN.{length}
 use Rattle.envelope.specs.Run.{followed_all}
-use Rattle.envelope.proofs.Following.{attacked, follows_from, follows_turn, follows_done, stays}
+use Rattle.envelope.proofs.Following.{follows_from}
 use Rattle.envelope.proofs.follow.follow_all.Given as goal
 
 abbrev pub invariant-loop-i : goal.invariant-loop-i

@@ -1,8 +1,7 @@
 -- `add_weighted`: the sums passed have their product, the others are as they were.
-use Prim.Native.Nat.{◌-◌, ◌≤◌}
 use native.Mathlib.Omega.{arith}
 use borrow.Author.Rules.{rules}
-use Rattle.envelope.proofs.Along.{Adding, adding_none, adding_more, adding_all}
+use Rattle.envelope.proofs.Along.{adding_none, adding_more, adding_all}
 use Rattle.envelope.proofs.means.add_weighted.Goals as goal
 
 pub loop-i-init : goal.loop-i-init

@@ -1,8 +1,6 @@
 -- `add_weighted`: the sums passed have their product, the others are as they were.
 use Prim.Native.Nat.{◌-◌, ◌≤◌}
-use native.Mathlib.Omega.{arith}
-use borrow.Author.Rules.{rules}
-use Rattle.envelope.proofs.Along.{Adding, adding_none, adding_more, adding_all}
+use Rattle.envelope.proofs.Along.{Adding}
 use Rattle.envelope.proofs.means.add_weighted.Given as goal
 
 abbrev pub invariant-loop-i : goal.invariant-loop-i

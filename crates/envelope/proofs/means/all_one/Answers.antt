@@ -1,9 +1,7 @@
 -- `all_one`: the answer so far and the answer on the rest are the answer on the whole.
-use mathlib.Core.Path.{◌≡◌, refl}
-use mathlib.Core.Bool.{◌&&◌}
-use Prim.Native.Nat.{◌-◌, ◌≤◌}
+use mathlib.Core.Path.{refl}
 use native.Mathlib.Omega.{arith}
-use lib.ListN.{length, drop, get_or}
+use lib.ListN.{get_or}
 use lib.Ieee.{Float, nan, eq, of_bits}
 use Rattle.arithmetic.specs.Number.{one}
 use Rattle.envelope.specs.Mean.{is_all_one}

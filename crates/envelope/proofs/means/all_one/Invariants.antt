@@ -1,13 +1,9 @@
 -- `all_one`: the answer so far and the answer on the rest are the answer on the whole.
-use mathlib.Core.Path.{◌≡◌, refl}
+use mathlib.Core.Path.{◌≡◌}
 use mathlib.Core.Bool.{◌&&◌}
 use Prim.Native.Nat.{◌-◌, ◌≤◌}
-use native.Mathlib.Omega.{arith}
-use lib.ListN.{length, drop, get_or}
-use lib.Ieee.{Float, nan, eq, of_bits}
-use Rattle.arithmetic.specs.Number.{one}
+use lib.ListN.{length, drop}
 use Rattle.envelope.specs.Mean.{is_all_one}
-use Rattle.envelope.proofs.Scan.{all_next, all_end}
 use Rattle.envelope.proofs.means.all_one.Given as goal
 
 abbrev pub invariant-loop-i : goal.invariant-loop-i

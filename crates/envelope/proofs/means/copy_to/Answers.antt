@@ -1,10 +1,9 @@
 -- `copy_to`: the values passed stand in their places.
-use mathlib.Core.Path.{◌≡◌, refl}
-use Prim.Native.Nat.{◌-◌, ◌≤◌}
+use mathlib.Core.Path.{refl}
 use native.Mathlib.Omega.{arith}
 use borrow.Author.Rules.{rules}
-use lib.ListN.{length, drop, length-set}
-use lib.Seq.{paste, paste-zero}
+use lib.ListN.{drop, length-set}
+use lib.Seq.{paste-zero}
 use Rattle.envelope.proofs.Along.{copy_more, copy_done}
 use Rattle.envelope.proofs.means.copy_to.Goals as goal
 

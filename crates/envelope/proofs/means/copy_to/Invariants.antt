@@ -1,11 +1,8 @@
 -- `copy_to`: the values passed stand in their places.
-use mathlib.Core.Path.{◌≡◌, refl}
+use mathlib.Core.Path.{◌≡◌}
 use Prim.Native.Nat.{◌-◌, ◌≤◌}
-use native.Mathlib.Omega.{arith}
-use borrow.Author.Rules.{rules}
-use lib.ListN.{length, drop, length-set}
-use lib.Seq.{paste, paste-zero}
-use Rattle.envelope.proofs.Along.{copy_more, copy_done}
+use lib.ListN.{length, drop}
+use lib.Seq.{paste}
 use Rattle.envelope.proofs.means.copy_to.Given as goal
 
 abbrev pub invariant-loop-i : goal.invariant-loop-i

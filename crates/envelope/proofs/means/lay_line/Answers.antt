@@ -1,27 +1,25 @@
 -- `lay_line`: three straight copies.
-use Prim.Native.Nat.{◌-◌}
 use native.Mathlib.Omega.{arith}
-use borrow.Author.Rules.{rules}
 use Rattle.envelope.proofs.Along.{laid}
 use Rattle.envelope.proofs.means.lay_line.Goals as goal
 
 pub copy_to-requires : goal.copy_to-requires
 copy_to-requires c = record {
-      n_in_bounds = omega arith;
-      n_in_bounds_2 = omega arith;
-    }
+  from_inside = omega arith;
+  to_inside = omega arith;
+}
 
 pub copy_to-requires-2 : goal.copy_to-requires-2
 copy_to-requires-2 c = record {
-      n_in_bounds = omega arith;
-      n_in_bounds_2 = omega (arith, c.copy_to.auto.to);
-    }
+  from_inside = omega arith;
+  to_inside = omega (arith, c.copy_to.auto.to);
+}
 
 pub copy_to-requires-3 : goal.copy_to-requires-3
 copy_to-requires-3 c = record {
-      n_in_bounds = omega arith;
-      n_in_bounds_2 = omega (arith, c.copy_to-2.auto.to, c.copy_to.auto.to);
-    }
+  from_inside = omega arith;
+  to_inside = omega (arith, c.copy_to-2.auto.to, c.copy_to.auto.to);
+}
 
 pub returns : goal.returns
 returns c =

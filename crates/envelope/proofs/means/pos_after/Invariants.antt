@@ -1,9 +1,7 @@
 -- `pos_after`: so many places from the start, less a whole round at each turn.
-use mathlib.Core.Path.{◌≡◌, ◌∙◌}
+use mathlib.Core.Path.{◌≡◌}
 use Prim.Native.Nat.{◌+◌, ◌≤◌}
-use native.Mathlib.Omega.{arith}
 use Rattle.envelope.specs.Row.{pos_after}
-use Rattle.envelope.proofs.Position.{after_start, after_less, after_end}
 use Rattle.envelope.proofs.means.pos_after.Given as goal
 
 abbrev pub invariant-loop-p : goal.invariant-loop-p

@@ -1,6 +1,5 @@
 -- `sums_along`: sixteen sums, and sixteen more where the run asks for them.
 use native.Mathlib.Omega.{arith}
-use borrow.Author.Rules.{rules}
 use Rattle.envelope.proofs.Along.{sums_early, sums_late}
 use Rattle.envelope.proofs.means.sums_along.Goals as goal
 

@@ -1,11 +1,11 @@
 -- `sums_from`: what is still to be summed, added to the sums so far, stays the whole.
 use mathlib.Core.Path.{refl}
-use Prim.Native.Nat.{◌+◌, ◌-◌, ◌≤◌}
+use Prim.Native.Nat.{◌+◌, ◌-◌}
 use native.Mathlib.Omega.{arith}
 use borrow.Author.Rules.{rules}
 use lib.ListN.{length}
 use lib.Ieee.{of_bits}
-use Rattle.envelope.proofs.Along.{Summing, summing_none, summing_more, summing_all}
+use Rattle.envelope.proofs.Along.{summing_none, summing_more, summing_all}
 use Rattle.envelope.proofs.means.sums_from.Goals as goal
 
 pub loop-j-init : goal.loop-j-init
@@ -14,9 +14,9 @@ loop-j-init c = (search rules, summing_none c.args.weights.now c.args.line.now c
 
 pub add_weighted-requires : goal.add_weighted-requires
 add_weighted-requires c = record {
-      sums_len = c.loop-j.invariant.1.as_many;
-      at_in_bounds = omega arith;
-    }
+  sums_len = c.loop-j.invariant.1.as_many;
+  at_in_bounds = omega arith;
+}
 
 pub loop-j-preserved : goal.loop-j-preserved
 loop-j-preserved c =

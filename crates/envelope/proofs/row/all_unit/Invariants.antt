@@ -1,14 +1,9 @@
 -- `all_unit`: the answer so far and the answer on the rest are the answer on the whole.
-use mathlib.Core.Path.{◌≡◌, refl}
+use mathlib.Core.Path.{◌≡◌}
 use mathlib.Core.Bool.{◌&&◌}
 use Prim.Native.Nat.{◌-◌, ◌≤◌}
-use native.Mathlib.Omega.{arith}
-use borrow.Author.Rules.{rules}
 use lib.ListN.{length, drop}
-use Rattle.arithmetic.specs.Number
-use Rattle.arithmetic.specs.Number.{one, within}
 use Rattle.envelope.specs.Row.{all_unit}
-use Rattle.envelope.proofs.Scan.{all_next, all_end}
 use Rattle.envelope.proofs.row.all_unit.Given as goal
 
 abbrev pub invariant-loop-i : goal.invariant-loop-i

@@ -1,13 +1,8 @@
 -- `tally_of`: the count so far and the tally of the rest are the tally of the whole.
 use mathlib.Core.Path.{◌≡◌}
 use Prim.Native.Nat.{◌+◌, ◌-◌, ◌≤◌}
-use native.Mathlib.Omega.{arith}
-use borrow.Author.Rules.{rules}
-use lib.ListN.{length, get_or, drop}
-use lib.Ieee.{nan}
+use lib.ListN.{length, drop}
 use Rattle.envelope.specs.Row.{tally_of}
-use Rattle.envelope.proofs.Tally.{one_more}
-use Rattle.envelope.proofs.Scan.{tally_next, tally_end}
 use Rattle.envelope.proofs.row.tally_of.Given as goal
 
 abbrev pub invariant-loop-i : goal.invariant-loop-i

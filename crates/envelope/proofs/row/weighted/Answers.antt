@@ -1,10 +1,6 @@
 -- `weighted`: what is still to be summed, added to the sum so far, stays the whole.
 use mathlib.Core.Path.{◌≡◌, refl, sym, ◌∙◌}
-use Prim.Native.Nat.{◌+◌, ◌≤◌}
 use native.Mathlib.Omega.{arith}
-use lib.ListN.{drop}
-use Rattle.envelope.specs.Row.{down}
-use Rattle.envelope.specs.Mean.{weighted_from}
 use Rattle.envelope.proofs.Weighted.{next}
 use Rattle.envelope.proofs.row.weighted.Goals as goal
 

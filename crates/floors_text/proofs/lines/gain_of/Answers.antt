@@ -1,6 +1,4 @@
 -- `gain_of`: the test and the number that is read, by the laws of Forms.
-use borrow.Author.Rules.{rules}
-use borrow.Author.Tests.{not-true, not-false}
 use mathlib.Core.Path.{◌≡◌, sym, ◌∙◌}
 use mathlib.Core.Bool.{true}
 use Prim.Native.Nat.{◌≤◌}
@@ -18,37 +16,37 @@ returns-then-not-has_shape c =
 pub overflow_sub-end : goal.overflow_sub-end
 overflow_sub-end c =
     let formed : shaped (ascii "gain=") 16 16 c.args.line.now ≡ true =
-        sym c.has_shape.ensures ∙ c.if-not-has_shape.false in
+    sym c.has_shape.ensures ∙ c.if-not-has_shape.false in
     let sized : (22 ≤ length c.args.line.now) × (length c.args.line.now ≤ 22) =
-        shape_length (ascii "gain=") 16 16 c.args.line.now formed in
+    shape_length (ascii "gain=") 16 16 c.args.line.now formed in
     let h = sized in omega arith
 
 pub slice_bounds-number-count : goal.slice_bounds-number-count
 slice_bounds-number-count c =
     let formed : shaped (ascii "gain=") 16 16 c.args.line.now ≡ true =
-        sym c.has_shape.ensures ∙ c.if-not-has_shape.false in
+    sym c.has_shape.ensures ∙ c.if-not-has_shape.false in
     let sized : (22 ≤ length c.args.line.now) × (length c.args.line.now ≤ 22) =
-        shape_length (ascii "gain=") 16 16 c.args.line.now formed in
+    shape_length (ascii "gain=") 16 16 c.args.line.now formed in
     let h = sized in omega arith
 
 pub slice_bounds-number-start : goal.slice_bounds-number-start
 slice_bounds-number-start c =
     let formed : shaped (ascii "gain=") 16 16 c.args.line.now ≡ true =
-        sym c.has_shape.ensures ∙ c.if-not-has_shape.false in
+    sym c.has_shape.ensures ∙ c.if-not-has_shape.false in
     let sized : (22 ≤ length c.args.line.now) × (length c.args.line.now ≤ 22) =
-        shape_length (ascii "gain=") 16 16 c.args.line.now formed in
+    shape_length (ascii "gain=") 16 16 c.args.line.now formed in
     let h = sized in omega arith
 
 pub number-requires : goal.number-requires
 number-requires c =
     let formed : shaped (ascii "gain=") 16 16 c.args.line.now ≡ true =
-        sym c.has_shape.ensures ∙ c.if-not-has_shape.false in
+    sym c.has_shape.ensures ∙ c.if-not-has_shape.false in
     let sized : (22 ≤ length c.args.line.now) × (length c.args.line.now ≤ 22) =
-        shape_length (ascii "gain=") 16 16 c.args.line.now formed in
+    shape_length (ascii "gain=") 16 16 c.args.line.now formed in
     (cut_few c.args.line.now 16 sized.1, omega arith)
 
 pub returns : goal.returns
 returns c =
     let formed : shaped (ascii "gain=") 16 16 c.args.line.now ≡ true =
-        sym c.has_shape.ensures ∙ c.if-not-has_shape.false in
+    sym c.has_shape.ensures ∙ c.if-not-has_shape.false in
     c.number.ensures ∙ sym (gain_some c.args.line.now formed)

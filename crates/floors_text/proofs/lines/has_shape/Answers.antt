@@ -1,6 +1,5 @@
 -- `has_shape`: each test settles one part of the definition.
-use borrow.Author.Rules.{rules}
-use borrow.Author.Tests.{le-leb, lt-leb, not-true, not-false}
+use borrow.Author.Tests.{le-leb, lt-leb}
 use mathlib.Core.Path.{refl, sym, ◌∙◌}
 use Rattle.floors_text.proofs.lines.has_shape.Goals as goal
 

@@ -1,8 +1,7 @@
 -- `line_end`: what is passed of the line and what is left of it add up to the line. The measure is what is left of the input.
-use mathlib.Core.Path.{◌≡◌, refl, ap}
-use Prim.Native.Nat.{◌≤◌, ◌-◌, ◌+◌}
+use mathlib.Core.Path.{refl, ap}
 use native.Mathlib.Omega.{arith}
-use lib.ListN.{length, drop, drop_of_length-le}
+use lib.ListN.{drop_of_length-le}
 use Rattle.floors_text.proofs.Cuts.{first_newline, first_byte, first_length}
 use Rattle.floors_text.proofs.lines.line_end.Goals as goal
 

@@ -1,9 +1,8 @@
 -- `line_end`: what is passed of the line and what is left of it add up to the line. The measure is what is left of the input.
-use mathlib.Core.Path.{◌≡◌, refl, ap}
+use mathlib.Core.Path.{◌≡◌}
 use Prim.Native.Nat.{◌≤◌, ◌-◌, ◌+◌}
-use native.Mathlib.Omega.{arith}
-use lib.ListN.{length, drop, drop_of_length-le}
-use Rattle.floors_text.proofs.Cuts.{first_newline, first_byte, first_length}
+use lib.ListN.{length, drop}
+use Rattle.floors_text.proofs.Cuts.{first_length}
 use Rattle.floors_text.proofs.lines.line_end.Given as goal
 
 abbrev pub invariant-loop-i : goal.invariant-loop-i

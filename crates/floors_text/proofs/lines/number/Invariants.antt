@@ -1,11 +1,8 @@
 -- `number`: the digits that are left, after the value so far, spell the number of all of them; the value of i digits is below 16 ^ i, so that 16 of them fit.
-use mathlib.Core.Path.{◌≡◌, refl, sym, ◌∙◌}
-use Prim.Native.Nat.{◌≤◌, ◌<◌, ◌-◌, ◌+◌, ◌*◌, ◌^◌}
-use native.Mathlib.Omega.{arith}
-use borrow.Author.Rules.{rules}
+use mathlib.Core.Path.{◌≡◌}
+use Prim.Native.Nat.{◌≤◌, ◌<◌, ◌-◌, ◌^◌}
 use lib.ListN.{length, drop}
 use Rattle.floors_text.specs.Lines.{number_from}
-use Rattle.floors_text.proofs.Numbers.{digit_more, digit_fits, number_done, number_other, number_digit}
 use Rattle.floors_text.proofs.lines.number.Given as goal
 
 abbrev pub invariant-loop-i : goal.invariant-loop-i

@@ -1,9 +1,6 @@
 -- `starts_with`: what is left of the word starts what is left of the line, as the whole word starts the line.
-use mathlib.Core.Path.{◌≡◌, refl, sym, ◌∙◌}
-use Prim.Native.Nat.{◌≤◌, ◌-◌}
+use mathlib.Core.Path.{refl, sym, ◌∙◌}
 use native.Mathlib.Omega.{arith}
-use lib.ListN.{length, drop}
-use Rattle.floors_text.specs.Lines.{starts_with}
 use Rattle.floors_text.proofs.Cuts.{word_done, word_short, word_other, word_letter}
 use Rattle.floors_text.proofs.lines.starts_with.Goals as goal
 

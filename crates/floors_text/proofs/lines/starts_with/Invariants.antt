@@ -1,10 +1,8 @@
 -- `starts_with`: what is left of the word starts what is left of the line, as the whole word starts the line.
-use mathlib.Core.Path.{◌≡◌, refl, sym, ◌∙◌}
+use mathlib.Core.Path.{◌≡◌}
 use Prim.Native.Nat.{◌≤◌, ◌-◌}
-use native.Mathlib.Omega.{arith}
 use lib.ListN.{length, drop}
 use Rattle.floors_text.specs.Lines.{starts_with}
-use Rattle.floors_text.proofs.Cuts.{word_done, word_short, word_other, word_letter}
 use Rattle.floors_text.proofs.lines.starts_with.Given as goal
 
 abbrev pub invariant-loop-i : goal.invariant-loop-i

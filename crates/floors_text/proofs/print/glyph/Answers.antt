@@ -1,5 +1,4 @@
 -- `glyph`: the test is the definition's.
-use borrow.Author.Rules.{rules}
 use borrow.Author.Tests.{lt-ltb, le-ltb}
 use mathlib.Core.Path.{refl}
 use Rattle.floors_text.proofs.print.glyph.Goals as goal

@@ -1,7 +1,5 @@
 -- `put`: a store within the output is the definition's, and past its end that one changes nothing either.
-use borrow.Author.Rules.{rules}
 use mathlib.Core.Path.{refl}
-use mathlib.Core.Logic.{⊎_elim}
 use Rattle.floors_text.proofs.Puts.{put_past, put_length}
 use Rattle.floors_text.proofs.print.put.Goals as goal
 use Rattle.floors_text.proofs.print.put.Goals.{then-at-output, else-at-output}
@@ -9,7 +7,7 @@ use Rattle.floors_text.proofs.print.put.Goals.{then-at-output, else-at-output}
 pub returns : goal.returns
 returns c =
     elim c.if-at-output.branch [
-      then-at-output w ↦ record { bytes = w.output-is; place = refl }
+      | then-at-output w ↦ record { bytes = w.output-is; place = refl }
       | else-at-output w ↦ rw w.output-is (put_past c.args.output.now c.args.at c.args.byte w.if-at-output.false)
     ]
 

@@ -1,5 +1,4 @@
 -- `put_count`: one text after the other.
-use borrow.Author.Rules.{rules}
 use Rattle.floors_text.proofs.Puts.{put_then}
 use Rattle.floors_text.proofs.print.put_count.Goals as goal
 

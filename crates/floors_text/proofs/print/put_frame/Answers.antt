@@ -1,5 +1,4 @@
 -- `put_frame`: six texts, one after the other. Each place is what the places before it say, and the whole line fits.
-use borrow.Author.Rules.{rules}
 use native.Mathlib.Omega.{arith}
 use Rattle.floors_text.specs.Print.{frame_line}
 use Rattle.floors_text.proofs.Puts.{put_then, frame_length}

@@ -1,5 +1,4 @@
 -- `put_refusal`: one text after the other.
-use borrow.Author.Rules.{rules}
 use native.Mathlib.Omega.{arith}
 use lib.ListN.{length-append}
 use Rattle.floors_text.specs.Print.{ascii, decimal_of, refusal_line}

@@ -1,10 +1,8 @@
 -- `put_word`: the first i bytes of the word are put.
 use mathlib.Core.Path.{◌≡◌}
 use Prim.Native.Nat.{◌≤◌, ◌-◌, ◌+◌}
-use native.Mathlib.Omega.{arith}
 use lib.ListN.{length, take}
 use Rattle.floors_text.specs.Print.{Put}
-use Rattle.floors_text.proofs.Puts.{put_none, put_more, put_all, put_length}
 use Rattle.floors_text.proofs.print.put_word.Given as goal
 
 abbrev pub invariant-loop-i : goal.invariant-loop-i

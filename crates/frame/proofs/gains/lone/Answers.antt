@@ -1,7 +1,6 @@
 -- `lone`: the first and only one.
 use mathlib.Core.Path.{ap}
 use mathlib.Core.List.{List}
-use borrow.Author.Rules.{rules}
 use lib.ListN.{length, get_or}
 use lib.Ieee.{Float, nan}
 use Rattle.frame.proofs.gains.lone.Goals as goal

@@ -1,6 +1,5 @@
 -- `required_gain`: the quotient, and the smaller one.
 use mathlib.Core.Path.{refl}
-use borrow.Author.Rules.{rules}
 use lib.Ieee.{of_bits}
 use Rattle.frame.proofs.gains.required_gain.Goals as goal
 

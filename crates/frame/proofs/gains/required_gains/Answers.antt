@@ -1,10 +1,8 @@
 -- `required_gains`: 1 where nothing was heard, else the gains passed, and those of the peaks that are left.
-use mathlib.Core.Path.{◌≡◌, refl, ◌∙◌}
-use mathlib.Core.List.{◌++◌, map}
-use Prim.Native.Nat.{◌-◌, ◌≤◌}
+use mathlib.Core.Path.{refl, ◌∙◌}
 use native.Mathlib.Omega.{arith}
 use borrow.Author.Rules.{rules}
-use lib.ListN.{length, take, drop, length-set}
+use lib.ListN.{length-set}
 use lib.Ieee.{Float, of_bits}
 use Rattle.frame.specs.Frame.{required_gain}
 use Rattle.frame.proofs.Alike.{unheard_gains}

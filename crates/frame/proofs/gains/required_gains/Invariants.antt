@@ -1,14 +1,10 @@
 -- `required_gains`: 1 where nothing was heard, else the gains passed, and those of the peaks that are left.
-use mathlib.Core.Path.{◌≡◌, refl, ◌∙◌}
+use mathlib.Core.Path.{◌≡◌}
 use mathlib.Core.List.{◌++◌, map}
 use Prim.Native.Nat.{◌-◌, ◌≤◌}
-use native.Mathlib.Omega.{arith}
-use borrow.Author.Rules.{rules}
-use lib.ListN.{length, take, drop, length-set}
-use lib.Ieee.{Float, of_bits}
+use lib.ListN.{length, take, drop}
+use lib.Ieee.{Float}
 use Rattle.frame.specs.Frame.{required_gain}
-use Rattle.frame.proofs.Alike.{unheard_gains}
-use Rattle.arithmetic.proofs.InTurn.{map_more, map_done}
 use Rattle.frame.proofs.gains.required_gains.Given as goal
 
 abbrev pub invariant-loop-i : goal.invariant-loop-i

@@ -1,14 +1,11 @@
 -- `all_outputs`: the channels passed, and what the rest comes to.
-use mathlib.Core.Path.{◌≡◌, refl, ◌∙◌}
+use mathlib.Core.Path.{refl, ◌∙◌}
 use Prim.Native.Nat.{◌+◌, ◌-◌, ◌*◌, ◌≤◌}
 use native.Mathlib.Omega.{arith}
 use borrow.Author.Rules.{rules}
-use lib.ListN.{length, drop}
-use Rattle.detector.specs.Run.{run_length}
+use lib.ListN.{length}
 use Rattle.frame.specs.Rules.{leaves_by}
-use Rattle.envelope.specs.Row.{pos_after}
-use Rattle.frame.specs.Passes.{outputs_pass}
-use Rattle.frame.proofs.Channels.{places-end, outputs_since, outputs_start, outputs_end, outputs_turn, ahead_turn, pos_turn}
+use Rattle.frame.proofs.Channels.{places-end, outputs_start, outputs_end, outputs_turn, ahead_turn, pos_turn}
 use Rattle.frame.proofs.Clean.{channel_clean}
 use Rattle.frame.proofs.outputs.all_outputs.Goals as goal
 
@@ -20,29 +17,29 @@ loop-c-init c =
 pub overflow_mul-at : goal.overflow_mul-at
 overflow_mul-at c =
     let inside : c.loop-c.c * c.args.look + c.args.look ≤ length c.loop-c.delay =
-        let a = c.args in
-            rw c.loop-c.invariant.1 (places-end c.loop-c.c a.channels a.look c.loop-c-test.true) in
+    let a = c.args in
+    rw c.loop-c.invariant.1 (places-end c.loop-c.c a.channels a.look c.loop-c-test.true) in
     omega (arith, inside)
 
 pub overflow_add-at : goal.overflow_add-at
 overflow_add-at c =
     let inside : c.loop-c.c * c.args.look + c.args.look ≤ length c.loop-c.delay =
-        let a = c.args in
-            rw c.loop-c.invariant.1 (places-end c.loop-c.c a.channels a.look c.loop-c-test.true) in
+    let a = c.args in
+    rw c.loop-c.invariant.1 (places-end c.loop-c.c a.channels a.look c.loop-c-test.true) in
     omega (arith, inside)
 
 pub offset_bounds-delay-at : goal.offset_bounds-delay-at
 offset_bounds-delay-at c =
     let inside : c.loop-c.c * c.args.look + c.args.look ≤ length c.loop-c.delay =
-        let a = c.args in
-            rw c.loop-c.invariant.1 (places-end c.loop-c.c a.channels a.look c.loop-c-test.true) in
+    let a = c.args in
+    rw c.loop-c.invariant.1 (places-end c.loop-c.c a.channels a.look c.loop-c-test.true) in
     omega (arith, inside)
 
 pub slice_bounds-channel_outputs-end : goal.slice_bounds-channel_outputs-end
 slice_bounds-channel_outputs-end c =
     let inside : c.loop-c.c * c.args.look + c.args.look ≤ length c.loop-c.delay =
-        let a = c.args in
-            rw c.loop-c.invariant.1 (places-end c.loop-c.c a.channels a.look c.loop-c-test.true) in
+    let a = c.args in
+    rw c.loop-c.invariant.1 (places-end c.loop-c.c a.channels a.look c.loop-c-test.true) in
     omega (arith, inside)
 
 pub channel_outputs-next-requires : goal.channel_outputs-next-requires
@@ -52,7 +49,7 @@ channel_outputs-next-requires c =
     record {
       pos_in_bounds = search rules;
       gains_len = search rules;
-      samples_value = channel_clean c.args.channels n l.c (l.c * 32 + n - l.c * 32) c.args.audio.now l.audio c.requires.sanitized c.loop-c-test.true (omega arith) l.invariant.5;
+      sanitized = channel_clean c.args.channels n l.c (l.c * 32 + n - l.c * 32) c.args.audio.now l.audio c.requires.sanitized c.loop-c-test.true (omega arith) l.invariant.5;
     }
 
 pub loop-c-preserved : goal.loop-c-preserved
@@ -63,7 +60,7 @@ loop-c-preserved c =
       search rules,
       outputs_turn (leaves_by a.format) a.look a.pos a.gains.now a.channels a.n c.loop-c.c (c.loop-c.c * a.look + a.look - c.loop-c.c * a.look) (c.loop-c.c * 32 + a.n - c.loop-c.c * 32) c.loop-c.delay c.loop-c.audio
           c.channel_outputs-next.new.line c.channel_outputs-next.new.samples (omega arith) c.loop-c.invariant.1 (omega arith) (omega arith) (omega arith) (omega arith)
-          c.channel_outputs-next.auto.line c.channel_outputs-next.auto.samples c.channel_outputs-next.ensures.line_after
+          c.channel_outputs-next.auto.line c.channel_outputs-next.auto.samples c.channel_outputs-next.ensures.given_out
           ∙ c.loop-c.invariant.3,
       λ k. pos_turn a.look a.pos a.channels a.n c.loop-c.c (c.loop-c.c * a.look + a.look - c.loop-c.c * a.look) (c.loop-c.c * 32 + a.n - c.loop-c.c * 32) c.loop-c.delay c.loop-c.audio
           c.channel_outputs-next.result (omega arith) c.loop-c.invariant.1 (omega arith) (omega arith) (omega arith) c.channel_outputs-next.ensures.value,
@@ -74,6 +71,6 @@ pub returns : goal.returns
 returns c =
     let a = c.args in
     record {
-      delay_after = outputs_end (leaves_by a.format) a.look a.pos a.gains.now a.channels a.n c.loop-c.c c.loop-c.delay c.loop-c.audio (omega arith) ∙ c.loop-c.invariant.3;
+      given_out = outputs_end (leaves_by a.format) a.look a.pos a.gains.now a.channels a.n c.loop-c.c c.loop-c.delay c.loop-c.audio (omega arith) ∙ c.loop-c.invariant.3;
       value = c.loop-c.invariant.4 (omega arith);
     }

@@ -1,15 +1,12 @@
 -- `all_outputs`: the channels passed, and what the rest comes to.
-use mathlib.Core.Path.{◌≡◌, refl, ◌∙◌}
-use Prim.Native.Nat.{◌+◌, ◌-◌, ◌*◌, ◌≤◌}
-use native.Mathlib.Omega.{arith}
-use borrow.Author.Rules.{rules}
+use mathlib.Core.Path.{◌≡◌}
+use Prim.Native.Nat.{◌-◌, ◌*◌, ◌≤◌}
 use lib.ListN.{length, drop}
 use Rattle.detector.specs.Run.{run_length}
 use Rattle.frame.specs.Rules.{leaves_by}
 use Rattle.envelope.specs.Row.{pos_after}
 use Rattle.frame.specs.Passes.{outputs_pass}
-use Rattle.frame.proofs.Channels.{places-end, outputs_since, outputs_start, outputs_end, outputs_turn, ahead_turn, pos_turn}
-use Rattle.frame.proofs.Clean.{channel_clean}
+use Rattle.frame.proofs.Channels.{outputs_since}
 use Rattle.frame.proofs.outputs.all_outputs.Given as goal
 
 abbrev pub invariant-loop-c : goal.invariant-loop-c

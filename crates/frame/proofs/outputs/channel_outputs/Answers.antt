@@ -1,5 +1,4 @@
 -- `channel_outputs`: the exchange, and then the products.
-use borrow.Author.Rules.{rules}
 use lib.ListN.{length}
 use Rattle.frame.specs.Rules.{leaves_by}
 use Rattle.frame.specs.Passes.{exchanged_at}
@@ -9,7 +8,7 @@ use Rattle.frame.proofs.outputs.channel_outputs.Goals as goal
 pub returns : goal.returns
 returns c =
     let a = c.args in record {
-      line_after = outputs_found (leaves_by a.format) (length a.line.now) a.pos a.gains.now a.line.now a.samples.now (exchanged_at c.exchange-next.new.samples c.exchange-next.new.line) c.products.new.samples c.requires.gains_len
-          c.exchange-next.ensures.line_after c.products.ensures;
+      given_out = outputs_found (leaves_by a.format) (length a.line.now) a.pos a.gains.now a.line.now a.samples.now (exchanged_at c.exchange-next.new.samples c.exchange-next.new.line) c.products.new.samples c.requires.gains_len
+          c.exchange-next.ensures.exchanged c.products.ensures;
       value = c.exchange-next.ensures.value;
     }

@@ -1,21 +1,18 @@
 -- `exchange`: the samples passed, and what the rest comes to, a straight stretch at a time.
-use mathlib.Core.Path.{◌≡◌, refl, ap, ◌∙◌}
-use mathlib.Core.List.{map}
-use Prim.Native.Nat.{◌+◌, ◌-◌, ◌≤◌, ◌<◌}
+use mathlib.Core.Path.{refl, ap, ◌∙◌}
+use Prim.Native.Nat.{◌+◌, ◌≤◌}
 use native.Mathlib.Omega.{arith}
 use native.Mathlib.Nat.{sub-zero}
 use borrow.Author.Rules.{rules}
-use lib.ListN.{length, drop}
-use Rattle.arithmetic.specs.Sanitize.{finite_or_zero}
+use lib.ListN.{length}
 use Rattle.envelope.specs.Row.{pos_after}
-use Rattle.frame.specs.Passes.{exchange_of}
-use Rattle.frame.proofs.Stretch.{exchange_from, exchange_turn, clean_turn, exchange_done, pos_after_stretch, pos_next, pos_done}
+use Rattle.frame.proofs.Stretch.{exchange_turn, clean_turn, exchange_done, pos_after_stretch, pos_next, pos_done}
 use Rattle.frame.proofs.outputs.exchange.Goals as goal
 
 pub loop-i-init : goal.loop-i-init
 loop-i-init c =
     let a = c.args in
-    (search rules, search rules, refl, refl, refl, ap (pos_after (length a.line.now) a.pos) (sub-zero (length a.samples.now)), c.requires.samples_value)
+    (search rules, search rules, refl, refl, refl, ap (pos_after (length a.line.now) a.pos) (sub-zero (length a.samples.now)), c.requires.sanitized)
 
 pub loop-i-preserved : goal.loop-i-preserved
 loop-i-preserved c =
@@ -28,7 +25,7 @@ loop-i-preserved c =
     let inside : c.loop-i.i + k ≤ length c.loop-i.samples = rw c.loop-i.invariant.3 run_fits in
     let next = pos_after_stretch look c.loop-i.p k c.next_pos-p.result (omega arith) line-fits c.next_pos-p.ensures.value in (
       run_fits,
-      c.next_pos-p.ensures.upper_bound,
+      c.next_pos-p.ensures.inside,
       search rules,
       search rules,
       exchange_turn look c.loop-i.p c.loop-i.i k c.loop-i.line c.loop-i.samples c.swap_stretch.new.line c.swap_stretch.new.samples c.loop-i.invariant.2 line-fits inside
@@ -43,6 +40,6 @@ pub returns : goal.returns
 returns c =
     let a = c.args in
     let look = length a.line.now in record {
-      line_after = exchange_done look c.loop-i.p c.loop-i.line c.loop-i.i c.loop-i.samples (omega arith) ∙ c.loop-i.invariant.4;
+      exchanged = exchange_done look c.loop-i.p c.loop-i.line c.loop-i.i c.loop-i.samples (omega arith) ∙ c.loop-i.invariant.4;
       value = pos_done look c.loop-i.p (length a.samples.now) c.loop-i.i (omega arith) ∙ c.loop-i.invariant.5;
     }

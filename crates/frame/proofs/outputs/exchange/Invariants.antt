@@ -1,15 +1,12 @@
 -- `exchange`: the samples passed, and what the rest comes to, a straight stretch at a time.
-use mathlib.Core.Path.{◌≡◌, refl, ap, ◌∙◌}
+use mathlib.Core.Path.{◌≡◌}
 use mathlib.Core.List.{map}
-use Prim.Native.Nat.{◌+◌, ◌-◌, ◌≤◌, ◌<◌}
-use native.Mathlib.Omega.{arith}
-use native.Mathlib.Nat.{sub-zero}
-use borrow.Author.Rules.{rules}
+use Prim.Native.Nat.{◌-◌, ◌≤◌, ◌<◌}
 use lib.ListN.{length, drop}
 use Rattle.arithmetic.specs.Sanitize.{finite_or_zero}
 use Rattle.envelope.specs.Row.{pos_after}
 use Rattle.frame.specs.Passes.{exchange_of}
-use Rattle.frame.proofs.Stretch.{exchange_from, exchange_turn, clean_turn, exchange_done, pos_after_stretch, pos_next, pos_done}
+use Rattle.frame.proofs.Stretch.{exchange_from}
 use Rattle.frame.proofs.outputs.exchange.Given as goal
 
 abbrev pub invariant-loop-i : goal.invariant-loop-i

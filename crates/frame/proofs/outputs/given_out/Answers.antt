@@ -1,6 +1,5 @@
 -- `given_out`: the calls, one inside the other, by the sample type's rule.
 use mathlib.Core.Path.{◌≡◌, sym, ap}
-use borrow.Author.Rules.{rules}
 use lib.Ieee.{Float}
 use Rattle.arithmetic.specs.Narrow.{narrowed}
 use Rattle.arithmetic.specs.Sanitize.{flush_denormal}

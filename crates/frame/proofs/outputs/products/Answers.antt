@@ -1,12 +1,9 @@
 -- `products`: the outputs passed, and what the rest comes to.
-use mathlib.Core.Path.{◌≡◌, refl, ◌∙◌}
-use mathlib.Core.List.{◌++◌}
-use Prim.Native.Nat.{◌-◌, ◌≤◌}
+use mathlib.Core.Path.{refl, ◌∙◌}
 use native.Mathlib.Omega.{arith}
 use borrow.Author.Rules.{rules}
-use lib.ListN.{length, take, drop, length-set}
+use lib.ListN.{length-set}
 use Rattle.frame.specs.Rules.{leaves_by}
-use Rattle.frame.specs.Passes.{products_of}
 use Rattle.frame.proofs.Turns.{products_more, products_done}
 use Rattle.frame.proofs.outputs.products.Goals as goal
 

@@ -1,13 +1,10 @@
 -- `products`: the outputs passed, and what the rest comes to.
-use mathlib.Core.Path.{◌≡◌, refl, ◌∙◌}
+use mathlib.Core.Path.{◌≡◌}
 use mathlib.Core.List.{◌++◌}
 use Prim.Native.Nat.{◌-◌, ◌≤◌}
-use native.Mathlib.Omega.{arith}
-use borrow.Author.Rules.{rules}
-use lib.ListN.{length, take, drop, length-set}
+use lib.ListN.{length, take, drop}
 use Rattle.frame.specs.Rules.{leaves_by}
 use Rattle.frame.specs.Passes.{products_of}
-use Rattle.frame.proofs.Turns.{products_more, products_done}
 use Rattle.frame.proofs.outputs.products.Given as goal
 
 abbrev pub invariant-loop-i : goal.invariant-loop-i

@@ -1,12 +1,8 @@
 -- `swap_stretch`: what the places passed hold, and what the rest comes to, for line and samples.
-use mathlib.Core.Path.{◌≡◌, refl, ◌∙◌}
+use mathlib.Core.Path.{◌≡◌}
 use mathlib.Core.List.{◌++◌}
 use Prim.Native.Nat.{◌-◌, ◌≤◌}
-use native.Mathlib.Omega.{arith}
-use borrow.Author.Rules.{rules}
-use lib.ListN.{length, get_or, take, drop, length-set}
-use lib.Ieee.{nan}
-use Rattle.arithmetic.proofs.InTurn.{lifted_more, lifted_done}
+use lib.ListN.{length, take, drop}
 use Rattle.frame.proofs.outputs.swap_stretch.Given as goal
 
 abbrev pub invariant-loop-i : goal.invariant-loop-i

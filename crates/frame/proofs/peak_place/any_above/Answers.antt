@@ -1,10 +1,7 @@
 -- `any_above`: what was found so far, or the rest finds.
 use Rattle.frame.proofs.Risen.{above_more, above_done}
 use Rattle.frame.specs.Passes.{any_above}
-use lib.ListN.{drop}
-use Prim.Native.Nat.{◌-◌, ◌≤◌}
-use mathlib.Core.Bool.{◌||◌}
-use mathlib.Core.Path.{◌≡◌, refl}
+use mathlib.Core.Path.{refl}
 use borrow.Author.Rules.{rules}
 use Rattle.frame.proofs.peak_place.any_above.Goals as goal
 

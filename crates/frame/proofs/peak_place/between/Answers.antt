@@ -1,13 +1,11 @@
 -- `between`: what the channels from c on tell stays what they all do.
-use Rattle.frame.proofs.Seats.{counted_test, voices_since, all_voices, answers_here, between_found, between_passed, between_none}
-use Rattle.frame.specs.Passes.{voices_pass}
+use Rattle.frame.proofs.Seats.{counted_test, all_voices, answers_here, between_found, between_passed, between_none}
 use Rattle.frame.specs.Seat.{between_from}
-use Rattle.frame.specs.Rules.{linking_of}
 use Rattle.detector.specs.Oversample.{Pushed}
 use native.Mathlib.Omega.{arith}
-use Prim.Native.Nat.{◌+◌, ◌-◌, ◌*◌, ◌≤◌}
+use Prim.Native.Nat.{◌+◌, ◌-◌, ◌*◌}
 use mathlib.Core.Bool.{true, false}
-use mathlib.Core.Path.{◌≡◌, ap, ◌∙◌}
+use mathlib.Core.Path.{ap, ◌∙◌}
 use borrow.Author.Rules.{rules}
 use Rattle.frame.proofs.peak_place.between.Goals as goal
 

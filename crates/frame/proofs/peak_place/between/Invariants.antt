@@ -1,14 +1,10 @@
 -- `between`: what the channels from c on tell stays what they all do.
-use Rattle.frame.proofs.Seats.{counted_test, voices_since, all_voices, answers_here, between_found, between_passed, between_none}
+use Rattle.frame.proofs.Seats.{voices_since}
 use Rattle.frame.specs.Passes.{voices_pass}
 use Rattle.frame.specs.Seat.{between_from}
 use Rattle.frame.specs.Rules.{linking_of}
-use Rattle.detector.specs.Oversample.{Pushed}
-use native.Mathlib.Omega.{arith}
-use Prim.Native.Nat.{◌+◌, ◌-◌, ◌*◌, ◌≤◌}
-use mathlib.Core.Bool.{true, false}
-use mathlib.Core.Path.{◌≡◌, ap, ◌∙◌}
-use borrow.Author.Rules.{rules}
+use Prim.Native.Nat.{◌-◌, ◌≤◌}
+use mathlib.Core.Path.{◌≡◌}
 use Rattle.frame.proofs.peak_place.between.Given as goal
 
 abbrev pub invariant-loop-c : goal.invariant-loop-c

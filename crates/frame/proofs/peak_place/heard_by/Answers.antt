@@ -1,6 +1,5 @@
 -- `heard_by`: by the phase's cases.
 use mathlib.Core.Path.{refl}
-use borrow.Author.Rules.{rules}
 use Rattle.frame.proofs.peak_place.heard_by.Goals as goal
 
 pub returns-in-Nowhere : goal.returns-in-Nowhere

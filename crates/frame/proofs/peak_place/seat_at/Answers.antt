@@ -8,9 +8,9 @@ use Rattle.detector.specs.Run.{run_length}
 use Rattle.arithmetic.specs.Number.{abs_of}
 use lib.Ieee.{nan, of_bits}
 use lib.ListN.{get_or}
-use Prim.Native.Nat.{◌+◌, ◌-◌, ◌*◌, ◌≤◌}
+use Prim.Native.Nat.{◌+◌, ◌*◌}
 use mathlib.Core.Bool.{true, false}
-use mathlib.Core.Path.{◌≡◌, refl, ap, ◌∙◌}
+use mathlib.Core.Path.{refl, ap, ◌∙◌}
 use borrow.Author.Rules.{rules}
 use Rattle.frame.proofs.peak_place.seat_at.Goals as goal
 

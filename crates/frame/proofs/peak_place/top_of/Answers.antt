@@ -1,9 +1,8 @@
 -- `top_of`: what the peaks from i on raise stays what they all do.
 use Rattle.frame.proofs.Risen.{risen_up, risen_on, risen_done}
 use Rattle.frame.specs.Passes.{risen_to, risen_from}
-use lib.ListN.{length, drop}
-use Prim.Native.Nat.{◌-◌, ◌≤◌}
-use mathlib.Core.Path.{◌≡◌, refl}
+use lib.ListN.{length}
+use mathlib.Core.Path.{refl}
 use borrow.Author.Rules.{rules}
 use Rattle.frame.proofs.peak_place.top_of.Goals as goal
 use Rattle.frame.proofs.peak_place.top_of.Goals.{then-peaks-i, else-peaks-i}
@@ -18,7 +17,7 @@ loop-i-preserved c =
     let total = risen_from 0 (risen_to c.args.top (length peaks)) peaks in (
       search rules,
       elim c.if-peaks-i.branch [
-        then-peaks-i w ↦ rw (w.peak-is, w.at-is) (risen_up peaks c.loop-i.i r total (search rules) w.if-peaks-i.true c.loop-i.invariant.1)
+        | then-peaks-i w ↦ rw (w.peak-is, w.at-is) (risen_up peaks c.loop-i.i r total (search rules) w.if-peaks-i.true c.loop-i.invariant.1)
         | else-peaks-i w ↦ rw (w.peak-is, w.at-is) (risen_on peaks c.loop-i.i r total (search rules) w.if-peaks-i.false c.loop-i.invariant.1)
       ],
     )

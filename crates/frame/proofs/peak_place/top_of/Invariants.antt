@@ -1,11 +1,8 @@
 -- `top_of`: what the peaks from i on raise stays what they all do.
-use Rattle.frame.proofs.Risen.{risen_up, risen_on, risen_done}
 use Rattle.frame.specs.Passes.{risen_to, risen_from}
 use lib.ListN.{length, drop}
 use Prim.Native.Nat.{◌-◌, ◌≤◌}
-use mathlib.Core.Logic.{⊎_elim}
-use mathlib.Core.Path.{◌≡◌, refl}
-use borrow.Author.Rules.{rules}
+use mathlib.Core.Path.{◌≡◌}
 use Rattle.frame.proofs.peak_place.top_of.Given as goal
 
 abbrev pub invariant-loop-i : goal.invariant-loop-i

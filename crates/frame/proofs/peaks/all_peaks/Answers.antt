@@ -1,20 +1,18 @@
 -- `all_peaks`: the peaks stay alike to peaks from which the rest makes the whole.
-use Rattle.frame.proofs.Alike.{Sharing, sharing_start, sharing_done, sharing_more, alike_from_zero, unheard_more}
+use Rattle.frame.proofs.Alike.{sharing_start, sharing_done, sharing_more, alike_from_zero, unheard_more}
 use Rattle.frame.proofs.Heard.{zeros_length}
 use Rattle.frame.specs.Passes.{peaks_pass}
 use Rattle.frame.specs.Rules.{linking_of}
-use lib.ListN.{length}
 use native.Mathlib.Omega.{arith}
-use Prim.Native.Nat.{◌+◌, ◌-◌, ◌*◌, ◌≤◌}
-use mathlib.Core.Path.{◌≡◌, refl, sym, ◌∙◌}
-use mathlib.Core.Bool.{false}
+use Prim.Native.Nat.{◌+◌, ◌-◌, ◌*◌}
+use mathlib.Core.Path.{refl, sym, ◌∙◌}
 use borrow.Author.Rules.{rules}
 use Rattle.frame.proofs.peaks.all_peaks.Goals as goal
 
 pub loop-c-init : goal.loop-c-init
 loop-c-init c =
     let a = c.args in
-    let z = c.requires.peaks_value in
+    let z = c.requires.peaks_zero in
     (search rules, zeros_length a.n a.peaks.now z, sharing_start a.settings a.ceiling a.channels a.n a.detector.now a.audio.now a.peaks.now z, λ h. refl)
 
 pub hear_or_pass-some-requires : goal.hear_or_pass-some-requires
@@ -23,8 +21,8 @@ hear_or_pass-some-requires c =
     record {
       store_len = search rules;
       samples_len = search rules;
-      samples_len_bound = search rules;
-      peaks_value = alike_from_zero c.args.ceiling c.loop-c.peaks k.whole k.alike;
+      run_short = search rules;
+      from_zero = alike_from_zero c.args.ceiling c.loop-c.peaks k.whole k.alike;
       c_bound = search rules;
     }
 
@@ -42,7 +40,7 @@ loop-c-preserved c =
 
 pub shape_of-peaks : goal.shape_of-peaks
 shape_of-peaks c =
-    c.loop-c.invariant.1 ∙ sym (zeros_length c.args.n c.args.peaks.now c.requires.peaks_value)
+    c.loop-c.invariant.1 ∙ sym (zeros_length c.args.n c.args.peaks.now c.requires.peaks_zero)
 
 pub returns : goal.returns
 returns c =

@@ -1,14 +1,11 @@
 -- `all_peaks`: the peaks stay alike to peaks from which the rest makes the whole.
-use Rattle.frame.proofs.Alike.{Sharing, sharing_start, sharing_done, sharing_more, alike_from_zero, unheard_more}
-use Rattle.frame.proofs.Heard.{zeros_length}
+use Rattle.frame.proofs.Alike.{Sharing}
 use Rattle.frame.specs.Passes.{peaks_pass}
 use Rattle.frame.specs.Rules.{linking_of}
 use lib.ListN.{length}
-use native.Mathlib.Omega.{arith}
-use Prim.Native.Nat.{◌+◌, ◌-◌, ◌*◌, ◌≤◌}
-use mathlib.Core.Path.{◌≡◌, refl, sym, ◌∙◌}
+use Prim.Native.Nat.{◌-◌, ◌≤◌}
+use mathlib.Core.Path.{◌≡◌}
 use mathlib.Core.Bool.{false}
-use borrow.Author.Rules.{rules}
 use Rattle.frame.proofs.peaks.all_peaks.Given as goal
 
 abbrev pub invariant-loop-c : goal.invariant-loop-c

@@ -8,7 +8,7 @@ hear_channel-requires c =
       store_len = c.requires.store_len;
       samples_len = c.requires.samples_len;
       answers_len = search rules;
-      samples_len_bound = c.requires.samples_len_bound;
-      peaks_value = c.requires.peaks_value;
-      c_value = c.requires.c_value;
+      run_short = c.requires.run_short;
+      from_zero = c.requires.from_zero;
+      counted = c.requires.counted;
     }

@@ -8,7 +8,7 @@ hear_run-requires c =
     record {
       samples_len = search rules;
       answers_len = search rules;
-      peaks_value = c.requires.peaks_value;
+      from_zero = c.requires.from_zero;
     }
 
 pub returns : goal.returns
@@ -16,9 +16,9 @@ returns c =
     let h = c.hear_run in
     let p = c.answers_abs in
     let a = c.args in
-    let o = channel_heard a.settings a.c a.store.now a.samples.now a.peaks.now h.new.peaks p.new.answers c.requires.c_value p.ensures h.ensures.peaks_after in
+    let o = channel_heard a.settings a.c a.store.now a.samples.now a.peaks.now h.new.peaks p.new.answers c.requires.counted p.ensures h.ensures.peaks_after in
     record {
       peaks_after = o.0;
       answers_after = o.1;
-      peaks_after_2 = h.ensures.peaks_after_2;
+      still_from_zero = h.ensures.still_from_zero;
     }

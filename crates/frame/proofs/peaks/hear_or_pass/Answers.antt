@@ -3,8 +3,6 @@ use Rattle.frame.proofs.Alike.{left_out, passed_over, taken_in}
 use mathlib.Core.Path.{refl, sym, ◌∙◌}
 use mathlib.Core.Bool.{true}
 use Rattle.arithmetic.proofs.Order.{clash}
-use borrow.Author.Rules.{rules}
-use borrow.Author.Tests.{not-true, not-false}
 use Rattle.frame.proofs.peaks.hear_or_pass.Goals as goal
 
 pub returns-then-not-counts_in : goal.returns-then-not-counts_in
@@ -31,9 +29,9 @@ channel_peaks-requires c =
     record {
       store_len = c.requires.store_len;
       samples_len = c.requires.samples_len;
-      samples_len_bound = c.requires.samples_len_bound;
-      peaks_value = c.requires.peaks_value;
-      c_value = sym k.ensures ∙ c.if-not-counts_in.false;
+      run_short = c.requires.run_short;
+      from_zero = c.requires.from_zero;
+      counted = sym k.ensures ∙ c.if-not-counts_in.false;
     }
 
 pub returns : goal.returns

@@ -1,18 +1,15 @@
 -- `hear_run`: the peaks passed, and what the rest comes to.
-use mathlib.Core.Path.{◌≡◌, refl, ◌∙◌}
+use mathlib.Core.Path.{refl, ◌∙◌}
 use mathlib.Core.Bool.{true}
-use mathlib.Core.List.{◌++◌}
-use Prim.Native.Nat.{◌-◌, ◌≤◌}
 use native.Mathlib.Omega.{arith}
 use borrow.Author.Rules.{rules}
-use lib.ListN.{length, take, drop, length-set}
-use Rattle.frame.specs.Passes.{all_from_zero, heard_all}
+use lib.ListN.{length-set}
 use Rattle.frame.proofs.Heard.{peak_from_zero, set_from_zero}
 use Rattle.frame.proofs.Turns.{heard_more, heard_done}
 use Rattle.frame.proofs.peaks.hear_run.Goals as goal
 
 pub loop-i-init : goal.loop-i-init
-loop-i-init c = (search rules, omega arith, refl, c.requires.peaks_value)
+loop-i-init c = (search rules, omega arith, refl, c.requires.from_zero)
 
 pub heard_in-requires : goal.heard_in-requires
 heard_in-requires c =
@@ -24,7 +21,7 @@ loop-i-preserved c =
       search rules,
       simp length-set c.loop-i.invariant.1,
       heard_more true c.loop-i.peaks a.samples.now a.answers.now c.loop-i.i c.heard_in.result (omega arith) (omega arith) (omega arith) c.heard_in.ensures.value ∙ c.loop-i.invariant.2,
-      set_from_zero c.loop-i.peaks c.loop-i.i c.heard_in.result c.loop-i.invariant.3 c.heard_in.ensures.result_value,
+      set_from_zero c.loop-i.peaks c.loop-i.i c.heard_in.result c.loop-i.invariant.3 c.heard_in.ensures.from_zero,
     )
 
 pub returns : goal.returns
@@ -32,5 +29,5 @@ returns c =
     let a = c.args in
     record {
       peaks_after = heard_done true c.loop-i.peaks a.samples.now a.answers.now c.loop-i.i (omega arith) ∙ c.loop-i.invariant.2;
-      peaks_after_2 = c.loop-i.invariant.3;
+      still_from_zero = c.loop-i.invariant.3;
     }

@@ -1,14 +1,9 @@
 -- `remember_all`: what the channels passed remember, and the rest would, stays the whole.
-use Rattle.frame.proofs.Channels.{Storing, storing_start, storing_done, storing_more}
+use Rattle.frame.proofs.Channels.{storing_start, storing_done, storing_more}
 use Rattle.frame.specs.Passes.{peaks_pass}
 use Rattle.frame.specs.Rules.{linking_of}
-use Rattle.settings.specs.declared.LimiterSettings.{LimiterSettings}
-use lib.Ieee.{Float}
-use lib.ListN.{length}
 use native.Mathlib.Omega.{arith}
-use Prim.Native.Nat.{◌+◌, ◌-◌, ◌*◌, ◌≤◌}
-use mathlib.Core.List.{List}
-use mathlib.Core.Path.{◌≡◌}
+use Prim.Native.Nat.{◌+◌, ◌-◌, ◌*◌}
 use borrow.Author.Rules.{rules}
 use Rattle.frame.proofs.peaks.remember_all.Goals as goal
 

@@ -2,7 +2,6 @@
 use mathlib.Core.Path.{◌≡◌, ap, ◌∙◌, subst}
 use Prim.Native.Nat.{◌*◌, ◌≤◌}
 use native.Mathlib.Omega.{arith}
-use borrow.Author.Rules.{rules}
 use lib.ListN.{length}
 use lib.Ieee.{Float}
 use Rattle.detector.specs.Run.{run_length}
@@ -25,13 +24,13 @@ all_peaks-heard-requires c =
       n_le_run_length = r.short;
       audio_len = r.audio_fit;
       detector_len = r.detector_fit;
-      peaks_value = c.requires.gains_value;
+      peaks_zero = c.requires.gains_zero;
     }
 
 pub highest_in-highest-requires : goal.highest_in-highest-requires
 highest_in-highest-requires c =
     let so_many : length c.args.gains.now ≡ c.args.n =
-        zeros_length c.args.n c.args.gains.now c.requires.gains_value in
+    zeros_length c.args.n c.args.gains.now c.requires.gains_zero in
     let r = c.requires.run_ready in
     record {
       channels_bound = r.most;
@@ -54,12 +53,12 @@ remember_all-requires c =
 
 pub required_gains-requires : goal.required_gains-requires
 required_gains-requires c =
-    λ h. zeros_here c.args.n c.all_peaks-heard.new.peaks (c.all_peaks-heard.ensures.peaks_unchanged h ∙ c.requires.gains_value)
+    λ h. zeros_here c.args.n c.all_peaks-heard.new.peaks (c.all_peaks-heard.ensures.peaks_unchanged h ∙ c.requires.gains_zero)
 
 pub gain_steps-last-requires : goal.gain_steps-last-requires
 gain_steps-last-requires c =
     let so_many : length c.args.gains.now ≡ c.args.n =
-        zeros_length c.args.n c.args.gains.now c.requires.gains_value in
+    zeros_length c.args.n c.args.gains.now c.requires.gains_zero in
     let r = c.requires.run_ready in
     let many = c.required_gains.auto.peaks ∙ c.all_peaks-heard.auto.peaks ∙ so_many in
     record {
@@ -70,11 +69,11 @@ gain_steps-last-requires c =
 pub all_outputs-next-requires : goal.all_outputs-next-requires
 all_outputs-next-requires c =
     let so_many : length c.args.gains.now ≡ c.args.n =
-        zeros_length c.args.n c.args.gains.now c.requires.gains_value in
+    zeros_length c.args.n c.args.gains.now c.requires.gains_zero in
     let r = c.requires.run_ready in
     let many = c.gain_steps-last.auto.gains ∙ c.required_gains.auto.peaks ∙ c.all_peaks-heard.auto.peaks ∙ so_many in
     record {
-      le_channels = r.some;
+      some_channel = r.some;
       channels_bound = r.most;
       n_le_run_length = r.short;
       pos_lt_look = r.place;
@@ -107,11 +106,11 @@ returns c =
     let gains = gains_at c.gain_steps-last.result.env c.gain_steps-last.new.marks c.gain_steps-last.new.minima c.gain_steps-last.new.row c.gain_steps-last.new.gains in
     let written = written_at c.all_outputs-next.new.audio c.all_outputs-next.new.delay in
     let done = run_done_lem rules a.weights.now a.coeff a.look a.target a.channels a.n moving audio r.short r.delay_fit r.detector_fit enough
-    zs c.remember_all.new.detector c.required_gains.new.peaks gains c.requires.gains_value (c.remember_all.ensures zs) (c.required_gains.ensures ∙ same_gains a.target a.best.peak peaks whole alike) c.gain_steps-last.ensures.gains_after
-    written c.all_outputs-next.result c.all_outputs-next.ensures.delay_after c.all_outputs-next.ensures.value in
-    let places = run_places rules a.weights.now a.coeff a.look a.target a.channels a.n moving audio zs r.short r.detector_fit enough c.requires.gains_value in
+    zs c.remember_all.new.detector c.required_gains.new.peaks gains c.requires.gains_zero (c.remember_all.ensures zs) (c.required_gains.ensures ∙ same_gains a.target a.best.peak peaks whole alike) c.gain_steps-last.ensures.stepped
+    written c.all_outputs-next.result c.all_outputs-next.ensures.given_out c.all_outputs-next.ensures.value in
+    let places = run_places rules a.weights.now a.coeff a.look a.target a.channels a.n moving audio zs r.short r.detector_fit enough c.requires.gains_zero in
     record {
-      audio_after = done.0;
+      run_done = done.0;
       highest_value = c.highest_in-highest.ensures a.target whole alike ∙ ap (highest_from a.first a.best) places;
       gains_after = done.1;
     }

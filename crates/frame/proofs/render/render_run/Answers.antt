@@ -2,7 +2,6 @@
 use mathlib.Core.Path.{◌≡◌}
 use Prim.Native.Nat.{◌-◌}
 use native.Mathlib.Omega.{arith}
-use borrow.Author.Rules.{rules}
 use lib.Ieee.{of_bits}
 use Rattle.arithmetic.specs.Number.{zero}
 use Rattle.frame.proofs.Turns.{first_of}
@@ -15,5 +14,5 @@ render_in-requires c =
     record {
       run_ready = c.requires.run_ready;
       first_bound = c.requires.first_bound;
-      gains_value = rw e (first_of c.args.n 32 zero c.requires.run_ready.short);
+      gains_zero = rw e (first_of c.args.n 32 zero c.requires.run_ready.short);
     }

@@ -2,7 +2,6 @@
 use mathlib.Core.Path.{refl, ◌∙◌}
 use Prim.Native.Nat.{◌*◌}
 use native.Mathlib.Omega.{arith}
-use borrow.Author.Rules.{rules}
 use Rattle.audio.specs.Format.{sample_bytes}
 use Rattle.interleaving.proofs.Tiling.{sample_few, table_fits}
 use Rattle.interleaving.proofs.Fitting.{tiles_few, rows_few, tiles_inside, rows_fit, lengths_of_lem}
@@ -20,10 +19,10 @@ pub transpose_tiles-requires : goal.transpose_tiles-requires
 transpose_tiles-requires c =
     let k = c.requires.taken in
     rw c.sample_bytes-s.ensures record {
-      columns_bound = omega (arith, k.few);
+      table_small = omega (arith, k.few);
       size_value = refl;
       tiles_bound = tiles_few k;
-      size_in_bounds = tiles_inside k;
+      tiles_inside = tiles_inside k;
       room_len = c.requires.rooms.room_long;
     }
 
@@ -37,12 +36,12 @@ transpose_rows-requires c =
     rw c.sample_bytes-s.ensures
     record {
       size_bound = omega (arith, sample_few c.args.format);
-      columns_bound = rows_few k;
-      columns_in_bounds = omega (arith, rows_fit k, c.transpose_tiles.auto.bytes);
+      table_small = rows_few k;
+      rows_inside = omega (arith, rows_fit k, c.transpose_tiles.auto.bytes);
       room_len = c.transpose_tiles.auto.room ∙ rooms.room_long;
       kept_len = rooms.kept_long;
       done_len = rooms.done_long;
-      by_index = rooms.none;
+      clear = rooms.none;
     }
 
 pub spread-requires : goal.spread-requires

@@ -3,7 +3,6 @@ use mathlib.Core.Path.{refl, ◌∙◌}
 use Prim.Native.Nat.{◌*◌, ◌/◌}
 use native.Mathlib.Nat.{mul_comm}
 use native.Mathlib.Omega.{arith}
-use borrow.Author.Rules.{rules}
 use Rattle.audio.specs.Format.{sample_bytes}
 use Rattle.interleaving.proofs.Tiling.{sample_few, table_fits}
 use Rattle.interleaving.proofs.Fitting.{tiles_few, rows_few, tiles_inside, rows_fit, lengths_of_lem}
@@ -12,10 +11,10 @@ use Rattle.interleaving.proofs.calls.interleave_through.Goals as goal
 
 pub close_up-requires : goal.close_up-requires
 close_up-requires c = record {
-      lengths = lengths_of_lem c.requires.taken _ refl;
-      room_len = c.requires.rooms.room_long;
-      kept_len = c.requires.rooms.kept_long;
-    }
+  lengths = lengths_of_lem c.requires.taken _ refl;
+  room_len = c.requires.rooms.room_long;
+  kept_len = c.requires.rooms.kept_long;
+}
 
 pub overflow_mul-s : goal.overflow_mul-s
 overflow_mul-s c = rw c.sample_bytes-s.ensures (omega (arith, sample_few c.args.format))
@@ -27,12 +26,12 @@ transpose_rows-requires c =
     rw (c.sample_bytes-s.ensures, mul_comm c.args.channels (c.args.frames / 64))
     record {
       size_bound = omega (arith, sample_few c.args.format);
-      columns_bound = rows_few k;
-      columns_in_bounds = omega (arith, rows_fit k, c.close_up.auto.bytes);
+      table_small = rows_few k;
+      rows_inside = omega (arith, rows_fit k, c.close_up.auto.bytes);
       room_len = c.close_up.auto.room ∙ rooms.room_long;
       kept_len = c.close_up.auto.kept ∙ rooms.kept_long;
       done_len = rooms.done_long;
-      by_index = rooms.none;
+      clear = rooms.none;
     }
 
 pub overflow_mul-channels : goal.overflow_mul-channels
@@ -47,10 +46,10 @@ transpose_tiles-requires c =
     let k = c.requires.taken in
     rw (c.sample_bytes-s.ensures, mul_comm c.args.channels 64)
     record {
-      columns_bound = omega (arith, k.few);
+      table_small = omega (arith, k.few);
       size_value = refl;
       tiles_bound = tiles_few k;
-      size_in_bounds = omega (arith, tiles_inside k, c.transpose_rows.auto.bytes, c.close_up.auto.bytes);
+      tiles_inside = omega (arith, tiles_inside k, c.transpose_rows.auto.bytes, c.close_up.auto.bytes);
       room_len = c.transpose_rows.auto.room ∙ c.close_up.auto.room ∙ c.requires.rooms.room_long;
     }
 

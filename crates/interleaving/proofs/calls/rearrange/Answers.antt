@@ -1,6 +1,5 @@
 -- `rearrange`: refused or one channel, or through the rooms.
 use mathlib.Core.Path.{◌≡◌}
-use borrow.Author.Rules.{rules}
 use Rattle.interleaving.specs.Calls.{refusal}
 use Rattle.interleaving.proofs.Facts.{taken, call_transposed}
 use Rattle.interleaving.proofs.Answers.{moving, unmoved}
@@ -17,29 +16,29 @@ returns-then-number-channels c =
 pub nonzero_div-samples : goal.nonzero_div-samples
 nonzero_div-samples c =
     let ok : (let a = c.args in refusal a.format a.channels a.bytes.now ≡ 0) =
-        let a = c.args in
-            let bytes = a.bytes.now in
-            moving a.format a.channels bytes c.judge-answer.result (c.judge-answer.ensures a.format bytes c.size_of-samples.ensures) c.number.result c.number.ensures c.if-number-channels.false in
+    let a = c.args in
+    let bytes = a.bytes.now in
+    moving a.format a.channels bytes c.judge-answer.result (c.judge-answer.ensures a.format bytes c.size_of-samples.ensures) c.number.result c.number.ensures c.if-number-channels.false in
     let a = c.args in (taken a.format a.channels a.bytes.now ok).some
 
 pub through-requires : goal.through-requires
 through-requires c =
     let ok : (let a = c.args in refusal a.format a.channels a.bytes.now ≡ 0) =
-        let a = c.args in
-            let bytes = a.bytes.now in
-            moving a.format a.channels bytes c.judge-answer.result (c.judge-answer.ensures a.format bytes c.size_of-samples.ensures) c.number.result c.number.ensures c.if-number-channels.false in
+    let a = c.args in
+    let bytes = a.bytes.now in
+    moving a.format a.channels bytes c.judge-answer.result (c.judge-answer.ensures a.format bytes c.size_of-samples.ensures) c.number.result c.number.ensures c.if-number-channels.false in
     let a = c.args in
     record {
       taken = rw c.size_of-samples.ensures (taken a.format a.channels a.bytes.now ok);
-      rooms = record { room_long = c.tile_room-room.ensures; kept_long = c.tile_room-kept.ensures; done_long = c.row_bits-done.ensures.result_len; none = c.row_bits-done.ensures.by_index };
+      rooms = record { room_long = c.tile_room-room.ensures; kept_long = c.tile_room-kept.ensures; done_long = c.row_bits-done.ensures.bytes; none = c.row_bits-done.ensures.clear };
     }
 
 pub returns : goal.returns
 returns c =
     let ok : (let a = c.args in refusal a.format a.channels a.bytes.now ≡ 0) =
-        let a = c.args in
-            let bytes = a.bytes.now in
-            moving a.format a.channels bytes c.judge-answer.result (c.judge-answer.ensures a.format bytes c.size_of-samples.ensures) c.number.result c.number.ensures c.if-number-channels.false in
+    let a = c.args in
+    let bytes = a.bytes.now in
+    moving a.format a.channels bytes c.judge-answer.result (c.judge-answer.ensures a.format bytes c.size_of-samples.ensures) c.number.result c.number.ensures c.if-number-channels.false in
     let a = c.args in
     let through = c.through in
     call_transposed a.direction a.format a.channels a.bytes.now ok through.new.bytes through.auto.bytes (rw c.size_of-samples.ensures at through.ensures)

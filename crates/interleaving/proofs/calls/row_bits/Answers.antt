@@ -19,6 +19,6 @@ unset n k = rw (zeros n (k / 8), zero-div (2 ^ (k % 8))) refl
 
 pub returns : goal.returns
 returns c = record {
-      result_len = refl;
-      by_index = unset 1024;
-    }
+  bytes = refl;
+  clear = unset 1024;
+}

@@ -2,7 +2,6 @@
 use mathlib.Core.Path.{◌≡◌, sym, subst}
 use mathlib.Core.List.{List}
 use Prim.Native.Nat.{ℕ}
-use borrow.Author.Rules.{rules}
 use Rattle.audio.specs.Format.{sample_bytes}
 use Rattle.interleaving.specs.Inner.{Transposed, rows_in, columns_in}
 use Rattle.interleaving.specs.declared.calls.Direction.{Direction}

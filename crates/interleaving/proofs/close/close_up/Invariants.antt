@@ -1,15 +1,9 @@
 -- `close_up`: the channels passed are apart; at the end what was aside goes behind them.
-use mathlib.Core.Path.{◌≡◌, refl, sym, ap, subst, ◌∙◌}
-use mathlib.Core.List.{◌++◌}
-use Prim.Native.Nat.{ℕ, ◌-◌, ◌*◌, ◌≤◌}
-use native.Mathlib.Nat.{mul_comm}
-use native.Mathlib.Omega.{arith}
-use borrow.Author.Rules.{rules}
-use lib.ListN.{length, take, drop}
+use mathlib.Core.Path.{◌≡◌}
+use Prim.Native.Nat.{◌-◌, ◌*◌, ◌≤◌}
+use lib.ListN.{length}
 use Rattle.audio.specs.Format.{sample_bytes}
-use Rattle.interleaving.specs.Inner.{Lengths, Spread}
-use Rattle.interleaving.proofs.Tiling.{table_fits}
-use Rattle.interleaving.proofs.Spreading.{Sums, sums, rest_length, left_aside, Closing, spread_nothing, closing_none, closing_more, closed_part}
+use Rattle.interleaving.proofs.Spreading.{Closing}
 use Rattle.interleaving.proofs.close.close_up.Given as goal
 
 abbrev pub invariant-loop-c : goal.invariant-loop-c

@@ -1,12 +1,8 @@
 -- `slide_down`: the rows passed are there.
-use mathlib.Core.Path.{◌≡◌, refl, ap, ◌∙◌}
-use Prim.Native.Nat.{ℕ, ◌+◌, ◌-◌, ◌*◌, ◌≤◌, ◌<◌}
-use native.Mathlib.Omega.{arith}
-use borrow.Author.Rules.{rules}
+use mathlib.Core.Path.{◌≡◌}
+use Prim.Native.Nat.{◌-◌, ◌*◌, ◌≤◌}
 use lib.ListN.{length, take, drop}
 use Rattle.audio.specs.Inner.{put}
-use Rattle.audio.proofs.Carry.{places-end}
-use Rattle.interleaving.proofs.Sliding.{down_none, down_step}
 use Rattle.interleaving.proofs.close.slide_down.Given as goal
 
 abbrev pub invariant-loop-i : goal.invariant-loop-i

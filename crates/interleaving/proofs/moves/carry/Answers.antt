@@ -2,7 +2,6 @@
 use mathlib.Core.Path.{ap, ◌∙◌}
 use mathlib.Core.List.{List}
 use Prim.Native.Nat.{ℕ}
-use borrow.Author.Rules.{rules}
 use lib.ListN.{take}
 use Rattle.audio.specs.Inner.{put}
 use Rattle.interleaving.proofs.Pieces.{put_back}
@@ -13,4 +12,4 @@ returns c =
     let a = c.args in
     let bytes = a.bytes.now in
     let put-there : List ℕ → List ℕ = λ new. put bytes a.to new in
-    c.copy_bytes-2.ensures ∙ ap (λ (room : List ℕ). put-there (take a.n room)) c.copy_bytes.ensures ∙ ap put-there (put_back a.room.now bytes a.from a.n c.requires.n_in_bounds)
+    c.copy_bytes-2.ensures ∙ ap (λ (room : List ℕ). put-there (take a.n room)) c.copy_bytes.ensures ∙ ap put-there (put_back a.room.now bytes a.from a.n c.requires.from_inside)

@@ -1,10 +1,9 @@
 -- `copy_bytes`: the bytes passed are put.
 use mathlib.Core.Path.{◌≡◌, refl, ap, ◌∙◌}
 use mathlib.Core.List.{List}
-use Prim.Native.Nat.{ℕ, ◌+◌, ◌-◌, ◌≤◌}
+use Prim.Native.Nat.{ℕ, ◌+◌}
 use native.Mathlib.Omega.{arith}
-use borrow.Author.Rules.{rules}
-use lib.ListN.{length, get_or, set, take, drop, length-set}
+use lib.ListN.{get_or, set, take, drop, length-set}
 use Rattle.audio.specs.Inner.{put}
 use Rattle.interleaving.proofs.Pieces.{put_none, put_more}
 use Rattle.interleaving.proofs.moves.copy_bytes.Goals as goal

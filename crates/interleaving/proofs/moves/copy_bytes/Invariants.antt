@@ -1,12 +1,8 @@
 -- `copy_bytes`: the bytes passed are put.
-use mathlib.Core.Path.{◌≡◌, refl, ap, ◌∙◌}
-use mathlib.Core.List.{List}
-use Prim.Native.Nat.{ℕ, ◌+◌, ◌-◌, ◌≤◌}
-use native.Mathlib.Omega.{arith}
-use borrow.Author.Rules.{rules}
-use lib.ListN.{length, get_or, set, take, drop, length-set}
+use mathlib.Core.Path.{◌≡◌}
+use Prim.Native.Nat.{◌-◌, ◌≤◌}
+use lib.ListN.{length, take, drop}
 use Rattle.audio.specs.Inner.{put}
-use Rattle.interleaving.proofs.Pieces.{put_none, put_more}
 use Rattle.interleaving.proofs.moves.copy_bytes.Given as goal
 
 abbrev pub invariant-loop-i : goal.invariant-loop-i

@@ -1,9 +1,8 @@
 -- `move_spaced`: the samples passed are there.
 use mathlib.Core.Path.{◌≡◌, refl, sym, subst, ◌∙◌}
 use mathlib.Core.List.{List}
-use Prim.Native.Nat.{ℕ, ◌+◌, ◌-◌, ◌*◌, ◌≤◌, ◌<◌}
+use Prim.Native.Nat.{ℕ, ◌+◌, ◌*◌, ◌≤◌, ◌<◌}
 use native.Mathlib.Omega.{arith}
-use borrow.Author.Rules.{rules}
 use lib.ListN.{length}
 use Rattle.audio.specs.Format.{sample_bytes}
 use Rattle.audio.proofs.Places.{sample_some}
@@ -18,38 +17,38 @@ loop-k-init c = let a = c.args in (omega arith, refl, spaced_none (sample_bytes 
 pub overflow_mul-k : goal.overflow_mul-k
 overflow_mul-k c =
     let reads_in : (let a = c.args in let k = c.loop-k.k in a.from + k * a.step < length a.source.now) =
-        let a = c.args in
-            let size = sample_bytes a.format in
-            let k = c.loop-k.k in
-            omega (arith, c.requires.by_index k c.loop-k-test.true, no_further size (sample_some a.format) (a.from + k * a.step), sample_some a.format) in
+    let a = c.args in
+    let size = sample_bytes a.format in
+    let k = c.loop-k.k in
+    omega (arith, c.requires.from_inside k c.loop-k-test.true, no_further size (sample_some a.format) (a.from + k * a.step), sample_some a.format) in
     omega (arith, reads_in)
 
 pub overflow_add-from : goal.overflow_add-from
 overflow_add-from c =
     let reads_in : (let a = c.args in let k = c.loop-k.k in a.from + k * a.step < length a.source.now) =
-        let a = c.args in
-            let size = sample_bytes a.format in
-            let k = c.loop-k.k in
-            omega (arith, c.requires.by_index k c.loop-k-test.true, no_further size (sample_some a.format) (a.from + k * a.step), sample_some a.format) in
+    let a = c.args in
+    let size = sample_bytes a.format in
+    let k = c.loop-k.k in
+    omega (arith, c.requires.from_inside k c.loop-k-test.true, no_further size (sample_some a.format) (a.from + k * a.step), sample_some a.format) in
     omega (arith, reads_in)
 
 pub overflow_add-to : goal.overflow_add-to
 overflow_add-to c =
     let stores-in : (let a = c.args in let k = c.loop-k.k in sample_bytes a.format * (a.to + k) + sample_bytes a.format ≤ length a.target.now) =
-        let a = c.args in
-            let k = c.loop-k.k in
-            omega (arith, c.requires.n_in_bounds, ends_before (sample_bytes a.format) {p = a.to + k} {q = a.to + a.n} (omega arith)) in
+    let a = c.args in
+    let k = c.loop-k.k in
+    omega (arith, c.requires.to_inside, ends_before (sample_bytes a.format) {p = a.to + k} {q = a.to + a.n} (omega arith)) in
     let a = c.args in let k = c.loop-k.k in omega (arith, stores-in, no_further (sample_bytes a.format) (sample_some a.format) (a.to + k), sample_some a.format)
 
 pub move_sample-requires : goal.move_sample-requires
 move_sample-requires c =
     let stores-in : (let a = c.args in let k = c.loop-k.k in sample_bytes a.format * (a.to + k) + sample_bytes a.format ≤ length a.target.now) =
-        let a = c.args in
-            let k = c.loop-k.k in
-            omega (arith, c.requires.n_in_bounds, ends_before (sample_bytes a.format) {p = a.to + k} {q = a.to + a.n} (omega arith)) in
+    let a = c.args in
+    let k = c.loop-k.k in
+    omega (arith, c.requires.to_inside, ends_before (sample_bytes a.format) {p = a.to + k} {q = a.to + a.n} (omega arith)) in
     record {
-      format_in_bounds = c.requires.by_index c.loop-k.k c.loop-k-test.true;
-      format_in_bounds_2 = rw c.loop-k.invariant.1 stores-in;
+      from_inside = c.requires.from_inside c.loop-k.k c.loop-k-test.true;
+      to_inside = rw c.loop-k.invariant.1 stores-in;
     }
 
 pub overflow_step-k : goal.overflow_step-k
@@ -61,16 +60,16 @@ loop-k-smaller c = omega arith
 pub loop-k-preserved : goal.loop-k-preserved
 loop-k-preserved c =
     let stores-in : (let a = c.args in let k = c.loop-k.k in sample_bytes a.format * (a.to + k) + sample_bytes a.format ≤ length a.target.now) =
-        let a = c.args in
-            let k = c.loop-k.k in
-            omega (arith, c.requires.n_in_bounds, ends_before (sample_bytes a.format) {p = a.to + k} {q = a.to + a.n} (omega arith)) in
+    let a = c.args in
+    let k = c.loop-k.k in
+    omega (arith, c.requires.to_inside, ends_before (sample_bytes a.format) {p = a.to + k} {q = a.to + a.n} (omega arith)) in
     let a = c.args in
     let k = c.loop-k.k in
     let size = sample_bytes a.format in (
       omega arith,
       c.move_sample.auto.target ∙ c.loop-k.invariant.1,
       subst (λ (v : List ℕ). Spaced size (k + 1) a.from a.step a.source.now a.to a.target.now v) (sym c.move_sample.ensures)
-          (spaced_more size a.from a.step a.source.now a.to a.target.now k c.loop-k.target (rw c.loop-k.invariant.1 stores-in) (c.requires.by_index k c.loop-k-test.true) c.loop-k.invariant.2),
+          (spaced_more size a.from a.step a.source.now a.to a.target.now k c.loop-k.target (rw c.loop-k.invariant.1 stores-in) (c.requires.from_inside k c.loop-k-test.true) c.loop-k.invariant.2),
     )
 
 pub returns : goal.returns

@@ -1,15 +1,9 @@
 -- `move_spaced`: the samples passed are there.
-use mathlib.Core.Path.{◌≡◌, refl, sym, subst, ◌∙◌}
-use mathlib.Core.List.{List}
-use Prim.Native.Nat.{ℕ, ◌+◌, ◌-◌, ◌*◌, ◌≤◌, ◌<◌}
-use native.Mathlib.Omega.{arith}
-use borrow.Author.Rules.{rules}
+use mathlib.Core.Path.{◌≡◌}
+use Prim.Native.Nat.{◌-◌, ◌≤◌}
 use lib.ListN.{length}
 use Rattle.audio.specs.Format.{sample_bytes}
-use Rattle.audio.proofs.Places.{sample_some}
 use Rattle.interleaving.specs.Inner.{Spaced}
-use Rattle.interleaving.proofs.Pieces.{ends_before}
-use Rattle.interleaving.proofs.Spacing.{no_further, spaced_none, spaced_more}
 use Rattle.interleaving.proofs.moves.move_spaced.Given as goal
 
 abbrev pub invariant-loop-k : goal.invariant-loop-k

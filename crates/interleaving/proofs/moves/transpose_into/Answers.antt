@@ -1,10 +1,8 @@
 -- `transpose_into`: the columns passed are there.
 use mathlib.Core.Path.{◌≡◌, refl, subst, ◌∙◌}
-use Prim.Native.Nat.{ℕ, ◌-◌, ◌≤◌}
+use Prim.Native.Nat.{ℕ}
 use native.Mathlib.Nat.{mul_comm}
 use native.Mathlib.Omega.{arith}
-use borrow.Author.Rules.{rules}
-use lib.ListN.{length}
 use Rattle.audio.specs.Format.{sample_bytes}
 use Rattle.audio.proofs.Carry.{places-end}
 use Rattle.interleaving.proofs.Spacing.{ColumnsDone, columns_more, column_from, column_to}
@@ -16,7 +14,7 @@ loop-c-init c = (omega arith, refl, λ r d h g. absurd (omega (arith, g)))
 pub overflow_mul-c : goal.overflow_mul-c
 overflow_mul-c c =
     let a = c.args in
-    omega (arith, c.requires.columns_bound, places-end c.loop-c.c a.columns a.rows c.loop-c-test.true, mul_comm a.rows a.columns)
+    omega (arith, c.requires.table_small, places-end c.loop-c.c a.columns a.rows c.loop-c-test.true, mul_comm a.rows a.columns)
 
 pub move_spaced-requires : goal.move_spaced-requires
 move_spaced-requires c =
@@ -25,8 +23,8 @@ move_spaced-requires c =
     let size = sample_bytes a.format in
     let h = c.loop-c-test.true in
     record {
-      by_index = λ k g. omega (arith, column_from size a.rows a.columns a.source.now l.c k h g, c.requires.columns_in_bounds);
-      n_in_bounds = omega (arith, column_to size a.rows a.columns a.source.now l.c h, c.requires.columns_in_bounds_2, l.invariant.1);
+      from_inside = λ k g. omega (arith, column_from size a.rows a.columns a.source.now l.c k h g, c.requires.source_holds);
+      to_inside = omega (arith, column_to size a.rows a.columns a.source.now l.c h, c.requires.target_holds, l.invariant.1);
     }
 
 pub overflow_step-c : goal.overflow_step-c

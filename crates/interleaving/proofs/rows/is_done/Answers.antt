@@ -1,6 +1,5 @@
 -- `is_done`: the bit, as it is defined.
 use mathlib.Core.Path.{refl}
-use borrow.Author.Rules.{rules}
 use Rattle.interleaving.specs.Inner.{bit_at}
 use Rattle.interleaving.proofs.rows.is_done.Goals as goal
 

@@ -1,24 +1,21 @@
 -- `transpose_rows`: the cycle of each place in turn.
-use mathlib.Core.Path.{◌≡◌, refl, ◌∙◌}
-use Prim.Native.Nat.{◌-◌, ◌≤◌}
+use mathlib.Core.Path.{refl, ◌∙◌}
 use native.Mathlib.Omega.{arith}
-use borrow.Author.Rules.{rules}
-use lib.ListN.{length}
-use Rattle.interleaving.proofs.Cycles.{Turning, turning_none, turning_more, turning_done}
+use Rattle.interleaving.proofs.Cycles.{turning_none, turning_more, turning_done}
 use Rattle.interleaving.proofs.rows.transpose_rows.Goals as goal
 
 pub loop-start-init : goal.loop-start-init
 loop-start-init c =
-    (omega arith, refl, c.requires.room_len, c.requires.kept_len, c.requires.done_len, turning_none c.requires.by_index)
+    (omega arith, refl, c.requires.room_len, c.requires.kept_len, c.requires.done_len, turning_none c.requires.clear)
 
 pub walk-requires : goal.walk-requires
 walk-requires c =
     let i = c.loop-start.invariant in
     record {
       size_bound = c.requires.size_bound;
-      columns_bound = c.requires.columns_bound;
-      start_bound = omega arith;
-      columns_in_bounds = omega (arith, i.1, c.requires.columns_in_bounds);
+      table_small = c.requires.table_small;
+      start_inside = omega arith;
+      rows_inside = omega (arith, i.1, c.requires.rows_inside);
       room_len = i.2;
       kept_len = i.3;
       done_len = i.4;

@@ -1,10 +1,8 @@
 -- `transpose_rows`: the cycle of each place in turn.
-use mathlib.Core.Path.{◌≡◌, refl, ◌∙◌}
+use mathlib.Core.Path.{◌≡◌}
 use Prim.Native.Nat.{◌-◌, ◌≤◌}
-use native.Mathlib.Omega.{arith}
-use borrow.Author.Rules.{rules}
 use lib.ListN.{length}
-use Rattle.interleaving.proofs.Cycles.{Turning, turning_none, turning_more, turning_done}
+use Rattle.interleaving.proofs.Cycles.{Turning}
 use Rattle.interleaving.proofs.rows.transpose_rows.Given as goal
 
 abbrev pub invariant-loop-start : goal.invariant-loop-start

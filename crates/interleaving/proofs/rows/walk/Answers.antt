@@ -4,10 +4,9 @@ use mathlib.Core.Path.{◌≡◌, sym, ◌∙◌}
 use Prim.Native.Nat.{◌+◌, ◌*◌, ◌≤◌}
 use native.Mathlib.Nat.{le_trans}
 use native.Mathlib.Omega.{arith}
-use borrow.Author.Rules.{rules}
 use lib.ListN.{length}
 use Rattle.interleaving.specs.Inner.{bit_at}
-use Rattle.interleaving.proofs.Cycles.{Walking, clear, walk_starts, next_inside, rows_inside, next_open, walk_goes, walk_ends, no_walk, fewer_clear}
+use Rattle.interleaving.proofs.Cycles.{walk_starts, next_inside, rows_inside, next_open, walk_goes, walk_ends, no_walk, fewer_clear}
 use Rattle.interleaving.proofs.Pieces.{ends_before}
 use Rattle.interleaving.proofs.rows.walk.Goals as goal
 
@@ -17,32 +16,32 @@ returns-then-is_done c = no_walk c.requires.closed (sym c.is_done.ensures ∙ c.
 pub overflow_mul-size : goal.overflow_mul-size
 overflow_mul-size c =
     let row_inside : (let a = c.args in a.size * a.start + a.size ≤ length a.bytes.now) =
-        le_trans (ends_before c.args.size c.requires.start_bound) c.requires.columns_in_bounds in
+    le_trans (ends_before c.args.size c.requires.start_inside) c.requires.rows_inside in
     omega (arith, row_inside)
 
 pub copy_bytes-requires : goal.copy_bytes-requires
 copy_bytes-requires c =
     let row_inside : (let a = c.args in a.size * a.start + a.size ≤ length a.bytes.now) =
-        le_trans (ends_before c.args.size c.requires.start_bound) c.requires.columns_in_bounds in
+    le_trans (ends_before c.args.size c.requires.start_inside) c.requires.rows_inside in
     record {
-      n_in_bounds = row_inside;
-      n_in_bounds_2 = omega arith;
+      from_inside = row_inside;
+      to_inside = omega arith;
     }
 
 pub mark-requires : goal.mark-requires
 mark-requires c =
     let fresh : bit_at c.args.done.now c.args.start ≡ false =
-        sym c.is_done.ensures ∙ c.if-is_done.false in
+    sym c.is_done.ensures ∙ c.if-is_done.false in
     record {
-      k_bound = omega arith;
-      k_value = fresh;
+      inside = omega arith;
+      fresh = fresh;
     }
 
 pub loop-from-init : goal.loop-from-init
 loop-from-init c =
     let fresh : bit_at c.args.done.now c.args.start ≡ false =
-        sym c.is_done.ensures ∙ c.if-is_done.false in
-    (c.requires.room_len, c.mark.auto.done ∙ c.requires.done_len, walk_starts c.args.done.now c.requires.columns_in_bounds c.requires.start_bound c.requires.closed fresh c.mark.ensures c.source_of-from.ensures)
+    sym c.is_done.ensures ∙ c.if-is_done.false in
+    (c.requires.room_len, c.mark.auto.done ∙ c.requires.done_len, walk_starts c.args.done.now c.requires.rows_inside c.requires.start_inside c.requires.closed fresh c.mark.ensures c.source_of-from.ensures)
 
 pub overflow_mul-size-in-loop-from : goal.overflow_mul-size-in-loop-from
 overflow_mul-size-in-loop-from c = omega (arith, rows_inside c.loop-from.invariant.2)
@@ -52,24 +51,24 @@ overflow_mul-size-in-loop-from-2 c = omega (arith, rows_inside c.loop-from.invar
 
 pub carry-requires : goal.carry-requires
 carry-requires c = let i = c.loop-from.invariant in let r = rows_inside i.2 in record {
-      n_in_bounds = r.1;
-      n_in_bounds_2 = r.0;
-      n_in_bounds_3 = omega (arith, i.0);
-    }
+  from_inside = r.1;
+  to_inside = r.0;
+  room_enough = omega (arith, i.0);
+}
 
 pub mark-requires-in-loop-from : goal.mark-requires-in-loop-from
 mark-requires-in-loop-from c =
     let i = c.loop-from.invariant in
     record {
-      k_bound = omega (arith, next_inside i.2, i.1, c.requires.columns_bound);
-      k_value = next_open i.2 c.loop-from-test.true;
+      inside = omega (arith, next_inside i.2, i.1, c.requires.table_small);
+      fresh = next_open i.2 c.loop-from-test.true;
     }
 
 pub source_of-from-requires-in-loop-from : goal.source_of-from-requires-in-loop-from
 source_of-from-requires-in-loop-from c =
     record {
-      columns_bound = c.requires.columns_bound;
-      at_bound = next_inside c.loop-from.invariant.2;
+      table_small = c.requires.table_small;
+      at_inside = next_inside c.loop-from.invariant.2;
     }
 
 pub loop-from-smaller : goal.loop-from-smaller
@@ -88,8 +87,8 @@ overflow_mul-size-2 c = omega (arith, rows_inside c.loop-from.invariant.2)
 pub copy_bytes-requires-2 : goal.copy_bytes-requires-2
 copy_bytes-requires-2 c =
     record {
-      n_in_bounds = omega (arith, c.copy_bytes.auto.target, c.requires.size_bound, c.requires.kept_len);
-      n_in_bounds_2 = (rows_inside c.loop-from.invariant.2).0;
+      from_inside = omega (arith, c.copy_bytes.auto.target, c.requires.size_bound, c.requires.kept_len);
+      to_inside = (rows_inside c.loop-from.invariant.2).0;
     }
 
 pub shape_of-bytes : goal.shape_of-bytes
@@ -101,5 +100,5 @@ shape_of-done c = omega (arith, c.loop-from.invariant.1, c.requires.done_len)
 pub returns : goal.returns
 returns c =
     let fresh : bit_at c.args.done.now c.args.start ≡ false =
-        sym c.is_done.ensures ∙ c.if-is_done.false in
+    sym c.is_done.ensures ∙ c.if-is_done.false in
     walk_ends c.loop-from.invariant.2 c.args.kept.now c.loop-from-test.false c.copy_bytes.ensures c.copy_bytes-2.ensures fresh c.mark.ensures

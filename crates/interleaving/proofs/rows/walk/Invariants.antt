@@ -1,14 +1,8 @@
 -- `walk`: each turn fills the place whose row was taken last, and takes the row that comes to it.
-use mathlib.Core.Bool.{false}
-use mathlib.Core.Path.{◌≡◌, sym, ◌∙◌}
-use Prim.Native.Nat.{◌+◌, ◌*◌, ◌≤◌}
-use native.Mathlib.Nat.{le_trans}
-use native.Mathlib.Omega.{arith}
-use borrow.Author.Rules.{rules}
+use mathlib.Core.Path.{◌≡◌}
+use Prim.Native.Nat.{◌*◌}
 use lib.ListN.{length}
-use Rattle.interleaving.specs.Inner.{bit_at}
-use Rattle.interleaving.proofs.Cycles.{Walking, clear, walk_starts, next_inside, rows_inside, next_open, walk_goes, walk_ends, no_walk, fewer_clear}
-use Rattle.interleaving.proofs.Pieces.{ends_before}
+use Rattle.interleaving.proofs.Cycles.{Walking, clear}
 use Rattle.interleaving.proofs.rows.walk.Given as goal
 
 abbrev pub invariant-loop-from : goal.invariant-loop-from

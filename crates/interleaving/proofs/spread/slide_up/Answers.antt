@@ -2,13 +2,11 @@
 use mathlib.Core.Path.{◌≡◌, refl, ◌∙◌}
 use Prim.Native.Nat.{◌+◌, ◌-◌, ◌*◌, ◌≤◌, ◌<◌}
 use native.Mathlib.Omega.{arith}
-use borrow.Author.Rules.{rules}
-use lib.ListN.{length}
-use Rattle.interleaving.proofs.Sliding.{Up, up_none, up_step, up_done, rows_all}
+use Rattle.interleaving.proofs.Sliding.{up_none, up_step, up_done, rows_all}
 use Rattle.interleaving.proofs.spread.slide_up.Goals as goal
 
 pub loop-i-init : goal.loop-i-init
-loop-i-init c = let a = c.args in (omega arith, refl, refl, up_none a.bytes.now a.size a.from a.to a.n c.requires.size_in_bounds)
+loop-i-init c = let a = c.args in (omega arith, refl, refl, up_none a.bytes.now a.size a.from a.to a.n c.requires.to_inside)
 
 pub overflow_sub-at : goal.overflow_sub-at
 overflow_sub-at c = omega arith
@@ -19,31 +17,31 @@ overflow_sub-at-in-loop-i c = omega arith
 pub overflow_mul-at : goal.overflow_mul-at
 overflow_mul-at c =
     let inside : (let a = c.args in c.loop-i.i < a.n → (a.n - 1 - c.loop-i.i) * a.size + a.size ≤ a.n * a.size) =
-        λ h. let a = c.args in omega (arith, rows_all a.bytes.now a.size a.from a.to a.n c.loop-i.i c.loop-i-test.true) in
-    omega (arith, inside c.loop-i-test.true, c.requires.from_le_to, c.requires.size_in_bounds)
+    λ h. let a = c.args in omega (arith, rows_all a.bytes.now a.size a.from a.to a.n c.loop-i.i c.loop-i-test.true) in
+    omega (arith, inside c.loop-i-test.true, c.requires.from_le_to, c.requires.to_inside)
 
 pub overflow_add-from : goal.overflow_add-from
 overflow_add-from c =
     let inside : (let a = c.args in c.loop-i.i < a.n → (a.n - 1 - c.loop-i.i) * a.size + a.size ≤ a.n * a.size) =
-        λ h. let a = c.args in omega (arith, rows_all a.bytes.now a.size a.from a.to a.n c.loop-i.i c.loop-i-test.true) in
-    omega (arith, inside c.loop-i-test.true, c.requires.from_le_to, c.requires.size_in_bounds)
+    λ h. let a = c.args in omega (arith, rows_all a.bytes.now a.size a.from a.to a.n c.loop-i.i c.loop-i-test.true) in
+    omega (arith, inside c.loop-i-test.true, c.requires.from_le_to, c.requires.to_inside)
 
 pub overflow_add-to : goal.overflow_add-to
 overflow_add-to c =
     let inside : (let a = c.args in c.loop-i.i < a.n → (a.n - 1 - c.loop-i.i) * a.size + a.size ≤ a.n * a.size) =
-        λ h. let a = c.args in omega (arith, rows_all a.bytes.now a.size a.from a.to a.n c.loop-i.i c.loop-i-test.true) in
-    omega (arith, inside c.loop-i-test.true, c.requires.from_le_to, c.requires.size_in_bounds)
+    λ h. let a = c.args in omega (arith, rows_all a.bytes.now a.size a.from a.to a.n c.loop-i.i c.loop-i-test.true) in
+    omega (arith, inside c.loop-i-test.true, c.requires.from_le_to, c.requires.to_inside)
 
 pub carry-requires : goal.carry-requires
 carry-requires c =
     let inside : (let a = c.args in c.loop-i.i < a.n → (a.n - 1 - c.loop-i.i) * a.size + a.size ≤ a.n * a.size) =
-        λ h. let a = c.args in omega (arith, rows_all a.bytes.now a.size a.from a.to a.n c.loop-i.i c.loop-i-test.true) in
+    λ h. let a = c.args in omega (arith, rows_all a.bytes.now a.size a.from a.to a.n c.loop-i.i c.loop-i-test.true) in
     let l = c.loop-i in
     let i = inside c.loop-i-test.true in
     record {
-      n_in_bounds = omega (arith, i, c.requires.from_le_to, c.requires.size_in_bounds, l.invariant.1);
-      n_in_bounds_2 = omega (arith, i, c.requires.from_le_to, c.requires.size_in_bounds, l.invariant.1);
-      n_in_bounds_3 = omega (arith, c.requires.size_in_bounds_2, l.invariant.2);
+      from_inside = omega (arith, i, c.requires.from_le_to, c.requires.to_inside, l.invariant.1);
+      to_inside = omega (arith, i, c.requires.from_le_to, c.requires.to_inside, l.invariant.1);
+      room_enough = omega (arith, c.requires.room_enough, l.invariant.2);
     }
 
 pub overflow_step-i : goal.overflow_step-i
@@ -58,7 +56,7 @@ loop-i-preserved c =
       omega arith,
       c.carry.auto.bytes ∙ c.loop-i.invariant.1,
       c.carry.auto.room ∙ c.loop-i.invariant.2,
-      c.carry.ensures ∙ up_step a.bytes.now a.size a.from a.to a.n c.loop-i.i c.loop-i.bytes c.loop-i-test.true c.requires.from_le_to c.requires.size_in_bounds c.loop-i.invariant.3,
+      c.carry.ensures ∙ up_step a.bytes.now a.size a.from a.to a.n c.loop-i.i c.loop-i.bytes c.loop-i-test.true c.requires.from_le_to c.requires.to_inside c.loop-i.invariant.3,
     )
 
 pub returns : goal.returns

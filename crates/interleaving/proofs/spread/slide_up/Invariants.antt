@@ -1,10 +1,8 @@
 -- `slide_up`: the rows passed are there.
-use mathlib.Core.Path.{◌≡◌, refl, ◌∙◌}
-use Prim.Native.Nat.{◌+◌, ◌-◌, ◌*◌, ◌≤◌, ◌<◌}
-use native.Mathlib.Omega.{arith}
-use borrow.Author.Rules.{rules}
+use mathlib.Core.Path.{◌≡◌}
+use Prim.Native.Nat.{◌-◌, ◌≤◌}
 use lib.ListN.{length}
-use Rattle.interleaving.proofs.Sliding.{Up, up_none, up_step, up_done, rows_all}
+use Rattle.interleaving.proofs.Sliding.{Up}
 use Rattle.interleaving.proofs.spread.slide_up.Given as goal
 
 abbrev pub invariant-loop-i : goal.invariant-loop-i

@@ -1,13 +1,9 @@
 -- `spread`: the channels passed, from the last down, are together.
-use mathlib.Core.Path.{◌≡◌, refl, sym, ap, subst, ◌∙◌}
-use Prim.Native.Nat.{ℕ, ◌+◌, ◌-◌, ◌*◌, ◌≤◌}
-use native.Mathlib.Omega.{arith}
-use borrow.Author.Rules.{rules}
+use mathlib.Core.Path.{◌≡◌}
+use Prim.Native.Nat.{◌-◌, ◌*◌, ◌≤◌}
 use lib.ListN.{length}
 use Rattle.audio.specs.Format.{sample_bytes}
-use Rattle.audio.specs.Inner.{put}
-use Rattle.interleaving.specs.Inner.{run, Lengths}
-use Rattle.interleaving.proofs.Spreading.{Sums, sums, Kept, kept_of, Spreading, spread_nothing, spreading_none, spreading_more, spread_all}
+use Rattle.interleaving.proofs.Spreading.{Kept, Spreading}
 use Rattle.interleaving.proofs.spread.spread.Given as goal
 
 abbrev pub invariant-loop-i : goal.invariant-loop-i

@@ -3,7 +3,6 @@ use mathlib.Core.Path.{ap, ◌∙◌}
 use mathlib.Core.List.{List}
 use Prim.Native.Nat.{ℕ, ◌+◌, ◌*◌}
 use native.Mathlib.Omega.{arith}
-use borrow.Author.Rules.{rules}
 use Rattle.audio.specs.Format.{sample_bytes}
 use Rattle.interleaving.specs.Inner.{piece}
 use Rattle.interleaving.proofs.Pieces.{ends_before}
@@ -14,8 +13,8 @@ pub copy_bytes-requires : goal.copy_bytes-requires
 copy_bytes-requires c =
     let a = c.args in
     record {
-      n_in_bounds = omega arith;
-      n_in_bounds_2 = omega (arith, table_fits a.format (a.rows * a.columns) c.requires.columns_bound, c.requires.tile_len, c.requires.room_len);
+      from_inside = omega arith;
+      to_inside = omega (arith, table_fits a.format (a.rows * a.columns) c.requires.table_small, c.requires.tile_len, c.requires.room_len);
     }
 
 pub transpose_into-requires : goal.transpose_into-requires
@@ -23,9 +22,9 @@ transpose_into-requires c =
     let a = c.args in
     let room-kept = c.copy_bytes.auto.target in
     record {
-      columns_bound = c.requires.columns_bound;
-      columns_in_bounds = omega (arith, table_fits a.format (a.rows * a.columns) c.requires.columns_bound, c.requires.room_len, room-kept);
-      columns_in_bounds_2 = omega (arith, c.requires.tile_len);
+      table_small = c.requires.table_small;
+      source_holds = omega (arith, table_fits a.format (a.rows * a.columns) c.requires.table_small, c.requires.room_len, room-kept);
+      target_holds = omega (arith, c.requires.tile_len);
     }
 
 pub returns : goal.returns

@@ -2,7 +2,6 @@
 use mathlib.Core.Path.{◌≡◌, refl, ap, subst, ◌∙◌}
 use Prim.Native.Nat.{ℕ, ◌+◌, ◌-◌, ◌*◌, ◌≤◌}
 use native.Mathlib.Omega.{arith}
-use borrow.Author.Rules.{rules}
 use lib.ListN.{length, take, drop}
 use Rattle.audio.specs.Format.{sample_bytes}
 use Rattle.audio.proofs.Carry.{places-end}
@@ -17,13 +16,13 @@ loop-t-init c = let a = c.args in (omega arith, refl, c.requires.room_len, tiles
 pub overflow_mul-at : goal.overflow_mul-at
 overflow_mul-at c =
     let inside : (let a = c.args in c.loop-t.t * a.size + a.size ≤ length a.bytes.now) =
-        let a = c.args in omega (arith, places-end c.loop-t.t a.tiles a.size c.loop-t-test.true, c.requires.size_in_bounds) in
+    let a = c.args in omega (arith, places-end c.loop-t.t a.tiles a.size c.loop-t-test.true, c.requires.tiles_inside) in
     omega (arith, inside)
 
 pub overflow_add-at : goal.overflow_add-at
 overflow_add-at c =
     let inside : (let a = c.args in c.loop-t.t * a.size + a.size ≤ length a.bytes.now) =
-        let a = c.args in omega (arith, places-end c.loop-t.t a.tiles a.size c.loop-t-test.true, c.requires.size_in_bounds) in
+    let a = c.args in omega (arith, places-end c.loop-t.t a.tiles a.size c.loop-t-test.true, c.requires.tiles_inside) in
     omega (arith, inside)
 
 pub slice_bounds-transpose_tile-count : goal.slice_bounds-transpose_tile-count
@@ -32,26 +31,26 @@ slice_bounds-transpose_tile-count c = omega arith
 pub slice_bounds-transpose_tile-start : goal.slice_bounds-transpose_tile-start
 slice_bounds-transpose_tile-start c =
     let inside : (let a = c.args in c.loop-t.t * a.size + a.size ≤ length a.bytes.now) =
-        let a = c.args in omega (arith, places-end c.loop-t.t a.tiles a.size c.loop-t-test.true, c.requires.size_in_bounds) in
+    let a = c.args in omega (arith, places-end c.loop-t.t a.tiles a.size c.loop-t-test.true, c.requires.tiles_inside) in
     omega (arith, inside, c.loop-t.invariant.1)
 
 pub slice_bounds-transpose_tile-end : goal.slice_bounds-transpose_tile-end
 slice_bounds-transpose_tile-end c =
     let inside : (let a = c.args in c.loop-t.t * a.size + a.size ≤ length a.bytes.now) =
-        let a = c.args in omega (arith, places-end c.loop-t.t a.tiles a.size c.loop-t-test.true, c.requires.size_in_bounds) in
+    let a = c.args in omega (arith, places-end c.loop-t.t a.tiles a.size c.loop-t-test.true, c.requires.tiles_inside) in
     omega (arith, inside, c.loop-t.invariant.1)
 
 pub transpose_tile-requires : goal.transpose_tile-requires
 transpose_tile-requires c =
     let inside : (let a = c.args in c.loop-t.t * a.size + a.size ≤ length a.bytes.now) =
-        let a = c.args in omega (arith, places-end c.loop-t.t a.tiles a.size c.loop-t-test.true, c.requires.size_in_bounds) in
+    let a = c.args in omega (arith, places-end c.loop-t.t a.tiles a.size c.loop-t-test.true, c.requires.tiles_inside) in
     let l = c.loop-t in
     let a = c.args in
     let at = l.t * a.size in
     let w : at + a.size - at ≡ a.size = omega arith in
     let room : at + a.size ≤ length l.bytes = omega (arith, inside, l.invariant.1) in
     record {
-      columns_bound = c.requires.columns_bound;
+      table_small = c.requires.table_small;
       tile_len = ap (λ (m : ℕ). length (take m (drop at l.bytes))) w ∙ part_length l.bytes at a.size room ∙ c.requires.size_value;
       room_len = l.invariant.2;
     }
@@ -65,7 +64,7 @@ loop-t-smaller c = omega arith
 pub loop-t-preserved : goal.loop-t-preserved
 loop-t-preserved c =
     let inside : (let a = c.args in c.loop-t.t * a.size + a.size ≤ length a.bytes.now) =
-        let a = c.args in omega (arith, places-end c.loop-t.t a.tiles a.size c.loop-t-test.true, c.requires.size_in_bounds) in
+    let a = c.args in omega (arith, places-end c.loop-t.t a.tiles a.size c.loop-t-test.true, c.requires.tiles_inside) in
     let a = c.args in
     let at = c.loop-t.t * a.size in
     let w : at + a.size - at ≡ a.size = omega arith in

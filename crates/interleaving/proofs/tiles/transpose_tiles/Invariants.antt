@@ -1,14 +1,9 @@
 -- `transpose_tiles`: the tiles passed are transposed.
-use mathlib.Core.Path.{◌≡◌, refl, ap, subst, ◌∙◌}
-use Prim.Native.Nat.{ℕ, ◌+◌, ◌-◌, ◌*◌, ◌≤◌}
-use native.Mathlib.Omega.{arith}
-use borrow.Author.Rules.{rules}
-use lib.ListN.{length, take, drop}
+use mathlib.Core.Path.{◌≡◌}
+use Prim.Native.Nat.{◌-◌, ◌≤◌}
+use lib.ListN.{length}
 use Rattle.audio.specs.Format.{sample_bytes}
-use Rattle.audio.proofs.Carry.{places-end}
 use Rattle.interleaving.specs.Inner.{TransposedEach}
-use Rattle.interleaving.proofs.Pieces.{part_length}
-use Rattle.interleaving.proofs.Tiling.{tiles_none, lent_more}
 use Rattle.interleaving.proofs.tiles.transpose_tiles.Given as goal
 
 abbrev pub invariant-loop-t : goal.invariant-loop-t

@@ -31,7 +31,7 @@ overflow_add-head c =
     keeping_at c.args.self c.args.marks.now c.args.minima.now in
     let front : (c.drop_front-front.result.head < c.args.self.look + 1) × (c.drop_front-front.result.len ≤ c.args.self.look) × (c.drop_front-front.result.len ≤ c.args.self.len) =
     front_fits kept c.args.gain c.requires c.unit_gain-rg.result c.unit_gain-rg.ensures c.drop_back-back.result c.drop_back-back.ensures
-    c.drop_front-front.result.head c.drop_front-front.result.len c.drop_front-front.ensures.len_value c.drop_front-front.ensures.len_le_len.1 in
+    c.drop_front-front.result.head c.drop_front-front.result.len c.drop_front-front.ensures.ring_left c.drop_front-front.ensures.places.1 in
     let f = front in
     omega (arith, f.0, f.1, c.requires.marks_fit, c.well_formed.1.0.0)
 
@@ -41,7 +41,7 @@ offset_bounds-marks-place c =
     keeping_at c.args.self c.args.marks.now c.args.minima.now in
     let front : (c.drop_front-front.result.head < c.args.self.look + 1) × (c.drop_front-front.result.len ≤ c.args.self.look) × (c.drop_front-front.result.len ≤ c.args.self.len) =
     front_fits kept c.args.gain c.requires c.unit_gain-rg.result c.unit_gain-rg.ensures c.drop_back-back.result c.drop_back-back.ensures
-    c.drop_front-front.result.head c.drop_front-front.result.len c.drop_front-front.ensures.len_value c.drop_front-front.ensures.len_le_len.1 in
+    c.drop_front-front.result.head c.drop_front-front.result.len c.drop_front-front.ensures.ring_left c.drop_front-front.ensures.places.1 in
     let place : c.wrap-place.result < c.args.self.look + 1 =
     let f = front in
     let k = wrap_below (c.args.self.look + 1) (c.drop_front-front.result.head + c.drop_front-front.result.len) (omega (arith, f.0, f.1)) in
@@ -54,7 +54,7 @@ bounds-marks-place c =
     keeping_at c.args.self c.args.marks.now c.args.minima.now in
     let front : (c.drop_front-front.result.head < c.args.self.look + 1) × (c.drop_front-front.result.len ≤ c.args.self.look) × (c.drop_front-front.result.len ≤ c.args.self.len) =
     front_fits kept c.args.gain c.requires c.unit_gain-rg.result c.unit_gain-rg.ensures c.drop_back-back.result c.drop_back-back.ensures
-    c.drop_front-front.result.head c.drop_front-front.result.len c.drop_front-front.ensures.len_value c.drop_front-front.ensures.len_le_len.1 in
+    c.drop_front-front.result.head c.drop_front-front.result.len c.drop_front-front.ensures.ring_left c.drop_front-front.ensures.places.1 in
     let place : c.wrap-place.result < c.args.self.look + 1 =
     let f = front in
     let k = wrap_below (c.args.self.look + 1) (c.drop_front-front.result.head + c.drop_front-front.result.len) (omega (arith, f.0, f.1)) in
@@ -67,7 +67,7 @@ offset_bounds-minima-place c =
     keeping_at c.args.self c.args.marks.now c.args.minima.now in
     let front : (c.drop_front-front.result.head < c.args.self.look + 1) × (c.drop_front-front.result.len ≤ c.args.self.look) × (c.drop_front-front.result.len ≤ c.args.self.len) =
     front_fits kept c.args.gain c.requires c.unit_gain-rg.result c.unit_gain-rg.ensures c.drop_back-back.result c.drop_back-back.ensures
-    c.drop_front-front.result.head c.drop_front-front.result.len c.drop_front-front.ensures.len_value c.drop_front-front.ensures.len_le_len.1 in
+    c.drop_front-front.result.head c.drop_front-front.result.len c.drop_front-front.ensures.ring_left c.drop_front-front.ensures.places.1 in
     let place : c.wrap-place.result < c.args.self.look + 1 =
     let f = front in
     let k = wrap_below (c.args.self.look + 1) (c.drop_front-front.result.head + c.drop_front-front.result.len) (omega (arith, f.0, f.1)) in
@@ -80,7 +80,7 @@ bounds-minima-place c =
     keeping_at c.args.self c.args.marks.now c.args.minima.now in
     let front : (c.drop_front-front.result.head < c.args.self.look + 1) × (c.drop_front-front.result.len ≤ c.args.self.look) × (c.drop_front-front.result.len ≤ c.args.self.len) =
     front_fits kept c.args.gain c.requires c.unit_gain-rg.result c.unit_gain-rg.ensures c.drop_back-back.result c.drop_back-back.ensures
-    c.drop_front-front.result.head c.drop_front-front.result.len c.drop_front-front.ensures.len_value c.drop_front-front.ensures.len_le_len.1 in
+    c.drop_front-front.result.head c.drop_front-front.result.len c.drop_front-front.ensures.ring_left c.drop_front-front.ensures.places.1 in
     let place : c.wrap-place.result < c.args.self.look + 1 =
     let f = front in
     let k = wrap_below (c.args.self.look + 1) (c.drop_front-front.result.head + c.drop_front-front.result.len) (omega (arith, f.0, f.1)) in
@@ -93,7 +93,7 @@ offset_bounds-minima-head c =
     keeping_at c.args.self c.args.marks.now c.args.minima.now in
     let front : (c.drop_front-front.result.head < c.args.self.look + 1) × (c.drop_front-front.result.len ≤ c.args.self.look) × (c.drop_front-front.result.len ≤ c.args.self.len) =
     front_fits kept c.args.gain c.requires c.unit_gain-rg.result c.unit_gain-rg.ensures c.drop_back-back.result c.drop_back-back.ensures
-    c.drop_front-front.result.head c.drop_front-front.result.len c.drop_front-front.ensures.len_value c.drop_front-front.ensures.len_le_len.1 in
+    c.drop_front-front.result.head c.drop_front-front.result.len c.drop_front-front.ensures.ring_left c.drop_front-front.ensures.places.1 in
     omega (arith, front.0, c.requires.minima_fit, c.well_formed.1.1.0.1)
 
 pub bounds-minima-head : goal.bounds-minima-head
@@ -102,7 +102,7 @@ bounds-minima-head c =
     keeping_at c.args.self c.args.marks.now c.args.minima.now in
     let front : (c.drop_front-front.result.head < c.args.self.look + 1) × (c.drop_front-front.result.len ≤ c.args.self.look) × (c.drop_front-front.result.len ≤ c.args.self.len) =
     front_fits kept c.args.gain c.requires c.unit_gain-rg.result c.unit_gain-rg.ensures c.drop_back-back.result c.drop_back-back.ensures
-    c.drop_front-front.result.head c.drop_front-front.result.len c.drop_front-front.ensures.len_value c.drop_front-front.ensures.len_le_len.1 in
+    c.drop_front-front.result.head c.drop_front-front.result.len c.drop_front-front.ensures.ring_left c.drop_front-front.ensures.places.1 in
     simp length-set (omega (arith, front.0, c.requires.minima_fit))
 
 pub overflow_sub-result : goal.overflow_sub-result
@@ -113,7 +113,7 @@ overflow_sub-result c =
     back_fits kept c.args.gain c.requires c.unit_gain-rg.result c.unit_gain-rg.ensures c.drop_back-back.result c.drop_back-back.ensures in
     let front : (c.drop_front-front.result.head < c.args.self.look + 1) × (c.drop_front-front.result.len ≤ c.args.self.look) × (c.drop_front-front.result.len ≤ c.args.self.len) =
     front_fits kept c.args.gain c.requires c.unit_gain-rg.result c.unit_gain-rg.ensures c.drop_back-back.result c.drop_back-back.ensures
-    c.drop_front-front.result.head c.drop_front-front.result.len c.drop_front-front.ensures.len_value c.drop_front-front.ensures.len_le_len.1 in
+    c.drop_front-front.result.head c.drop_front-front.result.len c.drop_front-front.ensures.ring_left c.drop_front-front.ensures.places.1 in
     omega (arith, front.2, backs.1)
 
 pub overflow_add-result : goal.overflow_add-result
@@ -122,7 +122,7 @@ overflow_add-result c =
     keeping_at c.args.self c.args.marks.now c.args.minima.now in
     let front : (c.drop_front-front.result.head < c.args.self.look + 1) × (c.drop_front-front.result.len ≤ c.args.self.look) × (c.drop_front-front.result.len ≤ c.args.self.len) =
     front_fits kept c.args.gain c.requires c.unit_gain-rg.result c.unit_gain-rg.ensures c.drop_back-back.result c.drop_back-back.ensures
-    c.drop_front-front.result.head c.drop_front-front.result.len c.drop_front-front.ensures.len_value c.drop_front-front.ensures.len_le_len.1 in
+    c.drop_front-front.result.head c.drop_front-front.result.len c.drop_front-front.ensures.ring_left c.drop_front-front.ensures.places.1 in
     omega (arith, front.1, c.requires.marks_fit, c.well_formed.1.0.0)
 
 pub overflow_add-result-2 : goal.overflow_add-result-2
@@ -133,4 +133,4 @@ returns c =
     let kept : Keeping =
     keeping_at c.args.self c.args.marks.now c.args.minima.now in
     step_done kept c.args.gain c.requires c.unit_gain-rg.result c.unit_gain-rg.ensures c.drop_back-back.result c.drop_back-back.ensures
-    c.drop_front-front.result.head c.drop_front-front.result.len c.drop_front-front.ensures.len_value c.drop_front-front.ensures.len_le_len.1 c.wrap-place.result c.wrap-place.ensures
+    c.drop_front-front.result.head c.drop_front-front.result.len c.drop_front-front.ensures.ring_left c.drop_front-front.ensures.places.1 c.wrap-place.result c.wrap-place.ensures

@@ -43,8 +43,8 @@ returns-then-marks-at c =
     let a = c.args in
     let l = c.loop-left in
     let first : a.frame - a.look ≤ get_or a.marks.now l.at 0 = omega (arith, c.if-marks-at.true, c.since-first.ensures) in record {
-      len_value = λ minima. sym (front_done a.look a.marks.now l.at l.left a.frame place c.loop-left-test.true (omega arith) first minima) ∙ l.invariant.2 minima;
-      len_le_len = (l.invariant.0, l.invariant.1);
+      ring_left = λ minima. sym (front_done a.look a.marks.now l.at l.left a.frame place c.loop-left-test.true (omega arith) first minima) ∙ l.invariant.2 minima;
+      places = (l.invariant.0, l.invariant.1);
     }
 
 pub overflow_add-at : goal.overflow_add-at
@@ -83,6 +83,6 @@ returns c =
     let a = c.args in
     let l = c.loop-left in
     record {
-      len_value = λ minima. front_none (a.look + 1) a.look a.frame a.marks.now minima l.at l.left c.loop-left-test.false ∙ l.invariant.2 minima;
-      len_le_len = (l.invariant.0, l.invariant.1);
+      ring_left = λ minima. front_none (a.look + 1) a.look a.frame a.marks.now minima l.at l.left c.loop-left-test.false ∙ l.invariant.2 minima;
+      places = (l.invariant.0, l.invariant.1);
     }

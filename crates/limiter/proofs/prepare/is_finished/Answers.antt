@@ -1,6 +1,5 @@
 -- `is_finished`: by the answer's case.
 use mathlib.Core.Path.{refl}
-use borrow.Author.Rules.{rules}
 use Rattle.limiter.proofs.Judge.{other_case}
 use Rattle.limiter.proofs.prepare.is_finished.Goals as goal
 

@@ -1,14 +1,13 @@
 -- `lay_weights`: by whether a house table is asked for.
 use mathlib.Core.Path.{refl}
-use borrow.Author.Rules.{rules}
 use Rattle.limiter.proofs.prepare.lay_weights.Goals as goal
 
 pub fill-requires : goal.fill-requires
 fill-requires c =
     let e = c.if-spec.true in
     rw c.look-look.ensures record {
-      look_value = c.requires.rate_value e;
-      weights_len = c.requires.weights_len e;
+      housed = c.requires.housed e;
+      weights_len = c.requires.weights_long e;
     }
 
 pub returns-then-spec : goal.returns-then-spec

@@ -1,6 +1,5 @@
 -- `weights_taken`: by whether a house table is asked for.
 use mathlib.Core.Path.{refl}
-use borrow.Author.Rules.{rules}
 use Rattle.limiter.proofs.prepare.weights_taken.Goals as goal
 
 pub returns-then-house : goal.returns-then-house

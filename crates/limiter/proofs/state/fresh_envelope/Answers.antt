@@ -1,6 +1,5 @@
 -- `fresh_envelope`: the keeper is fresh.
 use mathlib.Core.Path.{refl}
-use borrow.Author.Rules.{rules}
 use lib.Ieee.{of_bits}
 use Rattle.limiter.proofs.state.fresh_envelope.Goals as goal
 

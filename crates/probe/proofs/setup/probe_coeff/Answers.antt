@@ -11,7 +11,7 @@ release_coeff-requires c =
     let a = c.args in
     let both =
         and-true (release_taken a.ms) (rate_taken a.rate) (sym c.has_coeff.ensures ∙ c.if-has_coeff.true) in
-    record { release_ms_value = both.0; rate_value = both.1 }
+    record { release_taken = both.0; rate_taken = both.1 }
 
 pub returns-then-has_coeff : goal.returns-then-has_coeff
 returns-then-has_coeff c = rw (sym c.has_coeff.ensures ∙ c.if-has_coeff.true) c.release_coeff.ensures

@@ -24,7 +24,7 @@ fill-requires c =
     let a = c.args in
     let t = and-true (house_fits a.rate a.look) (eqb (length a.weights.now) (row_of a.look)) (sym h.ensures ∙ c.if-not-has_house.false) in
     record {
-      look_value = t.0;
+      housed = t.0;
       weights_len = eqb-true (length a.weights.now) (row_of a.look) t.1;
     }
 

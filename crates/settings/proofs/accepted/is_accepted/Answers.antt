@@ -1,5 +1,4 @@
 -- `is_accepted`: the seven tests are the definition's.
-use Rattle.std.proofs.Common.{rules}
 use Rattle.settings.proofs.Taken.{tests_together}
 use Rattle.settings.proofs.accepted.is_accepted.Goals as goal
 

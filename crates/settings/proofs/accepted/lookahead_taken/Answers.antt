@@ -1,5 +1,5 @@
 -- `lookahead_taken`: the tests are the definition's.
-use Rattle.std.proofs.Common.{refl, rules}
+use Rattle.std.proofs.Common.{refl}
 use lib.Ieee.{of_bits}
 use Rattle.settings.proofs.accepted.lookahead_taken.Goals as goal
 

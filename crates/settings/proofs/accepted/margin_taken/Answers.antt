@@ -1,5 +1,5 @@
 -- `margin_taken`: the tests are the definition's.
-use Rattle.std.proofs.Common.{refl, rules}
+use Rattle.std.proofs.Common.{refl}
 use lib.Ieee.{of_bits}
 use Rattle.settings.proofs.accepted.margin_taken.Goals as goal
 

@@ -1,5 +1,5 @@
 -- `refusal`: each test in its place.
-use Rattle.std.proofs.Common.{refl, rules}
+use Rattle.std.proofs.Common.{refl}
 use Rattle.settings.proofs.accepted.refusal.Goals as goal
 
 pub returns : goal.returns

@@ -1,5 +1,5 @@
 -- `counts_in`: the shifted mask's last bit.
-use Rattle.std.proofs.Common.{refl, rules}
+use Rattle.std.proofs.Common.{refl}
 use Rattle.settings.specs.Counted.{counts_in}
 use Rattle.settings.proofs.counted.counts_in.Goals as goal
 

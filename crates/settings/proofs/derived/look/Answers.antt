@@ -1,5 +1,5 @@
 -- `look`: the larger of 1 and the rounded number.
-use Rattle.std.proofs.Common.{arith, rules}
+use Rattle.std.proofs.Common.{arith}
 use Rattle.settings.proofs.derived.look.Goals as goal
 
 pub returns-then-n-lt1 : goal.returns-then-n-lt1

@@ -1,5 +1,5 @@
 -- `copy`: the places passed are the table's.
-use Rattle.std.proofs.Common.{◌≡◌, ◌-◌, ◌≤◌, length, take, drop, refl, ◌∙◌, arith, length-set}
+use Rattle.std.proofs.Common.{refl, ◌∙◌, arith, length-set}
 use Rattle.settings.proofs.Stretches.{part-more, part_all}
 use Rattle.settings.proofs.house.copy.Goals as goal
 

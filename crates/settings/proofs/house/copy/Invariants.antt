@@ -1,6 +1,5 @@
 -- `copy`: the places passed are the table's.
-use Rattle.std.proofs.Common.{◌≡◌, ◌-◌, ◌≤◌, length, take, drop, refl, ◌∙◌, arith, length-set}
-use Rattle.settings.proofs.Stretches.{part-more, part_all}
+use Rattle.std.proofs.Common.{◌≡◌, ◌-◌, ◌≤◌, length, take, drop}
 use Rattle.settings.proofs.house.copy.Given as goal
 
 abbrev pub invariant-loop-i : goal.invariant-loop-i

@@ -1,5 +1,4 @@
 -- `copy_house`: the table of the code is that of specs/, number by number.
-use Rattle.std.proofs.Common.{rules}
 use lib.Ieee.{of_bits}
 use Rattle.settings.specs.HouseTable.{house, at44100, at48000, at96000, at192000}
 use Rattle.settings.proofs.house.copy_house.Goals as goal

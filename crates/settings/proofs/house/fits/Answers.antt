@@ -1,5 +1,5 @@
 -- `fits`: a start before the table's end.
-use Rattle.std.proofs.Common.{refl, rules}
+use Rattle.std.proofs.Common.{refl}
 use Rattle.settings.proofs.house.fits.Goals as goal
 
 pub returns : goal.returns

@@ -1,5 +1,5 @@
 -- `bytes_needed`: by the test.
-use Rattle.std.proofs.Common.{◌&&◌, leb, sym, refl, ◌∙◌, rules, leb-true}
+use Rattle.std.proofs.Common.{◌&&◌, leb, sym, refl, ◌∙◌, leb-true}
 use Rattle.arithmetic.proofs.Order.{and-true}
 use Rattle.settings.proofs.memory.bytes_needed.Goals as goal
 

@@ -1,5 +1,5 @@
 -- `judge_cap`: by the cap's case, then the test.
-use Rattle.std.proofs.Common.{refl, rules, le-leb}
+use Rattle.std.proofs.Common.{refl, le-leb}
 use borrow.Author.Tests.{lt-leb}
 use Rattle.settings.proofs.memory.judge_cap.Goals as goal
 

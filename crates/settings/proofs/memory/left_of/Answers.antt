@@ -1,5 +1,5 @@
 -- `left_of`: by the cap's case; a difference that is cut off at 0 where the bytes do not fit.
-use Rattle.std.proofs.Common.{refl, ap, arith, rules}
+use Rattle.std.proofs.Common.{refl, ap, arith}
 use Rattle.settings.specs.declared.memory.Cap.TheVariants.{Bytes}
 use Rattle.settings.proofs.memory.left_of.Goals as goal
 

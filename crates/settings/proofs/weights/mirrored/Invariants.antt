@@ -1,7 +1,6 @@
 -- `mirrored`: each pair passed so far is near.
-use Rattle.std.proofs.Common.{◌-◌, length, sym, ◌∙◌, arith}
-use borrow.Author.Tests.{not-true, not-false}
-use Rattle.settings.proofs.WeightPairs.{unit_at, Before, before_more, near_at, far_apart, all_near}
+use Rattle.std.proofs.Common.{◌-◌}
+use Rattle.settings.proofs.WeightPairs.{Before, near_at}
 use Rattle.settings.proofs.weights.mirrored.Given as goal
 
 abbrev pub invariant-loop-i : goal.invariant-loop-i

@@ -8,7 +8,7 @@ pub truncating_f64_to_u64-requires : goal.truncating_f64_to_u64-requires
 unfolding of_bits
 truncating_f64_to_u64-requires c =
     let cut : Cut c.args.w =
-        cut_weight c.args.w c.well_formed.0.1 c.requires in
+    cut_weight c.args.w c.well_formed.0.1 c.requires in
     record {
       lower_bound = cut.above;
       upper_bound = cut.below;
@@ -18,7 +18,7 @@ pub returns : goal.returns
 unfolding of_bits
 returns c =
     let cut : Cut c.args.w =
-        cut_weight c.args.w c.well_formed.0.1 c.requires in
+    cut_weight c.args.w c.well_formed.0.1 c.requires in
     let e = c.truncating_f64_to_u64.ensures ∙ cut.part in
     record {
       value = e;

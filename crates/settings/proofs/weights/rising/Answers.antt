@@ -1,7 +1,6 @@
 -- `rising`: each pair passed so far rises.
-use Rattle.std.proofs.Common.{◌-◌, ◌≤◌, length, arith}
-use borrow.Author.Tests.{not-true, not-false}
-use Rattle.settings.proofs.WeightPairs.{Before, before_more, rises_at, falls, all_rise}
+use Rattle.std.proofs.Common.{arith}
+use Rattle.settings.proofs.WeightPairs.{before_more, rises_at, falls, all_rise}
 use Rattle.settings.proofs.weights.rising.Goals as goal
 
 pub overflow_add-half : goal.overflow_add-half

@@ -20,7 +20,7 @@ render_still-requires c =
     let a = c.args in
     record {
       block_asked = c.requires;
-      t_value = c.rests.ensures (still_told a.format (machine_of a.l (bank_with a.t) stores) a.position a.frames a.events.now a.audio.now c.rests.result c.if-events-rests.true);
+      at_rest = c.rests.ensures (still_told a.format (machine_of a.l (bank_with a.t) stores) a.position a.frames a.events.now a.audio.now c.rests.result c.if-events-rests.true);
     }
 
 pub returns-then-events-rests : goal.returns-then-events-rests

@@ -1,11 +1,10 @@
 -- `drain_frames`: a turn of the loop is a run of silence.
-use mathlib.Core.Path.{◌≡◌, refl, sym, ◌∙◌}
-use Prim.Native.Nat.{◌-◌}
+use mathlib.Core.Path.{refl, sym, ◌∙◌}
 use native.Mathlib.Omega.{arith}
 use lib.ListN.{length}
 use Rattle.limiter.specs.Stores.{stores_at}
 use Rattle.limiter.proofs.Frames.{bounds_of}
-use Rattle.turns.proofs.Draining.{Drained, drained_start, tail_inside, drain_asks, audio_size, drain_held, drained_more, drained_limiter, drained_stores, drained_audio}
+use Rattle.turns.proofs.Draining.{drained_start, tail_inside, drain_asks, audio_size, drain_held, drained_more, drained_limiter, drained_stores, drained_audio}
 use Rattle.turns.proofs.drain.drain_frames.Goals as goal
 
 pub run_room-run-requires : goal.run_room-run-requires
@@ -46,9 +45,9 @@ scatter-requires c =
     record {
       channels_bound = (bounds_of a.limiter p.ready.set_up).most;
       width_bound = p.lends.short;
-      width_value = sym size;
-      n_bound = omega (arith, n.2, p.inside);
-      n_bound_2 = n.1;
+      audio_size = sym size;
+      run_inside = omega (arith, n.2, p.inside);
+      run_short = n.1;
       run_len = d.auto.audio ∙ l.invariant.0.run_fit;
       held_all = held;
     }

@@ -1,11 +1,9 @@
 -- `drain_frames`: a turn of the loop is a run of silence.
-use mathlib.Core.Path.{◌≡◌, refl, sym, ◌∙◌}
+use mathlib.Core.Path.{◌≡◌}
 use Prim.Native.Nat.{◌-◌}
-use native.Mathlib.Omega.{arith}
 use lib.ListN.{length}
 use Rattle.limiter.specs.Stores.{stores_at}
-use Rattle.limiter.proofs.Frames.{bounds_of}
-use Rattle.turns.proofs.Draining.{Drained, drained_start, tail_inside, drain_asks, audio_size, drain_held, drained_more, drained_limiter, drained_stores, drained_audio}
+use Rattle.turns.proofs.Draining.{Drained}
 use Rattle.turns.proofs.drain.drain_frames.Given as goal
 
 abbrev pub invariant-loop-first : goal.invariant-loop-first

@@ -15,8 +15,8 @@ target_now-requires c = tt
 pub drive_still-moved-requires : goal.drive_still-moved-requires
 drive_still-moved-requires c =
     let machine : Machine =
-        let a = c.args in
-            machine_of a.limiter a.bank (stores_at a.delay.now a.marks.now a.minima.now a.weights.now a.row.now a.detector.now) in
+    let a = c.args in
+    machine_of a.limiter a.bank (stores_at a.delay.now a.marks.now a.minima.now a.weights.now a.row.now a.detector.now) in
     let a = c.args in
     record {
       bank = a.bank;
@@ -45,8 +45,8 @@ shape_of-detector-then-events-is_still c = c.drive_still-moved.auto.detector
 pub returns-then-events-is_still : goal.returns-then-events-is_still
 returns-then-events-is_still c =
     let machine : Machine =
-        let a = c.args in
-            machine_of a.limiter a.bank (stores_at a.delay.now a.marks.now a.minima.now a.weights.now a.row.now a.detector.now) in
+    let a = c.args in
+    machine_of a.limiter a.bank (stores_at a.delay.now a.marks.now a.minima.now a.weights.now a.row.now a.detector.now) in
     let a = c.args in
     let i = c.is_still in
     let t = c.target_now in

@@ -1,10 +1,9 @@
 -- `drive_still`: each run of the loop is a turn that keeps the bank, whichever it is.
-use mathlib.Core.Path.{◌≡◌, refl, ◌∙◌}
-use Prim.Native.Nat.{◌-◌}
+use mathlib.Core.Path.{refl, ◌∙◌}
 use native.Mathlib.Omega.{arith}
 use lib.ListN.{length}
 use Rattle.limiter.specs.Stores.{Stores, stores_at}
-use Rattle.turns.proofs.Still.{Going, going_start, going_inside, going_asks, going_more, gone_machine, gone_place, gone_audio}
+use Rattle.turns.proofs.Still.{going_start, going_inside, going_asks, going_more, gone_machine, gone_place, gone_audio}
 use Rattle.turns.proofs.drive.drive_still.Goals as goal
 
 pub run_room-run-requires : goal.run_room-run-requires
@@ -16,8 +15,8 @@ start_of-requires c = tt
 pub loop-first-init : goal.loop-first-init
 loop-first-init c =
     let stores : Stores =
-        let a = c.args in
-            stores_at a.delay.now a.marks.now a.minima.now a.weights.now a.row.now a.detector.now in
+    let a = c.args in
+    stores_at a.delay.now a.marks.now a.minima.now a.weights.now a.row.now a.detector.now in
     let a = c.args in
     (going_start a.format a.position a.frames a.audio.now a.limiter stores a.target a.asked c.requires c.run_room-run.result c.run_room-run.ensures c.start_of.result c.start_of.ensures, refl, refl, refl, refl, refl, refl)
 
@@ -38,8 +37,8 @@ slice_bounds-render_frames-end c =
 pub render_frames-moved-requires : goal.render_frames-moved-requires
 render_frames-moved-requires c =
     let stores : Stores =
-        let a = c.args in
-            stores_at a.delay.now a.marks.now a.minima.now a.weights.now a.row.now a.detector.now in
+    let a = c.args in
+    stores_at a.delay.now a.marks.now a.minima.now a.weights.now a.row.now a.detector.now in
     let a = c.args in
     let l = c.loop-first in
     let n = c.run_length-n in
@@ -48,8 +47,8 @@ render_frames-moved-requires c =
 pub overflow_add-first : goal.overflow_add-first
 overflow_add-first c =
     let stores : Stores =
-        let a = c.args in
-            stores_at a.delay.now a.marks.now a.minima.now a.weights.now a.row.now a.detector.now in
+    let a = c.args in
+    stores_at a.delay.now a.marks.now a.minima.now a.weights.now a.row.now a.detector.now in
     let a = c.args in
     let l = c.loop-first in
     let n = c.run_length-n in
@@ -59,8 +58,8 @@ overflow_add-first c =
 pub loop-first-smaller : goal.loop-first-smaller
 loop-first-smaller c =
     let stores : Stores =
-        let a = c.args in
-            stores_at a.delay.now a.marks.now a.minima.now a.weights.now a.row.now a.detector.now in
+    let a = c.args in
+    stores_at a.delay.now a.marks.now a.minima.now a.weights.now a.row.now a.detector.now in
     let a = c.args in
     let l = c.loop-first in
     let n = c.run_length-n in
@@ -70,13 +69,12 @@ loop-first-smaller c =
 pub loop-first-preserved : goal.loop-first-preserved
 loop-first-preserved c =
     let stores : Stores =
-        let a = c.args in
-            stores_at a.delay.now a.marks.now a.minima.now a.weights.now a.row.now a.detector.now in
+    let a = c.args in
+    stores_at a.delay.now a.marks.now a.minima.now a.weights.now a.row.now a.detector.now in
     let a = c.args in
     let l = c.loop-first in
     let n = c.run_length-n in
-    let r = c.render_frames-moved in
-    (
+    let r = c.render_frames-moved in (
       going_more a.format a.position a.frames a.audio.now a.limiter stores a.target a.asked c.requires l.first l.moved.highest l.moved.limiter (stores_at l.delay l.marks l.minima a.weights.now l.row l.detector) l.audio l.run l.invariant.0 c.loop-first-test.true n.result n.ensures
           r.result.limiter (stores_at r.new.delay r.new.marks r.new.minima a.weights.now r.new.row r.new.detector) r.new.audio r.new.run r.result.highest r.ensures r.auto.run,
       ◌∙◌ {b = length l.audio} r.auto.audio l.invariant.1,
@@ -108,8 +106,8 @@ shape_of-detector c = c.loop-first.invariant.6
 pub returns : goal.returns
 returns c =
     let stores : Stores =
-        let a = c.args in
-            stores_at a.delay.now a.marks.now a.minima.now a.weights.now a.row.now a.detector.now in
+    let a = c.args in
+    stores_at a.delay.now a.marks.now a.minima.now a.weights.now a.row.now a.detector.now in
     let a = c.args in
     let l = c.loop-first in record {
       machine_after = gone_machine a.format a.position a.frames a.audio.now a.limiter stores a.target a.asked l.first l.moved.highest l.moved.limiter (stores_at l.delay l.marks l.minima a.weights.now l.row l.detector) l.audio l.run l.invariant.0 c.loop-first-test.false;

@@ -1,10 +1,9 @@
 -- `drive_still`: each run of the loop is a turn that keeps the bank, whichever it is.
-use mathlib.Core.Path.{◌≡◌, refl, ◌∙◌}
+use mathlib.Core.Path.{◌≡◌}
 use Prim.Native.Nat.{◌-◌}
-use native.Mathlib.Omega.{arith}
 use lib.ListN.{length}
-use Rattle.limiter.specs.Stores.{Stores, stores_at}
-use Rattle.turns.proofs.Still.{Going, going_start, going_inside, going_asks, going_more, gone_machine, gone_place, gone_audio}
+use Rattle.limiter.specs.Stores.{stores_at}
+use Rattle.turns.proofs.Still.{Going}
 use Rattle.turns.proofs.drive.drive_still.Given as goal
 
 abbrev pub invariant-loop-first : goal.invariant-loop-first

@@ -1,13 +1,13 @@
 -- `drive_turns`: each turn of the loop is a turn of the block.
 use Rattle.frame.specs.declared.highest.Highest.{Highest}
-use mathlib.Core.Path.{◌≡◌, refl, ap, ◌∙◌}
-use Prim.Native.Nat.{◌-◌, ◌/◌}
+use mathlib.Core.Path.{refl, ap, ◌∙◌}
+use Prim.Native.Nat.{◌/◌}
 use native.Mathlib.Omega.{arith}
 use lib.ListN.{length}
 use Rattle.limiter.specs.Stores.{stores_at}
 use Rattle.turns.specs.Machine.{Machine, machine_of}
 use Rattle.turns.proofs.Latching.{rest_end}
-use Rattle.turns.proofs.Driving.{Driving, driving_start, driving_asks, driving_more, driving_less, driven_machine, driven_place, driven_audio}
+use Rattle.turns.proofs.Driving.{driving_start, driving_asks, driving_more, driving_less, driven_machine, driven_place, driven_audio}
 use Rattle.turns.proofs.drive.drive_turns.Goals as goal
 
 pub run_room-run-requires : goal.run_room-run-requires
@@ -19,8 +19,8 @@ start_of-highest-requires c = tt
 pub loop-block-init : goal.loop-block-init
 loop-block-init c =
     let machine : Machine =
-        let a = c.args in
-            machine_of a.limiter a.bank (stores_at a.delay.now a.marks.now a.minima.now a.weights.now a.row.now a.detector.now) in
+    let a = c.args in
+    machine_of a.limiter a.bank (stores_at a.delay.now a.marks.now a.minima.now a.weights.now a.row.now a.detector.now) in
     let a = c.args in
     (driving_start a.format a.position a.frames a.events.now a.audio.now machine a.asked c.run_room-run.result c.run_room-run.ensures c.requires _ (ap (λ (h : Highest). record { position = a.position; frames = a.frames; rendered = 0; latched = 0; highest = h }) c.start_of-highest.ensures), refl, refl, refl, refl, refl, refl)
 
@@ -30,8 +30,8 @@ slice_bounds-turn-end c = omega arith
 pub turn-t-requires : goal.turn-t-requires
 turn-t-requires c =
     let machine : Machine =
-        let a = c.args in
-            machine_of a.limiter a.bank (stores_at a.delay.now a.marks.now a.minima.now a.weights.now a.row.now a.detector.now) in
+    let a = c.args in
+    machine_of a.limiter a.bank (stores_at a.delay.now a.marks.now a.minima.now a.weights.now a.row.now a.detector.now) in
     let a = c.args in
     let l = c.loop-block in
     driving_asks a.format a.position a.frames a.events.now a.audio.now machine a.asked c.requires l.block (machine_of l.l l.b (stores_at l.delay l.marks l.minima a.weights.now l.row l.detector)) l.audio l.run l.invariant.0 c.loop-block-test.true
@@ -39,8 +39,8 @@ turn-t-requires c =
 pub loop-block-smaller : goal.loop-block-smaller
 loop-block-smaller c =
     let machine : Machine =
-        let a = c.args in
-            machine_of a.limiter a.bank (stores_at a.delay.now a.marks.now a.minima.now a.weights.now a.row.now a.detector.now) in
+    let a = c.args in
+    machine_of a.limiter a.bank (stores_at a.delay.now a.marks.now a.minima.now a.weights.now a.row.now a.detector.now) in
     let a = c.args in
     let l = c.loop-block in
     let t = c.turn-t in
@@ -50,12 +50,11 @@ loop-block-smaller c =
 pub loop-block-preserved : goal.loop-block-preserved
 loop-block-preserved c =
     let machine : Machine =
-        let a = c.args in
-            machine_of a.limiter a.bank (stores_at a.delay.now a.marks.now a.minima.now a.weights.now a.row.now a.detector.now) in
+    let a = c.args in
+    machine_of a.limiter a.bank (stores_at a.delay.now a.marks.now a.minima.now a.weights.now a.row.now a.detector.now) in
     let a = c.args in
     let l = c.loop-block in
-    let t = c.turn-t in
-    (
+    let t = c.turn-t in (
       driving_more a.format a.position a.frames a.events.now a.audio.now machine a.asked c.requires l.block (machine_of l.l l.b (stores_at l.delay l.marks l.minima a.weights.now l.row l.detector)) l.audio l.run l.invariant.0 c.loop-block-test.true
           (machine_of t.result.limiter t.result.bank (stores_at t.new.delay t.new.marks t.new.minima a.weights.now t.new.row t.new.detector)) t.result.block t.new.audio t.new.run t.ensures t.auto.run,
       ◌∙◌ {b = length l.audio} t.auto.audio l.invariant.1,
@@ -87,8 +86,8 @@ shape_of-detector-then-events-block c = c.loop-block.invariant.6
 pub returns-then-events-block : goal.returns-then-events-block
 returns-then-events-block c =
     let machine : Machine =
-        let a = c.args in
-            machine_of a.limiter a.bank (stores_at a.delay.now a.marks.now a.minima.now a.weights.now a.row.now a.detector.now) in
+    let a = c.args in
+    machine_of a.limiter a.bank (stores_at a.delay.now a.marks.now a.minima.now a.weights.now a.row.now a.detector.now) in
     let a = c.args in
     let l = c.loop-block in
     let m = (machine_of l.l l.b (stores_at l.delay l.marks l.minima a.weights.now l.row l.detector)) in record {
@@ -121,8 +120,8 @@ shape_of-detector c = c.loop-block.invariant.6
 pub returns : goal.returns
 returns c =
     let machine : Machine =
-        let a = c.args in
-            machine_of a.limiter a.bank (stores_at a.delay.now a.marks.now a.minima.now a.weights.now a.row.now a.detector.now) in
+    let a = c.args in
+    machine_of a.limiter a.bank (stores_at a.delay.now a.marks.now a.minima.now a.weights.now a.row.now a.detector.now) in
     let a = c.args in
     let l = c.loop-block in
     let m = (machine_of l.l l.b (stores_at l.delay l.marks l.minima a.weights.now l.row l.detector)) in record {

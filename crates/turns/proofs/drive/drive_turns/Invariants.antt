@@ -1,13 +1,10 @@
 -- `drive_turns`: each turn of the loop is a turn of the block.
-use Rattle.frame.specs.declared.highest.Highest.{Highest}
-use mathlib.Core.Path.{◌≡◌, refl, ap, ◌∙◌}
-use Prim.Native.Nat.{◌-◌, ◌/◌}
-use native.Mathlib.Omega.{arith}
+use mathlib.Core.Path.{◌≡◌}
+use Prim.Native.Nat.{◌-◌}
 use lib.ListN.{length}
 use Rattle.limiter.specs.Stores.{stores_at}
-use Rattle.turns.specs.Machine.{Machine, machine_of}
-use Rattle.turns.proofs.Latching.{rest_end}
-use Rattle.turns.proofs.Driving.{Driving, driving_start, driving_asks, driving_more, driving_less, driven_machine, driven_place, driven_audio}
+use Rattle.turns.specs.Machine.{machine_of}
+use Rattle.turns.proofs.Driving.{Driving}
 use Rattle.turns.proofs.drive.drive_turns.Given as goal
 
 abbrev pub invariant-loop-block : goal.invariant-loop-block

@@ -1,9 +1,8 @@
 -- `latch`: what the events from i on make of the bank now, all make of it.
-use mathlib.Core.Path.{◌≡◌, refl, ◌∙◌}
-use Prim.Native.Nat.{◌-◌, ◌/◌, ◌≤◌}
+use mathlib.Core.Path.{refl, ◌∙◌}
+use Prim.Native.Nat.{◌/◌}
 use native.Mathlib.Omega.{arith}
 use lib.ListN.{length}
-use Rattle.turns.specs.Events.{events_from, latched}
 use Rattle.turns.proofs.Latching.{latch_stop, latch_more, latch_end}
 use Rattle.turns.proofs.events.latch.Goals as goal
 

@@ -1,10 +1,7 @@
 -- `latch`: what the events from i on make of the bank now, all make of it.
-use mathlib.Core.Path.{◌≡◌, refl, ◌∙◌}
-use Prim.Native.Nat.{◌-◌, ◌/◌, ◌≤◌}
-use native.Mathlib.Omega.{arith}
-use lib.ListN.{length}
+use mathlib.Core.Path.{◌≡◌}
+use Prim.Native.Nat.{◌-◌, ◌≤◌}
 use Rattle.turns.specs.Events.{events_from, latched}
-use Rattle.turns.proofs.Latching.{latch_stop, latch_more, latch_end}
 use Rattle.turns.proofs.events.latch.Given as goal
 
 abbrev pub invariant-loop-i : goal.invariant-loop-i

@@ -1,7 +1,6 @@
 -- `latch_one`: the id tested, then the one change.
 use mathlib.Core.Path.{refl, ◌∙◌}
 use native.Mathlib.Omega.{arith}
-use borrow.Author.Rules.{rules}
 use borrow.Author.Tests.{lt-ltb, le-ltb}
 use Rattle.turns.proofs.events.latch_one.Goals as goal
 

@@ -1,9 +1,8 @@
 -- `latch_rest`: what the events from i on make of the bank now, all make of it.
-use mathlib.Core.Path.{◌≡◌, refl, ◌∙◌}
-use Prim.Native.Nat.{◌-◌, ◌/◌, ◌≤◌}
+use mathlib.Core.Path.{refl, ◌∙◌}
+use Prim.Native.Nat.{◌/◌}
 use native.Mathlib.Omega.{arith}
 use lib.ListN.{length}
-use Rattle.turns.specs.Events.{events_from, latched_all}
 use Rattle.turns.proofs.Latching.{rest_more, rest_end}
 use Rattle.turns.proofs.events.latch_rest.Goals as goal
 

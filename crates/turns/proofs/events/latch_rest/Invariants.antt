@@ -1,10 +1,7 @@
 -- `latch_rest`: what the events from i on make of the bank now, all make of it.
-use mathlib.Core.Path.{◌≡◌, refl, ◌∙◌}
-use Prim.Native.Nat.{◌-◌, ◌/◌, ◌≤◌}
-use native.Mathlib.Omega.{arith}
-use lib.ListN.{length}
+use mathlib.Core.Path.{◌≡◌}
+use Prim.Native.Nat.{◌-◌, ◌≤◌}
 use Rattle.turns.specs.Events.{events_from, latched_all}
-use Rattle.turns.proofs.Latching.{rest_more, rest_end}
 use Rattle.turns.proofs.events.latch_rest.Given as goal
 
 abbrev pub invariant-loop-i : goal.invariant-loop-i

@@ -13,9 +13,9 @@ gather-requires c =
     record {
       channels_bound = (bounds_of a.limiter p.ready.set_up).most;
       width_bound = p.lends.short;
-      width_value = sym p.lends.audio_fit;
-      n_bound = p.inside;
-      n_bound_2 = p.short;
+      audio_size = sym p.lends.audio_fit;
+      run_inside = p.inside;
+      run_short = p.short;
       run_len = p.run_fit;
     }
 
@@ -39,13 +39,13 @@ scatter-requires c =
     let stores = stores_at a.delay.now a.marks.now a.minima.now a.weights.now a.row.now a.detector.now in
     let fit = g.auto.run ∙ p.run_fit in
     let k = kernel_asks a.limiter a.n stores g.new.run p.ready p.some p.short fit in
-    let held = render_held a.limiter a.format a.target a.n stores g.new.run k r.result.limiter _ r.new.audio r.ensures.audio_after in
+    let held = render_held a.limiter a.format a.target a.n stores g.new.run k r.result.limiter _ r.new.audio r.ensures.run_done in
     record {
       channels_bound = (bounds_of a.limiter p.ready.set_up).most;
       width_bound = p.lends.short;
-      width_value = sym p.lends.audio_fit;
-      n_bound = omega (arith, p.inside);
-      n_bound_2 = omega (arith, p.short);
+      audio_size = sym p.lends.audio_fit;
+      run_inside = omega (arith, p.inside);
+      run_short = omega (arith, p.short);
       run_len = r.auto.audio ∙ fit;
       held_all = held;
     }
@@ -78,4 +78,4 @@ returns c =
     let r = c.render-after in
     let s = c.scatter in
     run_given a.limiter a.format a.target a.width a.first a.n (stores_at a.delay.now a.marks.now a.minima.now a.weights.now a.row.now a.detector.now) a.audio.now a.run.now g.new.run r.new.audio s.new.bytes r.result.limiter
-    (stores_at r.new.delay r.new.marks r.new.minima a.weights.now r.new.row r.new.detector) a.best r.result.highest c.requires g.auto.run g.ensures r.ensures.audio_after r.ensures.highest_value s.ensures
+    (stores_at r.new.delay r.new.marks r.new.minima a.weights.now r.new.row r.new.detector) a.best r.result.highest c.requires g.auto.run g.ensures r.ensures.run_done r.ensures.highest_value s.ensures

@@ -1,6 +1,5 @@
 -- `target_now`: the target of the first slot's value.
 use mathlib.Core.Path.{refl, ◌∙◌}
-use borrow.Author.Rules.{rules}
 use Rattle.turns.proofs.turn.target_now.Goals as goal
 
 pub returns : goal.returns

@@ -23,8 +23,8 @@ target_now-requires c = tt
 pub render_frames-after-requires : goal.render_frames-after-requires
 render_frames-after-requires c =
     let machine : Machine =
-        let a = c.args in
-            machine_of a.limiter a.bank (stores_at a.delay.now a.marks.now a.minima.now a.weights.now a.row.now a.detector.now) in
+    let a = c.args in
+    machine_of a.limiter a.bank (stores_at a.delay.now a.marks.now a.minima.now a.weights.now a.row.now a.detector.now) in
     let a = c.args in
     let n = c.run_length-n in
     let t = c.target_now in
@@ -33,8 +33,8 @@ render_frames-after-requires c =
 pub overflow_add-result : goal.overflow_add-result
 overflow_add-result c =
     let machine : Machine =
-        let a = c.args in
-            machine_of a.limiter a.bank (stores_at a.delay.now a.marks.now a.minima.now a.weights.now a.row.now a.detector.now) in
+    let a = c.args in
+    machine_of a.limiter a.bank (stores_at a.delay.now a.marks.now a.minima.now a.weights.now a.row.now a.detector.now) in
     let a = c.args in
     let n = c.run_length-n in
     omega (arith, (turn_inside machine a.block a.format a.events.now a.audio.now a.run.now c.requires n.result n.ensures).2, c.requires.lends.short)
@@ -63,8 +63,8 @@ shape_of-detector c = c.render_frames-after.auto.detector
 pub returns : goal.returns
 returns c =
     let machine : Machine =
-        let a = c.args in
-            machine_of a.limiter a.bank (stores_at a.delay.now a.marks.now a.minima.now a.weights.now a.row.now a.detector.now) in
+    let a = c.args in
+    machine_of a.limiter a.bank (stores_at a.delay.now a.marks.now a.minima.now a.weights.now a.row.now a.detector.now) in
     let a = c.args in
     let n = c.run_length-n in
     let b = c.before_run-before in

@@ -3,7 +3,6 @@ use mathlib.Core.Path.{◌≡◌}
 use mathlib.Core.Bool.{true}
 use lib.Dec.{eqb}
 use lib.Ieee.Scale.{finite}
-use borrow.Author.Rules.{rules}
 use borrow.Author.Tests.{eq-eqb, ne_eqb}
 use Rattle.bank.specs.Param.{range_holds, fault_of, param_reply}
 use Rattle.bank.proofs.Tests.{held, failed}
@@ -17,38 +16,38 @@ pub returns-then-not-range_holds : goal.returns-then-not-range_holds
 unfolding param_reply fault_of
 returns-then-not-range_holds c =
     let id-held : eqb c.args.self.id c.args.index ≡ true =
-        let a = c.args in eq-eqb a.self.id a.index c.if-self-index.false in
+    let a = c.args in eq-eqb a.self.id a.index c.if-self-index.false in
     simp (id-held, failed c.range_holds.ensures c.if-not-range_holds.true)
 
 pub returns-then-not-is_finite : goal.returns-then-not-is_finite
 unfolding param_reply fault_of
 returns-then-not-is_finite c =
     let id-held : eqb c.args.self.id c.args.index ≡ true =
-        let a = c.args in eq-eqb a.self.id a.index c.if-self-index.false in
+    let a = c.args in eq-eqb a.self.id a.index c.if-self-index.false in
     let range-held : range_holds c.args.self.low c.args.self.high ≡ true =
-        held c.range_holds.ensures c.if-not-range_holds.false in
+    held c.range_holds.ensures c.if-not-range_holds.false in
     simp (id-held, range-held, failed c.is_finite.ensures c.if-not-is_finite.true)
 
 pub returns-then-not-default_holds : goal.returns-then-not-default_holds
 unfolding param_reply fault_of
 returns-then-not-default_holds c =
     let id-held : eqb c.args.self.id c.args.index ≡ true =
-        let a = c.args in eq-eqb a.self.id a.index c.if-self-index.false in
+    let a = c.args in eq-eqb a.self.id a.index c.if-self-index.false in
     let range-held : range_holds c.args.self.low c.args.self.high ≡ true =
-        held c.range_holds.ensures c.if-not-range_holds.false in
+    held c.range_holds.ensures c.if-not-range_holds.false in
     let finite-held : finite c.args.self.default ≡ true =
-        held c.is_finite.ensures c.if-not-is_finite.false in
+    held c.is_finite.ensures c.if-not-is_finite.false in
     simp (id-held, range-held, finite-held, failed c.default_holds.ensures c.if-not-default_holds.true)
 
 pub returns-then-not-time_holds : goal.returns-then-not-time_holds
 unfolding param_reply fault_of
 returns-then-not-time_holds c =
     let id-held : eqb c.args.self.id c.args.index ≡ true =
-        let a = c.args in eq-eqb a.self.id a.index c.if-self-index.false in
+    let a = c.args in eq-eqb a.self.id a.index c.if-self-index.false in
     let range-held : range_holds c.args.self.low c.args.self.high ≡ true =
-        held c.range_holds.ensures c.if-not-range_holds.false in
+    held c.range_holds.ensures c.if-not-range_holds.false in
     let finite-held : finite c.args.self.default ≡ true =
-        held c.is_finite.ensures c.if-not-is_finite.false in
+    held c.is_finite.ensures c.if-not-is_finite.false in
     simp
     (id-held, range-held, finite-held, held c.default_holds.ensures c.if-not-default_holds.false, failed c.time_holds.ensures c.if-not-time_holds.true)
 
@@ -56,10 +55,10 @@ pub returns : goal.returns
 unfolding param_reply fault_of
 returns c =
     let id-held : eqb c.args.self.id c.args.index ≡ true =
-        let a = c.args in eq-eqb a.self.id a.index c.if-self-index.false in
+    let a = c.args in eq-eqb a.self.id a.index c.if-self-index.false in
     let range-held : range_holds c.args.self.low c.args.self.high ≡ true =
-        held c.range_holds.ensures c.if-not-range_holds.false in
+    held c.range_holds.ensures c.if-not-range_holds.false in
     let finite-held : finite c.args.self.default ≡ true =
-        held c.is_finite.ensures c.if-not-is_finite.false in
+    held c.is_finite.ensures c.if-not-is_finite.false in
     simp
     (id-held, range-held, finite-held, held c.default_holds.ensures c.if-not-default_holds.false, held c.time_holds.ensures c.if-not-time_holds.false)

@@ -1,6 +1,5 @@
 -- `apply`: each case by its function.
 use Rattle.bank.proofs.One.{applied_by}
-use borrow.Author.Rules.{rules}
 use Rattle.bank.proofs.smoother.Smoother.apply.Goals as goal
 
 pub returns-in-Step : goal.returns-in-Step

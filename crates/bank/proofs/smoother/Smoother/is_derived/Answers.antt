@@ -2,7 +2,6 @@
 use mathlib.Core.Path.{refl}
 use Rattle.bank.specs.Smoother.{derived}
 use Rattle.bank.proofs.Domain.{steps_least}
-use borrow.Author.Rules.{rules}
 use Rattle.bank.proofs.smoother.Smoother.is_derived.Goals as goal
 
 pub coeff_of-coeff-requires : goal.coeff_of-coeff-requires

@@ -1,6 +1,5 @@
 -- `Smoother::is_prepared`: by what `validate` answers of the kept declaration.
 use Rattle.bank.proofs.Slots.{slot_finished, slot_refused}
-use borrow.Author.Rules.{rules}
 use Rattle.bank.proofs.smoother.Smoother.is_prepared.Goals as goal
 
 pub returns-in-Finished : goal.returns-in-Finished

@@ -1,7 +1,6 @@
 -- `Smoother::is_still`: the tests of a Linear one; of other shapes it answers false.
 use mathlib.Core.Path.{refl}
 use mathlib.Core.Bool.{false}
-use borrow.Author.Rules.{rules}
 use Rattle.arithmetic.proofs.Order.{clash}
 use Rattle.bank.proofs.Still.{linear_rests}
 use Rattle.bank.proofs.smoother.Smoother.is_still.Goals as goal

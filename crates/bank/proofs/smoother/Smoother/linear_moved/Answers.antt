@@ -1,6 +1,5 @@
 -- `linear_moved`: the three cases.
 use Rattle.bank.proofs.One.{linear_still, linear_lands, linear_goes}
-use borrow.Author.Rules.{rules}
 use Rattle.bank.proofs.smoother.Smoother.linear_moved.Goals as goal
 
 pub returns-then-self : goal.returns-then-self

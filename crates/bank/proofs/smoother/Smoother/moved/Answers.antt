@@ -1,6 +1,5 @@
 -- `moved`: an update by shape.
 use Rattle.bank.proofs.One.{moved_step, moved_linear, moved_pole}
-use borrow.Author.Rules.{rules}
 use Rattle.bank.proofs.smoother.Smoother.moved.Goals as goal
 
 pub returns-in-Step : goal.returns-in-Step

@@ -1,7 +1,6 @@
 -- `new`: the derived values are the callees'.
 use mathlib.Core.Path.{refl}
 use lib.Ieee.{of_bits}
-use borrow.Author.Rules.{rules}
 use Rattle.bank.specs.Smoother.{smoother_of}
 use Rattle.bank.proofs.Domain.{steps_least}
 use Rattle.bank.proofs.smoother.Smoother.new.Goals as goal

@@ -1,5 +1,4 @@
 -- `set_immediate`: the stores of the clamped value add up to the definition.
-use borrow.Author.Rules.{rules}
 use Rattle.bank.proofs.One.{immediate}
 use Rattle.bank.proofs.smoother.Smoother.set_immediate.Goals as goal
 

@@ -1,6 +1,5 @@
 -- `set_target`: an equal target, and another one by shape.
 use Rattle.bank.proofs.One.{target_kept, target_linear, target_step, target_pole}
-use borrow.Author.Rules.{rules}
 use Rattle.bank.proofs.smoother.Smoother.set_target.Goals as goal
 
 pub returns-then-target-self : goal.returns-then-target-self

@@ -1,6 +1,5 @@
 -- `step`: what was moved, sanitized and kept within the range.
 use Rattle.bank.proofs.One.{step_kept}
-use borrow.Author.Rules.{rules}
 use Rattle.bank.proofs.smoother.Smoother.step.Goals as goal
 
 pub returns : goal.returns

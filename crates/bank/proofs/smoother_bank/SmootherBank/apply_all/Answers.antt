@@ -1,6 +1,5 @@
 -- `apply_all`: the slots that the callee answers.
 use mathlib.Core.Path.{refl}
-use borrow.Author.Rules.{rules}
 use Rattle.bank.proofs.smoother_bank.SmootherBank.apply_all.Goals as goal
 
 pub returns : goal.returns

@@ -1,5 +1,4 @@
 -- `call`: finished, or refused.
-use borrow.Author.Rules.{rules}
 use Rattle.bank.specs.Smoother.{applied}
 use Rattle.bank.proofs.Calls.{call_done, call_refused}
 use Rattle.bank.proofs.smoother_bank.SmootherBank.call.Goals as goal

@@ -1,6 +1,5 @@
 -- `SmootherBank::is_prepared`: 18.
 use Rattle.bank.proofs.Calls.{prepared_slots, prepared_many, prepared_never}
-use borrow.Author.Rules.{rules}
 use Rattle.bank.proofs.smoother_bank.SmootherBank.is_prepared.Goals as goal
 
 pub returns-then-self-le8 : goal.returns-then-self-le8

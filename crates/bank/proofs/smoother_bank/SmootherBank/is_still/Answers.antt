@@ -1,5 +1,4 @@
 -- `SmootherBank::is_still`: one parameter, which is still.
-use borrow.Author.Rules.{rules}
 use Rattle.bank.proofs.Still.{bank_rests}
 use Rattle.bank.proofs.smoother_bank.SmootherBank.is_still.Goals as goal
 

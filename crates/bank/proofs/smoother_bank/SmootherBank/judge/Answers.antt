@@ -1,7 +1,6 @@
 -- `judge`: 18, 23 and 24 in their order.
 use Rattle.bank.proofs.Tests.{held, failed}
 use Rattle.bank.proofs.Calls.{call_not_set_up, call_not_finite, call_unknown, call_finished}
-use borrow.Author.Rules.{rules}
 use Rattle.bank.proofs.smoother_bank.SmootherBank.judge.Goals as goal
 
 pub returns-then-not-is_prepared : goal.returns-then-not-is_prepared

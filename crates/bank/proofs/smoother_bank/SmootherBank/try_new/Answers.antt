@@ -1,6 +1,5 @@
 -- `SmootherBank::try_new`: set up, or refused.
 use Rattle.bank.proofs.Calls.{set_up, set_up_refused}
-use borrow.Author.Rules.{rules}
 use Rattle.bank.proofs.smoother_bank.SmootherBank.try_new.Goals as goal
 
 pub returns-in-Finished : goal.returns-in-Finished

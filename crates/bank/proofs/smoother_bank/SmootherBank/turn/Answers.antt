@@ -1,5 +1,4 @@
 -- `turn`: refused, or every parameter.
-use borrow.Author.Rules.{rules}
 use Rattle.bank.specs.Smoother.{applied}
 use Rattle.bank.proofs.Tests.{held, failed}
 use Rattle.bank.proofs.Calls.{turn_refused, turn_done}

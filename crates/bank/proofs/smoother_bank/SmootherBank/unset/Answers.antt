@@ -1,6 +1,5 @@
 -- `unset`: eight vacant slots.
 use mathlib.Core.Path.{refl}
-use borrow.Author.Rules.{rules}
 use Rattle.bank.proofs.smoother_bank.SmootherBank.unset.Goals as goal
 
 pub returns : goal.returns

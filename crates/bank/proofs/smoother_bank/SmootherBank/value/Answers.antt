@@ -1,7 +1,6 @@
 -- `SmootherBank::value`: 18, 24, or the value.
 use Rattle.bank.proofs.Tests.{held, failed}
 use Rattle.bank.proofs.Calls.{value_not_set_up, value_unknown, value_read}
-use borrow.Author.Rules.{rules}
 use Rattle.bank.proofs.smoother_bank.SmootherBank.value.Goals as goal
 
 pub returns-then-not-is_prepared : goal.returns-then-not-is_prepared

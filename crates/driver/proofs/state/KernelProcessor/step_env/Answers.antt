@@ -41,4 +41,4 @@ returns c delay detector =
     let minima = e.new.minima in
     let row = e.new.row in
     rw (c.with_env-limiter.ensures, c.told-answer.ensures marks minima row)
-    (gain_done_lem (machine delay detector) c.args.gain j.result (j.ensures delay detector) c.in_default.is (gain_step_at e.result marks minima row) (e.ensures.row_after c.args.gain refl))
+    (gain_done_lem (machine delay detector) c.args.gain j.result (j.ensures delay detector) c.in_default.is (gain_step_at e.result marks minima row) (e.ensures.one_step c.args.gain refl))

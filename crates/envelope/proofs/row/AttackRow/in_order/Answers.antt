@@ -1,6 +1,5 @@
 -- `in_order`: the tests are the definition's; a row with no floor to count is within 0 and 1.
 use mathlib.Core.Path.{refl}
-use borrow.Author.Rules.{rules}
 use Rattle.envelope.specs.Row.{row_in_order}
 use Rattle.envelope.proofs.Scan.{in_order_uncounted}
 use Rattle.envelope.proofs.row.AttackRow.in_order.Goals as goal

@@ -1,7 +1,6 @@
 -- `means`: each way gives the same means.
 use mathlib.Core.Path.{◌≡◌, refl, sym, ◌∙◌}
 use native.Mathlib.Omega.{arith}
-use borrow.Author.Rules.{rules}
 use mathlib.Core.Bool.{Bool, true, false, ◌||◌}
 use Prim.Native.Nat.{ℕ, ◌≤◌}
 use lib.Dec.{eqb, ltb}
@@ -24,7 +23,7 @@ pub pos_after-requires : goal.pos_after-requires
 pos_after-requires c =
     let k = short-enough (length c.args.floors.now) (length c.args.row.now) c.if-n-l.false in
     record {
-      pos_lt_l = (ordered c.args.self c.args.row.now c.requires.row_value).place;
+      pos_lt_l = (ordered c.args.self c.args.row.now c.requires.row_ordered).place;
       n_bound = omega arith;
     }
 
@@ -32,15 +31,15 @@ pub returns-then-self-all_one : goal.returns-then-self-all_one
 returns-then-self-all_one c =
     let a = c.args in
     let k = and-true (eqb a.self.tally 0) c.all_one.result c.if-self-all_one.true in
-    still a.weights.now a.self a.row.now a.floors.now c.pos_after.result (λ i. c.slice_known-1.given i) (λ i. c.slice_known-2-1.given i) c.requires.row_value (eqb-true a.self.tally 0 k.0) (sym c.all_one.ensures ∙ k.1) c.pos_after.ensures
+    still a.weights.now a.self a.row.now a.floors.now c.pos_after.result (λ i. c.slice_known-1.given i) (λ i. c.slice_known-2-1.given i) c.requires.row_ordered (eqb-true a.self.tally 0 k.0) (sym c.all_one.ensures ∙ k.1) c.pos_after.ensures
 
 pub means_short-requires : goal.means_short-requires
 means_short-requires c =
     let k = short-enough (length c.args.floors.now) (length c.args.row.now) c.if-n-l.false in
     record {
-      row_value = c.requires.row_value;
+      row_ordered = c.requires.row_ordered;
       weights_len = c.requires.weights_len;
-      floors_value = c.requires.floors_value;
+      floors_unit = c.requires.floors_unit;
       floors_len_bound = k.0;
       row_len_bound = c.if-l-le96.true;
     }
@@ -49,9 +48,9 @@ pub means_long-requires : goal.means_long-requires
 means_long-requires c =
     let k = short-enough (length c.args.floors.now) (length c.args.row.now) c.if-n-l.false in
     record {
-      row_value = c.requires.row_value;
+      row_ordered = c.requires.row_ordered;
       weights_len = c.requires.weights_len;
-      floors_value = c.requires.floors_value;
+      floors_unit = c.requires.floors_unit;
       floors_len_bound = k.0;
       row_len_bound = k.1;
     }

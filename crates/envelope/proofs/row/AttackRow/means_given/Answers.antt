@@ -1,23 +1,20 @@
 -- `means_given`: the means passed, and what the rest comes to, for the weights that gave the sums.
 use mathlib.Core.Path.{◌≡◌, refl, ◌∙◌}
-use mathlib.Core.Bool.{true}
-use mathlib.Core.List.{List}
-use Prim.Native.Nat.{◌-◌, ◌≤◌, ◌<◌}
+use Prim.Native.Nat.{◌-◌, ◌<◌}
 use native.Mathlib.Omega.{arith}
 use borrow.Author.Rules.{rules}
-use lib.ListN.{length, get_or, take, drop, length-set}
-use lib.Ieee.{Float, nan}
+use lib.ListN.{length, get_or, length-set}
+use lib.Ieee.{nan}
 use Rattle.arithmetic.proofs.InTurn.{kept}
-use Rattle.envelope.specs.Row.{rowed_at, all_unit, row_in_order}
-use Rattle.envelope.specs.Run.{means_of, sums_of}
-use Rattle.envelope.proofs.RunMeans.{means_from, means_more, means_done, turn_keeps, mean_given, sum_here, sums_ahead}
+use Rattle.envelope.specs.Row.{rowed_at}
+use Rattle.envelope.proofs.RunMeans.{means_more, means_done, turn_keeps, mean_given, sum_here, sums_ahead}
 use Rattle.envelope.proofs.row.AttackRow.means_given.Goals as goal
 
 pub loop-i-init : goal.loop-i-init
 loop-i-init c =
     let n = length c.args.floors.now in
     let e : n - 0 ≡ n = omega arith in
-    (search rules, refl, c.requires.row_value, c.requires.floors_value, refl, λ weights S. (rw e S, refl))
+    (search rules, refl, c.requires.row_ordered, c.requires.floors_unit, refl, λ weights S. (rw e S, refl))
 
 pub push-a-requires : goal.push-a-requires
 push-a-requires c = c.loop-i.invariant.2

@@ -1,16 +1,13 @@
 -- `means_given`: the means passed, and what the rest comes to, for the weights that gave the sums.
-use mathlib.Core.Path.{◌≡◌, refl, ◌∙◌}
+use mathlib.Core.Path.{◌≡◌}
 use mathlib.Core.Bool.{true}
 use mathlib.Core.List.{List}
-use Prim.Native.Nat.{◌-◌, ◌≤◌, ◌<◌}
-use native.Mathlib.Omega.{arith}
-use borrow.Author.Rules.{rules}
-use lib.ListN.{length, get_or, take, drop, length-set}
-use lib.Ieee.{Float, nan}
-use Rattle.arithmetic.proofs.InTurn.{kept}
+use Prim.Native.Nat.{◌-◌, ◌≤◌}
+use lib.ListN.{length, take, drop}
+use lib.Ieee.{Float}
 use Rattle.envelope.specs.Row.{rowed_at, all_unit, row_in_order}
 use Rattle.envelope.specs.Run.{means_of, sums_of}
-use Rattle.envelope.proofs.RunMeans.{means_from, means_more, means_done, turn_keeps, mean_given, sum_here, sums_ahead}
+use Rattle.envelope.proofs.RunMeans.{means_from}
 use Rattle.envelope.proofs.row.AttackRow.means_given.Given as goal
 
 abbrev pub invariant-loop-i : goal.invariant-loop-i

@@ -1,17 +1,14 @@
 -- `means_in_turn`: the means passed, and what the rest comes to.
-use mathlib.Core.Path.{◌≡◌, refl, sym, ◌∙◌}
-use mathlib.Core.Bool.{true}
-use Prim.Native.Nat.{◌-◌, ◌≤◌}
+use mathlib.Core.Path.{refl, sym, ◌∙◌}
 use native.Mathlib.Omega.{arith}
 use borrow.Author.Rules.{rules}
-use lib.ListN.{length, drop, length-set}
-use Rattle.envelope.specs.Row.{rowed_at, all_unit, row_in_order}
-use Rattle.envelope.specs.Run.{means_of}
-use Rattle.envelope.proofs.RunMeans.{means_from, means_more, means_done, turn_keeps}
+use lib.ListN.{length-set}
+use Rattle.envelope.specs.Row.{rowed_at}
+use Rattle.envelope.proofs.RunMeans.{means_more, means_done, turn_keeps}
 use Rattle.envelope.proofs.row.AttackRow.means_in_turn.Goals as goal
 
 pub loop-i-init : goal.loop-i-init
-loop-i-init c = (search rules, refl, c.requires.row_value, c.requires.floors_value, refl, refl)
+loop-i-init c = (search rules, refl, c.requires.row_ordered, c.requires.floors_unit, refl, refl)
 
 pub push-a-requires : goal.push-a-requires
 push-a-requires c = c.loop-i.invariant.2
@@ -20,7 +17,7 @@ pub mean-requires : goal.mean-requires
 mean-requires c =
     let k = turn_keeps c.loop-i.a c.loop-i.row c.loop-i.i c.loop-i.floors (rowed_at c.push-a.result c.push-a.new.row) (omega arith) c.push-a.ensures c.loop-i.invariant.2 c.loop-i.invariant.3 in
     record {
-      row_value = k.0;
+      row_ordered = k.0;
       weights_len = c.requires.weights_len ∙ sym c.loop-i.invariant.4 ∙ sym k.2;
     }
 

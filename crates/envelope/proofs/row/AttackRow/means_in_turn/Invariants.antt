@@ -1,13 +1,11 @@
 -- `means_in_turn`: the means passed, and what the rest comes to.
-use mathlib.Core.Path.{◌≡◌, refl, sym, ◌∙◌}
+use mathlib.Core.Path.{◌≡◌}
 use mathlib.Core.Bool.{true}
 use Prim.Native.Nat.{◌-◌, ◌≤◌}
-use native.Mathlib.Omega.{arith}
-use borrow.Author.Rules.{rules}
-use lib.ListN.{length, drop, length-set}
+use lib.ListN.{length, drop}
 use Rattle.envelope.specs.Row.{rowed_at, all_unit, row_in_order}
 use Rattle.envelope.specs.Run.{means_of}
-use Rattle.envelope.proofs.RunMeans.{means_from, means_more, means_done, turn_keeps}
+use Rattle.envelope.proofs.RunMeans.{means_from}
 use Rattle.envelope.proofs.row.AttackRow.means_in_turn.Given as goal
 
 abbrev pub invariant-loop-i : goal.invariant-loop-i

@@ -1,6 +1,5 @@
 -- `drain`: silence, rendered at the kept target.
 use mathlib.Core.Path.{sym, ap, subst, ◌∙◌}
-use borrow.Author.Rules.{rules}
 use Prim.Native.Nat.{◌+◌}
 use native.Mathlib.Omega.{arith}
 use mathlib.Core.List.{List}
@@ -15,8 +14,8 @@ use Rattle.limiter.proofs.state.Limiter.drain.Goals as goal
 pub overflow_add-drained : goal.overflow_add-drained
 overflow_add-drained c =
     let lent : Stores =
-        let a = c.args in
-            stores_at a.delay.now a.marks.now a.minima.now a.weights.now a.row.now a.detector.now in
+    let a = c.args in
+    stores_at a.delay.now a.marks.now a.minima.now a.weights.now a.row.now a.detector.now in
     let few = drained_few c.args.self c.args.n lent c.args.audio.now c.requires in
     omega arith
 
@@ -24,8 +23,8 @@ pub render-after-requires : goal.render-after-requires
 unfolding of_bits
 render-after-requires c =
     let lent : Stores =
-        let a = c.args in
-            stores_at a.delay.now a.marks.now a.minima.now a.weights.now a.row.now a.detector.now in
+    let a = c.args in
+    stores_at a.delay.now a.marks.now a.minima.now a.weights.now a.row.now a.detector.now in
     let a = c.args in
     let filled = sym c.fill.ensures in record {
       kernel_ready = subst (λ (l : List Float). KernelReady a.self a.n lent l) filled (silent_ready a.self a.n lent a.audio.now c.requires);
@@ -41,10 +40,10 @@ pub returns : goal.returns
 unfolding of_bits render_of drain_of
 returns c =
     let lent : Stores =
-        let a = c.args in
-            stores_at a.delay.now a.marks.now a.minima.now a.weights.now a.row.now a.detector.now in
+    let a = c.args in
+    stores_at a.delay.now a.marks.now a.minima.now a.weights.now a.row.now a.detector.now in
     let a = c.args in
     let count = a.self.drained + a.n in
     rw c.drained_to.ensures
-    (ap (λ (z : Ran). drained_to z count) c.render-after.ensures.audio_after
+    (ap (λ (z : Ran). drained_to z count) c.render-after.ensures.run_done
     ∙ ap (λ (l : List Float). drained_to (render_of (rules_of a.self.settings a.format) a.self a.self.target a.n lent l) count) c.fill.ensures)

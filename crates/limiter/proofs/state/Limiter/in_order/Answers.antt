@@ -1,6 +1,5 @@
 -- `in_order`: clause by clause.
 use mathlib.Core.Path.{refl}
-use borrow.Author.Rules.{rules}
 use Rattle.limiter.specs.Order.{is_in_order}
 use Rattle.limiter.proofs.state.Limiter.in_order.Goals as goal
 

@@ -1,5 +1,4 @@
 -- `is_prepared`: the settings first, then what they derive.
-use borrow.Author.Rules.{rules}
 use Rattle.settings.proofs.Taken.{taken}
 use Rattle.limiter.specs.State.{spec_of}
 use Rattle.limiter.proofs.Ready.{refused_settings, passed_settings, accepted_settings}
@@ -14,8 +13,8 @@ release_coeff-coeff-requires c =
     let l = c.args.self in
     let t = taken l.settings (spec_of l) (passed_settings l c.spec.result c.spec.ensures c.is_accepted.result c.is_accepted.ensures c.if-not-is_accepted.false) in
     record {
-      release_ms_value = t.release_is;
-      rate_value = t.rate_is;
+      release_taken = t.release_is;
+      rate_taken = t.rate_is;
     }
 
 pub returns : goal.returns

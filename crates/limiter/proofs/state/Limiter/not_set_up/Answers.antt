@@ -1,6 +1,5 @@
 -- `not_set_up`: zeros, and a fresh envelope.
 use mathlib.Core.Path.{refl}
-use borrow.Author.Rules.{rules}
 use lib.Ieee.{of_bits}
 use Rattle.limiter.proofs.state.Limiter.not_set_up.Goals as goal
 

@@ -1,8 +1,6 @@
 -- `prepare`: judged first; then the stores are filled and the starting values made.
 use mathlib.Core.Path.{◌≡◌, ap, ◌∙◌}
 use mathlib.Core.Bool.{true}
-use borrow.Author.Rules.{rules}
-use borrow.Author.Tests.{not-true, not-false}
 use lib.Ieee.{of_bits}
 use Rattle.settings.proofs.Taken.{taken}
 use Rattle.limiter.specs.Stores.{Stores, stores_at, lengths_of}
@@ -17,41 +15,41 @@ judge-answer-requires c = ap (λ (l : StoreLengths). l.weights) c.lengths_of-l.e
 pub returns-then-not-is_finished : goal.returns-then-not-is_finished
 returns-then-not-is_finished c =
     let stores : Stores =
-        let a = c.args in
-            stores_at a.delay.now a.marks.now a.minima.now a.weights.now a.row.now a.detector.now in
+    let a = c.args in
+    stores_at a.delay.now a.marks.now a.minima.now a.weights.now a.row.now a.detector.now in
     let judged : (prepare_reply c.judge-answer.result ≡ prepare_refusal c.args.s c.args.spec (lengths_of stores) stores.weights) =
-        c.judge-answer.ensures ∙ ap (λ (l : StoreLengths). prepare_refusal c.args.s c.args.spec l stores.weights) c.lengths_of-l.ensures in
+    c.judge-answer.ensures ∙ ap (λ (l : StoreLengths). prepare_refusal c.args.s c.args.spec l stores.weights) c.lengths_of-l.ensures in
     rw c.not_set_up.ensures
     (refused_prepare c.args.s c.args.spec stores (prepare_reply c.judge-answer.result) judged c.is_finished.result c.is_finished.ensures c.if-not-is_finished.true)
 
 pub lay_weights-requires : goal.lay_weights-requires
 lay_weights-requires c =
     let stores : Stores =
-        let a = c.args in
-            stores_at a.delay.now a.marks.now a.minima.now a.weights.now a.row.now a.detector.now in
+    let a = c.args in
+    stores_at a.delay.now a.marks.now a.minima.now a.weights.now a.row.now a.detector.now in
     let judged : (prepare_reply c.judge-answer.result ≡ prepare_refusal c.args.s c.args.spec (lengths_of stores) stores.weights) =
-        c.judge-answer.ensures ∙ ap (λ (l : StoreLengths). prepare_refusal c.args.s c.args.spec l stores.weights) c.lengths_of-l.ensures in
+    c.judge-answer.ensures ∙ ap (λ (l : StoreLengths). prepare_refusal c.args.s c.args.spec l stores.weights) c.lengths_of-l.ensures in
     let through : c.is_finished.result ≡ true → (Passed c.args.s c.args.spec stores) =
-        λ e. all_passed c.args.s c.args.spec stores (prepare_reply c.judge-answer.result) judged c.is_finished.result c.is_finished.ensures e in
+    λ e. all_passed c.args.s c.args.spec stores (prepare_reply c.judge-answer.result) judged c.is_finished.result c.is_finished.ensures e in
     let h = house_ready c.args.s c.args.spec stores (through c.if-not-is_finished.false) in
     record {
-      rate_value = λ a. (h a).0;
-      weights_len = λ a. (h a).1;
+      housed = λ a. (h a).0;
+      weights_long = λ a. (h a).1;
     }
 
 pub started-requires : goal.started-requires
 started-requires c =
     let stores : Stores =
-        let a = c.args in
-            stores_at a.delay.now a.marks.now a.minima.now a.weights.now a.row.now a.detector.now in
+    let a = c.args in
+    stores_at a.delay.now a.marks.now a.minima.now a.weights.now a.row.now a.detector.now in
     let judged : (prepare_reply c.judge-answer.result ≡ prepare_refusal c.args.s c.args.spec (lengths_of stores) stores.weights) =
-        c.judge-answer.ensures ∙ ap (λ (l : StoreLengths). prepare_refusal c.args.s c.args.spec l stores.weights) c.lengths_of-l.ensures in
+    c.judge-answer.ensures ∙ ap (λ (l : StoreLengths). prepare_refusal c.args.s c.args.spec l stores.weights) c.lengths_of-l.ensures in
     let through : c.is_finished.result ≡ true → (Passed c.args.s c.args.spec stores) =
-        λ e. all_passed c.args.s c.args.spec stores (prepare_reply c.judge-answer.result) judged c.is_finished.result c.is_finished.ensures e in
+    λ e. all_passed c.args.s c.args.spec stores (prepare_reply c.judge-answer.result) judged c.is_finished.result c.is_finished.ensures e in
     let t = taken c.args.s c.args.spec (through c.if-not-is_finished.false).none in
     record {
-      release_ms_value = t.release_is;
-      rate_value = t.rate_is;
+      release_taken = t.release_is;
+      rate_taken = t.rate_is;
     }
 
 pub shape_of-marks : goal.shape_of-marks
@@ -64,9 +62,9 @@ pub returns : goal.returns
 unfolding of_bits
 returns c =
     let stores : Stores =
-        let a = c.args in
-            stores_at a.delay.now a.marks.now a.minima.now a.weights.now a.row.now a.detector.now in
+    let a = c.args in
+    stores_at a.delay.now a.marks.now a.minima.now a.weights.now a.row.now a.detector.now in
     let judged : (prepare_reply c.judge-answer.result ≡ prepare_refusal c.args.s c.args.spec (lengths_of stores) stores.weights) =
-        c.judge-answer.ensures ∙ ap (λ (l : StoreLengths). prepare_refusal c.args.s c.args.spec l stores.weights) c.lengths_of-l.ensures in
+    c.judge-answer.ensures ∙ ap (λ (l : StoreLengths). prepare_refusal c.args.s c.args.spec l stores.weights) c.lengths_of-l.ensures in
     rw (c.started.ensures, c.lay_weights.ensures, c.fill-3.ensures, c.fill-2.ensures, c.fill.ensures, c.clear_minima.ensures, c.clear_marks.ensures)
     (finished_prepare c.args.s c.args.spec stores (prepare_reply c.judge-answer.result) judged c.is_finished.result c.is_finished.ensures c.if-not-is_finished.false)

@@ -1,6 +1,5 @@
 -- `render`: the run, and the state that it leaves.
 use mathlib.Core.Path.{ap}
-use borrow.Author.Rules.{rules}
 use Rattle.frame.specs.Run.{RunDone}
 use Rattle.limiter.specs.Stores.{stores_at}
 use Rattle.limiter.specs.Run.{render_of, ran_by}
@@ -20,6 +19,6 @@ unfolding render_of
 returns c =
     let a = c.args in
     record {
-      audio_after = rw c.moved_on-limiter.ensures (ap (λ (d : RunDone). ran_by a.self a.weights.now a.target 0 d) c.render_run-run.ensures.audio_after);
+      run_done = rw c.moved_on-limiter.ensures (ap (λ (d : RunDone). ran_by a.self a.weights.now a.target 0 d) c.render_run-run.ensures.run_done);
       highest_value = c.render_run-run.ensures.highest_value;
     }

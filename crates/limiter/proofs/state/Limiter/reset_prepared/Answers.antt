@@ -1,6 +1,5 @@
 -- `reset_prepared`: the stores filled again, the starting values made again.
 use mathlib.Core.Path.{refl}
-use borrow.Author.Rules.{rules}
 use lib.Ieee.{of_bits}
 use Rattle.limiter.specs.Reset.{reset_of}
 use Rattle.limiter.proofs.Ready.{prepared_is}
@@ -10,8 +9,8 @@ pub started-requires : goal.started-requires
 started-requires c =
     let t = (prepared_is c.args.self c.requires).rules in
     record {
-      release_ms_value = t.release_is;
-      rate_value = rw c.spec.ensures t.rate_is;
+      release_taken = t.release_is;
+      rate_taken = rw c.spec.ensures t.rate_is;
     }
 
 pub returns : goal.returns

@@ -1,6 +1,5 @@
 -- `started`: what the settings derive, in its place.
 use mathlib.Core.Path.{refl}
-use borrow.Author.Rules.{rules}
 use Rattle.limiter.proofs.state.Limiter.started.Goals as goal
 
 pub returns : goal.returns

@@ -1,6 +1,5 @@
 -- `stores_fit`: the stores' lengths, judged.
 use mathlib.Core.Path.{refl}
-use borrow.Author.Rules.{rules}
 use Rattle.limiter.proofs.Frames.{bounds_of}
 use Rattle.limiter.proofs.state.Limiter.stores_fit.Goals as goal
 
