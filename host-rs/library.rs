@@ -5,7 +5,7 @@ use std::path::{Path, PathBuf};
 
 use crate::setting::{from_here, setting};
 
-/// A library of the proved code, made by `rt staticlib NAME`.
+/// A library of the proved code, made by `.ci/staticlib NAME`.
 pub struct Library {
     pub name: &'static str,
     /// The variable that tells where it lies.
@@ -24,7 +24,7 @@ pub fn link(library: &Library) -> Result<(), String> {
     println!("cargo::rerun-if-changed={}", lib.display());
     if !lib.is_file() {
         return Err(format!(
-            "no lib{name}.a in {}: run `rt staticlib {name}`, or set {variable}",
+            "no lib{name}.a in {}: run `.ci/staticlib {name}`, or set {variable}",
             dir.display()
         ));
     }
@@ -33,7 +33,7 @@ pub fn link(library: &Library) -> Result<(), String> {
     let archive = read(&lib)?;
     match declared(library)?.iter().find(|f| !defines(&archive, f)) {
         Some(function) => Err(format!(
-            "{} has no {function}: run `rt staticlib {name}` again",
+            "{} has no {function}: run `.ci/staticlib {name}` again",
             lib.display()
         )),
         None => Ok(()),
