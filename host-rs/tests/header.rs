@@ -1,4 +1,4 @@
-//! include/daggeryuzu.h and src/sys.rs declare what crate host exports: the same
+//! include/daggeryuzu.h and src/sys.rs declare what crate host_c exports: the same
 //! functions, with the same parameters in the same order. The header's numbers are the
 //! wrapper's.
 
@@ -14,10 +14,10 @@ fn root() -> PathBuf {
     Path::new(env!("CARGO_MANIFEST_DIR")).join("..")
 }
 
-/// Names and C types of `#[no_mangle] pub extern "C"` functions in crates/host/src.
+/// Names and C types of `#[unsafe(no_mangle)] pub extern "C"` functions in crates/host_c/src.
 fn exported() -> Functions {
     let mut found = Functions::new();
-    for file in fs::read_dir(root().join("crates/host/src")).unwrap() {
+    for file in fs::read_dir(root().join("crates/host_c/src")).unwrap() {
         let text = fs::read_to_string(file.unwrap().path()).unwrap();
         for rest in text.split("pub extern \"C\" fn ").skip(1) {
             let (name, rest) = rest.split_once('(').unwrap();

@@ -32,16 +32,14 @@ use state_bytes::read::{is_state, limiter_in, read_state, threshold_in};
 use state_bytes::write::{write_parts, write_state};
 
 // The look of a lookahead, in bits, at a rate.
-#[unsafe(no_mangle)]
-pub extern "C" fn daggeryuzu_look(lookahead_ms: u64, rate: u32) -> u64
+pub fn daggeryuzu_look(lookahead_ms: u64, rate: u32) -> u64
     ensures { result ≡ look_of (bits lookahead_ms) rate }
 {
     settings::derived::look(from_bits(lookahead_ms), rate)
 }
 
 // The bytes that a cap is held against: the limiter's stores and the bank.
-#[unsafe(no_mangle)]
-pub extern "C" fn daggeryuzu_bytes_needed(channels: usize, look: usize) -> u64
+pub fn daggeryuzu_bytes_needed(channels: usize, look: usize) -> u64
     ensures { result ≡ whole_needed channels look }
 {
     let n = settings::memory::bytes_needed(channels, look);
@@ -53,8 +51,7 @@ pub extern "C" fn daggeryuzu_bytes_needed(channels: usize, look: usize) -> u64
 }
 
 // Whether there are house weights of a rate and look: 1 or 0.
-#[unsafe(no_mangle)]
-pub extern "C" fn daggeryuzu_has_house_weights(rate: u32, look: usize) -> u32
+pub fn daggeryuzu_has_house_weights(rate: u32, look: usize) -> u32
     ensures { result ≡ cond (house_fits rate look) 1 0 }
 {
     if settings::house::fits(rate, look) {
@@ -115,8 +112,7 @@ fn with_word(t: ReplyWords, id: u32, word: u64) -> ReplyWords
 }
 
 // Sets a parameter's value and target at once: the value as its bits.
-#[unsafe(no_mangle)]
-pub extern "C" fn daggeryuzu_set_parameter(
+pub fn daggeryuzu_set_parameter(
     state: &mut [u8],
     answer: &mut [u64],
     id: u32,
@@ -134,8 +130,7 @@ pub extern "C" fn daggeryuzu_set_parameter(
 }
 
 // The present value of a parameter, as its bits.
-#[unsafe(no_mangle)]
-pub extern "C" fn daggeryuzu_parameter(state: &[u8], answer: &mut [u64], id: u32) -> u32
+pub fn daggeryuzu_parameter(state: &[u8], answer: &mut [u64], id: u32) -> u32
     ensures { read_at result answer.new ≡ value_by id answer.old state.now }
 {
     let p = read_state(state);
@@ -145,8 +140,7 @@ pub extern "C" fn daggeryuzu_parameter(state: &[u8], answer: &mut [u64], id: u32
 }
 
 // Restores the starting values.
-#[unsafe(no_mangle)]
-pub extern "C" fn daggeryuzu_reset(
+pub fn daggeryuzu_reset(
     state: &mut [u8],
     answer: &mut [u64],
     delay: &mut [f64],
@@ -167,8 +161,7 @@ pub extern "C" fn daggeryuzu_reset(
 }
 
 // One gain step, of a required gain as its bits: floor, entries dropped and kept, tally, mean and gain.
-#[unsafe(no_mangle)]
-pub extern "C" fn daggeryuzu_gain_step(
+pub fn daggeryuzu_gain_step(
     state: &mut [u8],
     answer: &mut [u64],
     gain: u64,
@@ -241,8 +234,7 @@ fn process_as(
 }
 
 // A block of f64 samples, eight bytes each.
-#[unsafe(no_mangle)]
-pub extern "C" fn daggeryuzu_process(
+pub fn daggeryuzu_process(
     state: &mut [u8],
     answer: &mut [u64],
     position: u64,
@@ -277,8 +269,7 @@ pub extern "C" fn daggeryuzu_process(
 }
 
 // A block of f32 samples, four bytes each.
-#[unsafe(no_mangle)]
-pub extern "C" fn daggeryuzu_process_float(
+pub fn daggeryuzu_process_float(
     state: &mut [u8],
     answer: &mut [u64],
     position: u64,
@@ -339,8 +330,7 @@ fn flush_as(
 }
 
 // A drain into f64 samples.
-#[unsafe(no_mangle)]
-pub extern "C" fn daggeryuzu_flush(
+pub fn daggeryuzu_flush(
     state: &mut [u8],
     answer: &mut [u64],
     frames: usize,
@@ -371,8 +361,7 @@ pub extern "C" fn daggeryuzu_flush(
 }
 
 // A drain into f32 samples.
-#[unsafe(no_mangle)]
-pub extern "C" fn daggeryuzu_flush_float(
+pub fn daggeryuzu_flush_float(
     state: &mut [u8],
     answer: &mut [u64],
     frames: usize,
@@ -429,8 +418,7 @@ fn keep(state: &mut [u8], p: KernelProcessor)
 
 // Sets a limiter up on lent stores; the settings' floats as their bits. Bit c of `left_out` leaves channel c out of the
 // linked peak; bits past the eighth are not read. A `house` other than 0 asks for a house table.
-#[unsafe(no_mangle)]
-pub extern "C" fn daggeryuzu_setup(
+pub fn daggeryuzu_setup(
     state: &mut [u8],
     answer: &mut [u64],
     threshold_db: u64,

@@ -15,32 +15,28 @@ fn rearrange_as(direction: Direction, format: Format, channels: usize, audio: &m
 }
 
 // Frame after frame, within the slice: channel after channel, as a block takes it.
-#[unsafe(no_mangle)]
-pub extern "C" fn daggeryuzu_deinterleave(channels: usize, audio: &mut [u8]) -> u32
+pub fn daggeryuzu_deinterleave(channels: usize, audio: &mut [u8]) -> u32
     ensures { rearranged_at result audio.new ≡ deinterleave_of F64 channels audio.old }
 {
     rearrange_as(Direction::Deinterleave, Format::F64, channels, audio)
 }
 
 // The same of f32 samples.
-#[unsafe(no_mangle)]
-pub extern "C" fn daggeryuzu_deinterleave_float(channels: usize, audio: &mut [u8]) -> u32
+pub fn daggeryuzu_deinterleave_float(channels: usize, audio: &mut [u8]) -> u32
     ensures { rearranged_at result audio.new ≡ deinterleave_of F32 channels audio.old }
 {
     rearrange_as(Direction::Deinterleave, Format::F32, channels, audio)
 }
 
 // Channel after channel, within the slice: frame after frame.
-#[unsafe(no_mangle)]
-pub extern "C" fn daggeryuzu_interleave(channels: usize, audio: &mut [u8]) -> u32
+pub fn daggeryuzu_interleave(channels: usize, audio: &mut [u8]) -> u32
     ensures { rearranged_at result audio.new ≡ interleave_of F64 channels audio.old }
 {
     rearrange_as(Direction::Interleave, Format::F64, channels, audio)
 }
 
 // The same of f32 samples.
-#[unsafe(no_mangle)]
-pub extern "C" fn daggeryuzu_interleave_float(channels: usize, audio: &mut [u8]) -> u32
+pub fn daggeryuzu_interleave_float(channels: usize, audio: &mut [u8]) -> u32
     ensures { rearranged_at result audio.new ≡ interleave_of F32 channels audio.old }
 {
     rearrange_as(Direction::Interleave, Format::F32, channels, audio)

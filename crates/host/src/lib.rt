@@ -1,4 +1,4 @@
-// The C functions (numbers and bytes): what a renderer links. include/daggeryuzu.h declares them.
+// The C functions (numbers and bytes). Crate `host_c` exports them; include/daggeryuzu.h declares them.
 #![tactic(auto)]
 
 // What a call answers, as words.
