@@ -1,14 +1,15 @@
 // The limiter's, each by the function of its name in crate `host`, under the same clauses.
 ghost use Rattle.std.specs.Prelude.{◌≡◌, cond, List, ◌%◌, Float};
 ghost use Rattle.arithmetic.specs.Number.{bits};
-ghost use Rattle.audio.specs.declared.format.Format.{Format};
 ghost use Rattle.settings.specs.Settings.{settings_of, process_spec};
 ghost use Rattle.settings.specs.Derived.{look_of};
 ghost use Rattle.settings.specs.House.{house_fits};
-ghost use Rattle.limiter.specs.Stores.{Stores, at_entry, at_exit};
+ghost use Rattle.limiter.specs.Stores.{Stores, stores_at};
 ghost use Rattle.turns.specs.Machine.{Machine};
-ghost use Rattle.driver.specs.Calls.{reset_of, gain_step, four_at_entry, four_at_exit};
+ghost use Rattle.driver.specs.Calls.{reset_of, gain_step};
 ghost use Rattle.host.specs.Host.{returned_at, called_by, returned_with, process_by, flush_by, parameter_by, read_at, value_by, cap_of, asked_of, setup_by, whole_needed};
+
+use audio::format::Format;
 
 // The look of a lookahead, in bits, at a rate.
 #[unsafe(no_mangle)]
@@ -68,8 +69,8 @@ pub extern "C" fn daggeryuzu_reset(
     row: &mut [f64],
     detector: &mut [f64],
 ) -> u32
-    ensures { returned_at result answer.new state.new (at_exit delay marks minima weights row detector)
-        ≡ called_by reset_of answer.old state.old (at_entry delay marks minima weights row detector) }
+    ensures { returned_at result answer.new state.new (stores_at delay.new marks.now minima.now weights.now row.new detector.new)
+        ≡ called_by reset_of answer.old state.old (stores_at delay.old marks.now minima.now weights.now row.old detector.old) }
 {
     host::calls::daggeryuzu_reset(state, answer, delay, marks, minima, weights, row, detector)
 }
@@ -86,9 +87,9 @@ pub extern "C" fn daggeryuzu_gain_step(
     row: &mut [f64],
 ) -> u32
     ensures { (delay detector : List Float)
-        → returned_at result answer.new state.new (four_at_exit delay marks minima weights row detector)
+        → returned_at result answer.new state.new (stores_at delay marks.new minima.new weights.now row.new detector)
         ≡ called_by (λ (m : Machine). gain_step m (bits gain)) answer.old state.old
-        (four_at_entry delay marks minima weights row detector) }
+        (stores_at delay marks.old minima.old weights.now row.old detector) }
 {
     host::calls::daggeryuzu_gain_step(state, answer, gain, marks, minima, weights, row)
 }
@@ -109,10 +110,13 @@ pub extern "C" fn daggeryuzu_process(
     row: &mut [f64],
     detector: &mut [f64],
 ) -> u32
-    ensures { returned_with (returned_at result answer.new state.new (at_exit delay marks minima weights row detector)) audio.new
-        ≡ process_by Format.F64 position frames events.now answer.old state.old (at_entry delay marks minima weights row detector) audio.old }
+    ensures { returned_with (returned_at result answer.new state.new (stores_at delay.new marks.new minima.new weights.now row.new detector.new)) audio.new
+        ≡ process_by Format.F64 position frames events.now answer.old state.old (stores_at delay.old marks.old minima.old weights.now row.old detector.old) audio.old }
 {
-    host::calls::daggeryuzu_process(state, answer, position, frames, events, audio, delay, marks, minima, weights, row, detector)
+    host::calls::daggeryuzu_process(
+        state, answer, position, frames, events, audio, delay, marks, minima, weights, row,
+        detector,
+    )
 }
 
 // A block of f32 samples, four bytes each.
@@ -131,10 +135,13 @@ pub extern "C" fn daggeryuzu_process_float(
     row: &mut [f64],
     detector: &mut [f64],
 ) -> u32
-    ensures { returned_with (returned_at result answer.new state.new (at_exit delay marks minima weights row detector)) audio.new
-        ≡ process_by Format.F32 position frames events.now answer.old state.old (at_entry delay marks minima weights row detector) audio.old }
+    ensures { returned_with (returned_at result answer.new state.new (stores_at delay.new marks.new minima.new weights.now row.new detector.new)) audio.new
+        ≡ process_by Format.F32 position frames events.now answer.old state.old (stores_at delay.old marks.old minima.old weights.now row.old detector.old) audio.old }
 {
-    host::calls::daggeryuzu_process_float(state, answer, position, frames, events, audio, delay, marks, minima, weights, row, detector)
+    host::calls::daggeryuzu_process_float(
+        state, answer, position, frames, events, audio, delay, marks, minima, weights, row,
+        detector,
+    )
 }
 
 // A drain into f64 samples.
@@ -151,10 +158,12 @@ pub extern "C" fn daggeryuzu_flush(
     row: &mut [f64],
     detector: &mut [f64],
 ) -> u32
-    ensures { returned_with (returned_at result answer.new state.new (at_exit delay marks minima weights row detector)) audio.new
-        ≡ flush_by Format.F64 frames answer.old state.old (at_entry delay marks minima weights row detector) audio.old }
+    ensures { returned_with (returned_at result answer.new state.new (stores_at delay.new marks.new minima.new weights.now row.new detector.new)) audio.new
+        ≡ flush_by Format.F64 frames answer.old state.old (stores_at delay.old marks.old minima.old weights.now row.old detector.old) audio.old }
 {
-    host::calls::daggeryuzu_flush(state, answer, frames, audio, delay, marks, minima, weights, row, detector)
+    host::calls::daggeryuzu_flush(
+        state, answer, frames, audio, delay, marks, minima, weights, row, detector,
+    )
 }
 
 // A drain into f32 samples.
@@ -171,10 +180,12 @@ pub extern "C" fn daggeryuzu_flush_float(
     row: &mut [f64],
     detector: &mut [f64],
 ) -> u32
-    ensures { returned_with (returned_at result answer.new state.new (at_exit delay marks minima weights row detector)) audio.new
-        ≡ flush_by Format.F32 frames answer.old state.old (at_entry delay marks minima weights row detector) audio.old }
+    ensures { returned_with (returned_at result answer.new state.new (stores_at delay.new marks.new minima.new weights.now row.new detector.new)) audio.new
+        ≡ flush_by Format.F32 frames answer.old state.old (stores_at delay.old marks.old minima.old weights.now row.old detector.old) audio.old }
 {
-    host::calls::daggeryuzu_flush_float(state, answer, frames, audio, delay, marks, minima, weights, row, detector)
+    host::calls::daggeryuzu_flush_float(
+        state, answer, frames, audio, delay, marks, minima, weights, row, detector,
+    )
 }
 
 // Sets a limiter up on lent stores; the settings' floats as their bits. Bit c of `left_out` leaves channel c out of the
@@ -201,10 +212,30 @@ pub extern "C" fn daggeryuzu_setup(
     row: &mut [f64],
     detector: &mut [f64],
 ) -> u32
-    ensures { returned_at result answer.new state.new (at_exit delay marks minima weights row detector)
+    ensures { returned_at result answer.new state.new (stores_at delay.new marks.new minima.new weights.new row.new detector.new)
         ≡ setup_by (settings_of (bits threshold_db) (bits true_peak_margin_db) (bits lookahead_ms) (bits release_ms) (left_out % 256))
         (process_spec rate channels max_block (cap_of capped cap) (asked_of house))
-        answer.old state.old (at_entry delay marks minima weights row detector) }
+        answer.old state.old (stores_at delay.old marks.old minima.old weights.old row.old detector.old) }
 {
-    host::calls::daggeryuzu_setup(state, answer, threshold_db, true_peak_margin_db, lookahead_ms, release_ms, left_out, rate, channels, max_block, capped, cap, house, delay, marks, minima, weights, row, detector)
+    host::calls::daggeryuzu_setup(
+        state,
+        answer,
+        threshold_db,
+        true_peak_margin_db,
+        lookahead_ms,
+        release_ms,
+        left_out,
+        rate,
+        channels,
+        max_block,
+        capped,
+        cap,
+        house,
+        delay,
+        marks,
+        minima,
+        weights,
+        row,
+        detector,
+    )
 }
