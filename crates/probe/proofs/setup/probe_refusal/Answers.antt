@@ -12,16 +12,16 @@ use Rattle.probe.proofs.setup.probe_refusal.Goals as goal
 pub returns-in-Passed : goal.returns-in-Passed
 returns-in-Passed c =
     let given : LimiterSettings =
-        settings_of c.args.threshold c.args.margin c.args.lookahead c.args.release all_count in
+    settings_of c.args.threshold c.args.margin c.args.lookahead c.args.release all_count in
     let told : ProcessSpec =
-        process_spec c.args.rate c.args.channels c.args.«max_block» Cap.Unlimited false in
+    process_spec c.args.rate c.args.channels c.args.«max_block» Cap.Unlimited false in
     sym (settings_passed given told c.refusal.result c.refusal.ensures c.in-Passed.is)
 
 pub returns-in-Refused : goal.returns-in-Refused
 returns-in-Refused c =
     let given : LimiterSettings =
-        settings_of c.args.threshold c.args.margin c.args.lookahead c.args.release all_count in
+    settings_of c.args.threshold c.args.margin c.args.lookahead c.args.release all_count in
     let told : ProcessSpec =
-        process_spec c.args.rate c.args.channels c.args.«max_block» Cap.Unlimited false in
+    process_spec c.args.rate c.args.channels c.args.«max_block» Cap.Unlimited false in
     c.refusal_number.ensures
     ∙ sym (settings_refused given told c.refusal.result c.refusal.ensures c.in-Refused.why c.in-Refused.is)

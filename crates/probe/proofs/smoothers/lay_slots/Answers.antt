@@ -20,6 +20,7 @@ sets_append l i [] ys = rw (add-zero i) refl
 sets_append l i (x ∷ xs) ys =
     let e : suc i + length xs ≡ i + suc (length xs) = omega arith in
     sets_append (set l i x) (suc i) xs ys ∙ ap (λ (k : ℕ). sets (sets (set l i x) (suc i) xs) k ys) e
+
 module _ (old ws : List ℕ) (ss : List Smoother) (i : ℕ) (e : sets ws (12 * i) (slots_out (drop i ss)) ≡ sets old 0 (slots_out ss)) where
   laid_more : (xs : List ℕ) (s : Smoother) → i < length ss → xs ≡ sets ws (12 * i) (smoother_out s) → s ≡ slot_at i ss → sets xs (12 * (i + 1)) (slots_out (drop (i + 1) ss)) ≡ sets old 0 (slots_out ss)
   unfolding slots_out
@@ -50,13 +51,13 @@ loop-i-smaller c = omega arith
 pub loop-i-preserved : goal.loop-i-preserved
 loop-i-preserved c =
     let eight : length c.args.slots ≡ 8 =
-        c.well_formed.1.0.1.0.1 in
+    c.well_formed.1.0.1.0.1 in
     let a = c.args in
     (omega arith, laid_more a.words.now c.loop-i.words a.slots c.loop-i.i c.loop-i.invariant.1 _ c.slot.result (omega (arith, eight)) c.lay_slot.ensures c.slot.ensures)
 
 pub returns : goal.returns
 returns c =
     let eight : length c.args.slots ≡ 8 =
-        c.well_formed.1.0.1.0.1 in
+    c.well_formed.1.0.1.0.1 in
     let a = c.args in
     laid-all a.words.now c.loop-i.words a.slots c.loop-i.i c.loop-i.invariant.1 (omega (arith, eight))

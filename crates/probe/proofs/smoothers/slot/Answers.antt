@@ -18,5 +18,5 @@ any-default (s ∷ ss) (suc i) d e h = any-default ss i d e (omega arith)
 pub returns : goal.returns
 returns c =
     let eight : length c.args.slots ≡ 8 =
-        c.well_formed.0.1.0.1 in
+    c.well_formed.0.1.0.1 in
     any-default c.args.slots c.args.i _ vacant (omega (arith, eight))
