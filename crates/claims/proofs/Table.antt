@@ -34,7 +34,7 @@ use Rattle.turns.specs.Machine.{threshold_param}
 use Rattle.driver.specs.Calls.{bank_bytes, budget_reply, with_rest, setup_of}
 use Rattle.claims.specs.Session.{Limiting}
 use Rattle.claims.specs.Claim.{Claim}
-use Rattle.claims.specs.Table.{Row, row, first_arising, plus30, ten_thousand, hundredth, parameter_rows, bank_rows, threshold_declared, over_cap, bank_needs, limiter_needs, rest, outside, fits_none, limiter_rows, setup_table, row_at, numbers_of, setup_numbers, ArisesFirst, ReadOff, NeverHere}
+use Rattle.claims.specs.Table.{Row, first_arising, plus30, ten_thousand, hundredth, parameter_rows, bank_rows, threshold_declared, over_cap, bank_needs, limiter_needs, rest, outside, fits_none, limiter_rows, setup_table, row_at, numbers_of, setup_numbers, ArisesFirst, ReadOff, NeverHere}
 
 -- ---- a condition, positively and negatively
 not_and : (p q : Bool) → (not p || not q) ≡ not (p && q)

@@ -6,7 +6,7 @@ use Prim.Native.Nat.{ℕ}
 use lib.Dec.{eqb, leb}
 use lib.Ieee.{Float}
 use lib.Ieee.Scale.{finite}
-use borrow.Author.Tests.{eqb-true, not-true, not-false}
+use borrow.Author.Tests.{eqb-true}
 use Rattle.arithmetic.specs.Reply.{Reply, finished, refused, numbered, count, float, and_then, must}
 use Rattle.arithmetic.proofs.Passed.{passed_unless}
 use Rattle.limiter.specs.Stores.{Stores}

@@ -1,5 +1,5 @@
 -- The other calls: setup, parameter call, reset, the lone gain step, reading a value.
-use Rattle.std.specs.Prelude.{ℕ, ◌+◌, Bool, cond, not, ◌&&◌, List, [], ◌∷◌, eqb, leb, length, replicate, Float}
+use Rattle.std.specs.Prelude.{ℕ, ◌+◌, Bool, cond, not, ◌&&◌, [], ◌∷◌, eqb, leb, length, replicate, Float}
 use Rattle.std.specs.Float.Ieee.Scale.{finite}
 use Rattle.arithmetic.specs.Reply.{Reply, finished, refused, numbered, count, float, unless, and_then, must}
 use Rattle.envelope.specs.Step.{GainStepped, gain_step_of, enveloped_at}

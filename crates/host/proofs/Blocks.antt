@@ -6,7 +6,7 @@ use Prim.Native.Nat.{ℕ}
 use native.Mathlib.Omega.{arith}
 use lib.Dec.{eqb}
 use lib.ListN.{length}
-use borrow.Author.Tests.{not-true, eqb-true}
+use borrow.Author.Tests.{eqb-true}
 use Rattle.arithmetic.specs.Reply.{Reply, numbered}
 use Rattle.audio.specs.Format.{size_of}
 use Rattle.audio.specs.declared.format.Format.{Format}

@@ -1,5 +1,5 @@
 -- The C functions: each call of the driver through bytes. A buffer that is no state holds the limiter that was never set up, which every call but setup answers with 18.
-use Rattle.std.specs.Prelude.{ℕ, ◌+◌, Bool, cond, not, List, [], ◌∷◌, eqb, leb, length, Float}
+use Rattle.std.specs.Prelude.{ℕ, ◌+◌, Bool, cond, not, List, [], ◌∷◌, eqb, leb, length}
 use Rattle.arithmetic.specs.Number.{bits, largest}
 use Rattle.arithmetic.specs.Reply.{Reply, refused, count}
 use Rattle.audio.specs.declared.format.Format.{Format}

@@ -112,12 +112,7 @@ fn with_word(t: ReplyWords, id: u32, word: u64) -> ReplyWords
 }
 
 // Sets a parameter's value and target at once: the value as its bits.
-pub fn daggeryuzu_set_parameter(
-    state: &mut [u8],
-    answer: &mut [u64],
-    id: u32,
-    value: u64,
-) -> u32
+pub fn daggeryuzu_set_parameter(state: &mut [u8], answer: &mut [u64], id: u32, value: u64) -> u32
     ensures { (stores : Stores) → returned_at result answer.new state.new stores
         ≡ called_by (parameter_by id value) answer.old state.old stores }
 {

@@ -1,9 +1,8 @@
 -- `check_events`: what the events from i on answer, all answer.
 use mathlib.Core.Path.{◌≡◌, refl, sym, ◌∙◌}
-use Prim.Native.Nat.{◌-◌, ◌/◌, ◌≤◌}
+use Prim.Native.Nat.{◌-◌, ◌/◌}
 use native.Mathlib.Omega.{arith}
 use lib.ListN.{length}
-use Rattle.turns.specs.Events.{events_from, events_of, events_reply}
 use Rattle.turns.proofs.Latching.{check_here, check_more, check_end}
 use Rattle.driver.proofs.events.check_events.Goals as goal
 

@@ -1,10 +1,7 @@
 -- `check_events`: what the events from i on answer, all answer.
-use mathlib.Core.Path.{◌≡◌, refl, sym, ◌∙◌}
-use Prim.Native.Nat.{◌-◌, ◌/◌, ◌≤◌}
-use native.Mathlib.Omega.{arith}
-use lib.ListN.{length}
+use mathlib.Core.Path.{◌≡◌}
+use Prim.Native.Nat.{◌-◌, ◌≤◌}
 use Rattle.turns.specs.Events.{events_from, events_of, events_reply}
-use Rattle.turns.proofs.Latching.{check_here, check_more, check_end}
 use Rattle.driver.proofs.events.check_events.Given as goal
 
 abbrev pub invariant-loop-i : goal.invariant-loop-i

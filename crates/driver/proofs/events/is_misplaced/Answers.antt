@@ -1,7 +1,6 @@
 -- `is_misplaced`: the three tests.
 use mathlib.Core.Path.{refl}
 use native.Mathlib.Omega.{arith}
-use borrow.Author.Rules.{rules}
 use Rattle.driver.proofs.events.is_misplaced.Goals as goal
 
 pub overflow_mul-offset : goal.overflow_mul-offset

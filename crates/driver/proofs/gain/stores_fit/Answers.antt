@@ -1,6 +1,5 @@
 -- `stores_fit`: the four tests are the definition's.
 use mathlib.Core.Path.{refl}
-use borrow.Author.Rules.{rules}
 use Rattle.driver.proofs.gain.stores_fit.Goals as goal
 
 pub returns : goal.returns

@@ -21,8 +21,8 @@ pub returns-then-not-is_finished : goal.returns-then-not-is_finished
 unfolding block_reply
 returns-then-not-is_finished c b e =
     let machine : SmootherBank → Machine =
-        λ b. let a = c.args in
-            machine_of a.l b (stores_at a.delay.now a.marks.now a.minima.now a.weights.now a.row.now a.detector.now) in
+    λ b. let a = c.args in
+    machine_of a.l b (stores_at a.delay.now a.marks.now a.minima.now a.weights.now a.row.now a.detector.now) in
     let a = c.args in
     let m = machine b in
     first_refused (answer_reply c.judge-answer.result) (numbered (ready_refusal m)) (call_reply m a.position a.frames (events_of a.events.now) a.size) (c.judge-answer.ensures b e) c.is_finished.result
@@ -31,8 +31,8 @@ returns-then-not-is_finished c b e =
 pub judge_call-requires : goal.judge_call-requires
 judge_call-requires c =
     let machine : SmootherBank → Machine =
-        λ b. let a = c.args in
-            machine_of a.l b (stores_at a.delay.now a.marks.now a.minima.now a.weights.now a.row.now a.detector.now) in
+    λ b. let a = c.args in
+    machine_of a.l b (stores_at a.delay.now a.marks.now a.minima.now a.weights.now a.row.now a.detector.now) in
     let a = c.args in
     let b = bank_with a.t in
     let m = machine b in
@@ -44,8 +44,8 @@ pub returns : goal.returns
 unfolding block_reply
 returns c b e =
     let machine : SmootherBank → Machine =
-        λ b. let a = c.args in
-            machine_of a.l b (stores_at a.delay.now a.marks.now a.minima.now a.weights.now a.row.now a.detector.now) in
+    λ b. let a = c.args in
+    machine_of a.l b (stores_at a.delay.now a.marks.now a.minima.now a.weights.now a.row.now a.detector.now) in
     let a = c.args in
     let m = machine b in
     first_passed (answer_reply c.judge-answer.result) (numbered (ready_refusal m)) (call_reply m a.position a.frames (events_of a.events.now) a.size) (c.judge-answer.ensures b e) c.is_finished.result

@@ -1,7 +1,6 @@
 -- `declares`: clause by clause.
 use mathlib.Core.Path.{refl}
 use lib.Ieee.{of_bits, neg}
-use borrow.Author.Rules.{rules}
 use Rattle.turns.specs.Machine.{declares}
 use Rattle.driver.proofs.ready.declares.Goals as goal
 

@@ -1,6 +1,5 @@
 -- `is_set_up`: clause by clause, the bank's by its one parameter.
 use Rattle.driver.proofs.Judged.{parts_judged}
-use borrow.Author.Rules.{rules}
 use Rattle.driver.proofs.ready.is_set_up.Goals as goal
 
 pub returns : goal.returns

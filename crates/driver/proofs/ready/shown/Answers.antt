@@ -1,5 +1,4 @@
 -- `shown`: the first slot, and the bank's own fields.
-use borrow.Author.Rules.{rules}
 use Rattle.driver.proofs.ready.shown.Goals as goal
 
 pub returns : goal.returns

@@ -1,5 +1,4 @@
 -- `threshold`: the first of eight slots.
-use borrow.Author.Rules.{rules}
 use Rattle.driver.proofs.Judged.{first_slot}
 use Rattle.driver.proofs.ready.threshold.Goals as goal
 

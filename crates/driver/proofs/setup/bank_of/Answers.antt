@@ -1,5 +1,4 @@
 -- `bank_of`: the callee's promise, at eight times the one declaration.
-use borrow.Author.Rules.{rules}
 use Rattle.driver.proofs.setup.bank_of.Goals as goal
 
 pub returns : goal.returns

@@ -1,6 +1,5 @@
 -- `kept`: by the answer's case.
 use mathlib.Core.Path.{refl, sym}
-use borrow.Author.Rules.{rules}
 use Rattle.limiter.proofs.Judge.{other_case}
 use Rattle.driver.proofs.setup.kept.Goals as goal
 

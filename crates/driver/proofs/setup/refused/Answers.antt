@@ -1,6 +1,5 @@
 -- `refused`: the answer, and neither limiter nor bank set up.
 use mathlib.Core.Path.{ap}
-use borrow.Author.Rules.{rules}
 use Rattle.turns.specs.Machine.{Machine}
 use Rattle.driver.specs.Calls.{left}
 use Rattle.driver.specs.Answers.{setup_reply}

@@ -1,6 +1,5 @@
 -- `with_rest`: the cap that is left, and the rest as it was.
 use mathlib.Core.Path.{refl}
-use borrow.Author.Rules.{rules}
 use Rattle.driver.proofs.setup.with_rest.Goals as goal
 
 pub returns : goal.returns

@@ -1,6 +1,5 @@
 -- `of_bank`: the match tells which answer it was.
 use mathlib.Core.Path.{refl}
-use borrow.Author.Rules.{rules}
 use Rattle.host.proofs.answer.of_bank.Goals as goal
 
 pub returns-in-TooMany : goal.returns-in-TooMany

@@ -1,6 +1,5 @@
 -- `of_gain`: the match tells which answer it was.
 use mathlib.Core.Path.{refl}
-use borrow.Author.Rules.{rules}
 use Rattle.host.proofs.answer.of_gain.Goals as goal
 
 pub returns-in-Finished : goal.returns-in-Finished

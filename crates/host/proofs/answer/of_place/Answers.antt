@@ -1,6 +1,5 @@
 -- `of_place`: the match tells which seat it was.
 use mathlib.Core.Path.{refl}
-use borrow.Author.Rules.{rules}
 use Rattle.host.proofs.answer.of_place.Goals as goal
 
 pub returns-in-Nowhere : goal.returns-in-Nowhere

@@ -1,6 +1,5 @@
 -- `of_refusal`: the match tells which answer it was.
 use mathlib.Core.Path.{refl}
-use borrow.Author.Rules.{rules}
 use Rattle.host.proofs.answer.of_refusal.Goals as goal
 
 pub returns-in-NotSetUp : goal.returns-in-NotSetUp

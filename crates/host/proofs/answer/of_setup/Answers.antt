@@ -1,6 +1,5 @@
 -- `of_setup`: the match tells which answer it was.
 use mathlib.Core.Path.{refl}
-use borrow.Author.Rules.{rules}
 use Rattle.host.proofs.answer.of_setup.Goals as goal
 
 pub returns-in-Bank : goal.returns-in-Bank

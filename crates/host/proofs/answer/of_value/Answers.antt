@@ -1,6 +1,5 @@
 -- `of_value`: the match tells which answer it was.
 use mathlib.Core.Path.{refl}
-use borrow.Author.Rules.{rules}
 use Rattle.host.proofs.answer.of_value.Goals as goal
 
 pub returns-in-Value : goal.returns-in-Value

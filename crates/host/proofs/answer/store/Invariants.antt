@@ -1,11 +1,8 @@
 -- `store`: the first words are stored.
 use Prim.Native.Nat.{◌-◌, ◌≤◌}
-use mathlib.Core.Path.{◌≡◌, refl}
+use mathlib.Core.Path.{◌≡◌}
 use mathlib.Core.List.{◌++◌}
-use native.Mathlib.Omega.{arith}
 use lib.ListN.{length, take, drop}
-use borrow.Author.Rules.{rules}
-use Rattle.host.proofs.Kept.{store_more, store_full, store_all}
 use Rattle.host.proofs.answer.store.Given as goal
 
 abbrev pub invariant-loop-i : goal.invariant-loop-i

@@ -1,6 +1,5 @@
 -- `daggeryuzu_bytes_needed`: unless the sum is past the largest number.
 use Rattle.host.proofs.Kept.{whole_counted, whole_largest}
-use borrow.Author.Rules.{rules}
 use Rattle.host.proofs.calls.daggeryuzu_bytes_needed.Goals as goal
 
 pub returns-then-n-le18446744073709551535 : goal.returns-then-n-le18446744073709551535

@@ -1,6 +1,5 @@
 -- `daggeryuzu_has_house_weights`: the test's answer as a number.
 use mathlib.Core.Path.{refl, sym, ◌∙◌}
-use borrow.Author.Rules.{rules}
 use Rattle.host.proofs.calls.daggeryuzu_has_house_weights.Goals as goal
 
 pub returns-then-fits : goal.returns-then-fits

@@ -2,7 +2,6 @@
 use mathlib.Core.Path.{ap, ◌∙◌}
 use lib.Ieee.{Float}
 use Rattle.settings.specs.Derived.{look_of}
-use borrow.Author.Rules.{rules}
 use Rattle.host.proofs.calls.daggeryuzu_look.Goals as goal
 
 pub returns : goal.returns

@@ -1,7 +1,6 @@
 -- `daggeryuzu_parameter`: the reading through bytes.
 use Rattle.bank.specs.Answers.{bank_value_reply}
 use Rattle.host.proofs.Through.{value_read}
-use borrow.Author.Rules.{rules}
 use Rattle.host.proofs.calls.daggeryuzu_parameter.Goals as goal
 
 pub returns : goal.returns

@@ -7,7 +7,6 @@ use Rattle.bank.specs.Answers.{param_set_reply}
 use Rattle.driver.specs.Calls.{Left}
 use Rattle.host.specs.Host.{parameter_by}
 use Rattle.host.proofs.Through.{finished_long, called, word_given, parameter_by_lem, parameter_word}
-use borrow.Author.Rules.{rules}
 use Rattle.host.proofs.calls.daggeryuzu_set_parameter.Goals as goal
 
 pub leave-requires : goal.leave-requires

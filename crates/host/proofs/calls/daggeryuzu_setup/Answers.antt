@@ -9,13 +9,12 @@ use Rattle.settings.specs.Settings.{settings_of, process_spec}
 use Rattle.settings.specs.declared.LimiterSettings.{LimiterSettings}
 use Rattle.settings.specs.declared.ProcessSpec.{ProcessSpec}
 use Rattle.settings.specs.declared.memory.Cap.{Cap}
-use Rattle.limiter.specs.Stores.{Stores, stores_at, with_weights}
+use Rattle.limiter.specs.Stores.{stores_at, with_weights}
 use Rattle.driver.specs.Calls.{left, setup_of}
 use Rattle.driver.specs.Answers.{machine_at, setup_reply}
 use Rattle.state_bytes.specs.State.{state_bytes}
 use Rattle.host.specs.Host.{cap_of, asked_of}
 use Rattle.host.proofs.Through.{lent_within, lent_part, came_back, set_up}
-use borrow.Author.Rules.{rules}
 use Rattle.host.proofs.calls.daggeryuzu_setup.Goals as goal
 
 pub slice_bounds-prepare-end : goal.slice_bounds-prepare-end

@@ -2,12 +2,11 @@
 use mathlib.Core.Path.{refl, ap, ◌∙◌}
 use Rattle.host.specs.Answer.{words_of, answered}
 use Rattle.host.specs.declared.answer.ReplyWords.{ReplyWords}
-use borrow.Author.Rules.{rules}
 use Rattle.host.proofs.calls.finish.Goals as goal
 
 pub returns : goal.returns
 returns c = record {
-      value = refl;
-      buffer_after = c.write_answer.ensures ∙ ap (λ (t : ReplyWords). answered c.args.buffer.now (words_of t)) c.of_place.ensures;
-      state_after = c.write_parts.ensures;
-    }
+  value = refl;
+  buffer_after = c.write_answer.ensures ∙ ap (λ (t : ReplyWords). answered c.args.buffer.now (words_of t)) c.of_place.ensures;
+  state_after = c.write_parts.ensures;
+}

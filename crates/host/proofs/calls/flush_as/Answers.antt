@@ -8,14 +8,13 @@ use Rattle.turns.specs.Drain.{drain_of}
 use Rattle.driver.specs.Answers.{machine_at, flush_reply, Seen}
 use Rattle.state_bytes.proofs.Finished.{drain_set_up}
 use Rattle.host.proofs.Through.{finished_long, rendered}
-use borrow.Author.Rules.{rules}
 use Rattle.host.proofs.calls.flush_as.Goals as goal
 
 pub leave-requires : goal.leave-requires
 leave-requires c =
     let stores : Stores =
-        let a = c.args in
-            stores_at a.delay.now a.marks.now a.minima.now a.weights.now a.row.now a.detector.now in
+    let a = c.args in
+    stores_at a.delay.now a.marks.now a.minima.now a.weights.now a.row.now a.detector.now in
     let m = machine_at c.read_state-p.result stores in
     finished_long c.args.answer.now c.args.state.now c.read_state-p.result c.read_state-p.ensures (flush_reply c.flush-done.result.answer) (drain_of c.args.format m c.args.frames c.args.audio.now).reply c.of_flush.result
     (drain_set_up m c.args.format c.args.frames c.args.audio.now) (ap (λ (s : Seen). s.reply) c.flush-done.ensures) c.of_flush.ensures
@@ -23,8 +22,8 @@ leave-requires c =
 pub returns : goal.returns
 returns c =
     let stores : Stores =
-        let a = c.args in
-            stores_at a.delay.now a.marks.now a.minima.now a.weights.now a.row.now a.detector.now in
+    let a = c.args in
+    stores_at a.delay.now a.marks.now a.minima.now a.weights.now a.row.now a.detector.now in
     rendered c.args.answer.now c.args.state.now c.read_state-p.result c.read_state-p.ensures (flush_reply c.flush-done.result.answer) c.flush-done.result.processor _ c.of_flush.result _ _ _
     c.of_flush.ensures c.leave.ensures.value c.leave.ensures.buffer_after c.leave.ensures.state_after
     (λ (m : Machine) (bytes : List ℕ). drain_of c.args.format m c.args.frames bytes) stores c.args.audio.now _ c.flush-done.ensures

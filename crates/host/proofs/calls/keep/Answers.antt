@@ -2,7 +2,6 @@
 use mathlib.Core.Path.{sym, ◌∙◌}
 use Rattle.state_bytes.specs.State.{state_out}
 use Rattle.host.proofs.Kept.{kept_whole, kept_other}
-use borrow.Author.Rules.{rules}
 use Rattle.host.proofs.calls.keep.Goals as goal
 
 pub returns-then-state-eq512 : goal.returns-then-state-eq512

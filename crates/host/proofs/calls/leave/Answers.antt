@@ -1,7 +1,6 @@
 -- `leave`: by the number.
 use mathlib.Core.Path.{refl, sym, ◌∙◌}
 use borrow.Author.Tests.{eq-eqb, ne_eqb}
-use borrow.Author.Rules.{rules}
 use Rattle.host.proofs.calls.leave.Goals as goal
 
 pub returns-then-t-ne0 : goal.returns-then-t-ne0

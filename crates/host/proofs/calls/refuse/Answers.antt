@@ -2,7 +2,6 @@
 use mathlib.Core.Path.{ap, ◌∙◌}
 use Rattle.host.specs.Answer.{words_of, answered}
 use Rattle.host.specs.declared.answer.ReplyWords.{ReplyWords}
-use borrow.Author.Rules.{rules}
 use Rattle.host.proofs.calls.refuse.Goals as goal
 
 pub returns : goal.returns

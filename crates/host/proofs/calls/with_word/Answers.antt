@@ -1,7 +1,6 @@
 -- `with_word`: by the number.
 use mathlib.Core.Path.{refl}
 use borrow.Author.Tests.{eq-eqb, ne_eqb}
-use borrow.Author.Rules.{rules}
 use Rattle.host.proofs.calls.with_word.Goals as goal
 
 pub returns-then-t-eq23 : goal.returns-then-t-eq23

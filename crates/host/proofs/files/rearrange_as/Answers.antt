@@ -2,7 +2,6 @@
 use mathlib.Core.Path.{◌≡◌, refl, ap, ◌∙◌}
 use mathlib.Core.List.{List}
 use Prim.Native.Nat.{ℕ}
-use borrow.Author.Rules.{rules}
 use Rattle.interleaving.specs.Calls.{Outcome, rearranged_reply, outcome}
 use Rattle.interleaving.specs.declared.calls.Rearranged.{Rearranged}
 use Rattle.interleaving.specs.declared.calls.Rearranged.TheVariants.{Finished, Channels, Length}

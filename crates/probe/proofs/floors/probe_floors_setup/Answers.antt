@@ -1,6 +1,5 @@
 -- `probe_floors_setup`: the setup's outcome, in words.
 use mathlib.Core.Path.{ap}
-use borrow.Author.Rules.{rules}
 use Rattle.probe.specs.Floors.{left_by}
 use Rattle.probe.proofs.floors.probe_floors_setup.Goals as goal
 

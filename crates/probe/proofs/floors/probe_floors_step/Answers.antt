@@ -1,6 +1,5 @@
 -- `probe_floors_step`: the step's outcome, in words.
 use mathlib.Core.Path.{ap, ◌∙◌}
-use borrow.Author.Rules.{rules}
 use Rattle.keeper.specs.Keeper.{keeping_at, step_of}
 use Rattle.keeper.specs.declared.FloorKeeper.{FloorKeeper}
 use Rattle.probe.specs.Floors.{told_by}

@@ -1,6 +1,5 @@
 -- `tell`: the match tells which answer it was.
 use mathlib.Core.Path.{refl}
-use borrow.Author.Rules.{rules}
 use Rattle.probe.proofs.floors.tell.Goals as goal
 
 pub returns-in-Finished : goal.returns-in-Finished

@@ -1,7 +1,6 @@
 -- `probe_exp`: the match tells which reply it was.
 use mathlib.Core.Path.{◌≡◌, sym, ap, ◌∙◌}
 use lib.Ieee.{Float}
-use borrow.Author.Rules.{rules}
 use Rattle.arithmetic.specs.Reply.{Reply}
 use Rattle.arithmetic.specs.Answers.{reply_of}
 use Rattle.arithmetic.specs.Exp.{exp_reply}

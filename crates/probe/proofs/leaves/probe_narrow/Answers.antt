@@ -1,7 +1,6 @@
 -- `probe_narrow`: what the rounding gives fits the 32 bits that are written.
-use mathlib.Core.Path.{◌≡◌, ap, ◌∙◌}
+use mathlib.Core.Path.{ap, ◌∙◌}
 use lib.Ieee.{binary32, to_bits}
-use borrow.Author.Rules.{rules}
 use Rattle.arithmetic.proofs.Exact32.{narrowed_fits}
 use Rattle.probe.proofs.leaves.probe_narrow.Goals as goal
 

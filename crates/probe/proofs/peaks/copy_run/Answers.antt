@@ -1,9 +1,8 @@
 -- `copy_run`: at each turn the lists agree on the samples passed.
-use mathlib.Core.Path.{◌≡◌, refl}
-use Prim.Native.Nat.{◌-◌, ◌≤◌}
+use mathlib.Core.Path.{refl}
 use native.Mathlib.Omega.{arith}
 use borrow.Author.Rules.{rules}
-use lib.ListN.{length, take, length-set}
+use lib.ListN.{length-set}
 use lib.Ieee.{nan}
 use Rattle.arithmetic.proofs.Copy.{copied_more, copied_all}
 use Rattle.probe.proofs.peaks.copy_run.Goals as goal

@@ -1,11 +1,7 @@
 -- `copy_run`: at each turn the lists agree on the samples passed.
-use mathlib.Core.Path.{◌≡◌, refl}
+use mathlib.Core.Path.{◌≡◌}
 use Prim.Native.Nat.{◌-◌, ◌≤◌}
-use native.Mathlib.Omega.{arith}
-use borrow.Author.Rules.{rules}
-use lib.ListN.{length, take, length-set}
-use lib.Ieee.{nan}
-use Rattle.arithmetic.proofs.Copy.{copied_more, copied_all}
+use lib.ListN.{length, take}
 use Rattle.probe.proofs.peaks.copy_run.Given as goal
 
 abbrev pub invariant-loop-i : goal.invariant-loop-i

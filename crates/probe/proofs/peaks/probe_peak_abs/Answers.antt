@@ -1,7 +1,6 @@
 -- `probe_peak_abs`: the push.
 use Rattle.detector.specs.Oversample.{Pushed}
 use mathlib.Core.Path.{ap}
-use borrow.Author.Rules.{rules}
 use Rattle.probe.proofs.peaks.probe_peak_abs.Goals as goal
 
 pub returns : goal.returns

@@ -3,7 +3,6 @@ use Rattle.probe.specs.Out.{phase_word}
 use Rattle.detector.specs.Oversample.{Pushed, peak_abs_of}
 use Rattle.detector.specs.Taps.{taps}
 use mathlib.Core.Path.{ap, ◌∙◌}
-use borrow.Author.Rules.{rules}
 use Rattle.probe.proofs.peaks.probe_peak_phase.Goals as goal
 
 pub returns : goal.returns

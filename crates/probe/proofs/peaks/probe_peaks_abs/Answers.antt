@@ -1,5 +1,4 @@
 -- `probe_peaks_abs`: a run that is too long is left alone, and any other's samples are kept in a local array's first n places.
-use borrow.Author.Rules.{rules}
 use Rattle.detector.specs.Taps.{taps}
 use Rattle.detector.proofs.Line.{run_alone}
 use Rattle.probe.proofs.peaks.probe_peaks_abs.Goals as goal

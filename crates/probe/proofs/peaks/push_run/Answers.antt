@@ -1,7 +1,6 @@
 -- `push_run`: the samples handed over are the run's.
 use mathlib.Core.Path.{ap, ◌∙◌}
 use mathlib.Core.List.{List}
-use borrow.Author.Rules.{rules}
 use lib.Ieee.{Float}
 use Rattle.detector.specs.Taps.{taps}
 use Rattle.detector.specs.Run.{peaks_abs_of}

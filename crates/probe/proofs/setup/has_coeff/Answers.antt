@@ -1,6 +1,5 @@
 -- `has_coeff`: the settings' own tests.
 use mathlib.Core.Path.{refl}
-use borrow.Author.Rules.{rules}
 use Rattle.probe.proofs.setup.has_coeff.Goals as goal
 
 pub returns : goal.returns

@@ -1,6 +1,5 @@
 -- `has_house`: both tests, without a way out.
 use mathlib.Core.Path.{refl}
-use borrow.Author.Rules.{rules}
 use Rattle.probe.proofs.setup.has_house.Goals as goal
 
 pub returns : goal.returns

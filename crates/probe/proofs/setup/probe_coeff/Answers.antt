@@ -1,6 +1,5 @@
 -- `probe_coeff`: by the test.
 use mathlib.Core.Path.{refl, sym, ◌∙◌}
-use borrow.Author.Rules.{rules}
 use lib.Ieee.{of_bits, neg}
 use Rattle.arithmetic.proofs.Order.{and-true}
 use Rattle.settings.specs.Accepted.{rate_taken, release_taken}
@@ -10,7 +9,7 @@ pub release_coeff-requires : goal.release_coeff-requires
 release_coeff-requires c =
     let a = c.args in
     let both =
-        and-true (release_taken a.ms) (rate_taken a.rate) (sym c.has_coeff.ensures ∙ c.if-has_coeff.true) in
+    and-true (release_taken a.ms) (rate_taken a.rate) (sym c.has_coeff.ensures ∙ c.if-has_coeff.true) in
     record { release_taken = both.0; rate_taken = both.1 }
 
 pub returns-then-has_coeff : goal.returns-then-has_coeff

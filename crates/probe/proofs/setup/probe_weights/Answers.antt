@@ -1,6 +1,5 @@
 -- `probe_weights`: by the test of the length.
 use mathlib.Core.Path.{refl}
-use borrow.Author.Rules.{rules}
 use borrow.Author.Tests.{le-leb, lt-leb}
 use lib.ListN.{length}
 use Rattle.probe.proofs.setup.probe_weights.Goals as goal

@@ -1,6 +1,5 @@
 -- `bank_in`: slot by slot.
 use mathlib.Core.Path.{refl}
-use borrow.Author.Rules.{rules}
 use Rattle.probe.proofs.smoothers.bank_in.Goals as goal
 
 pub returns : goal.returns

@@ -1,7 +1,6 @@
 -- `called`: by the tests on the number.
 use mathlib.Core.Path.{ap, ◌∙◌}
 use borrow.Author.Tests.{eq-eqb, ne_eqb}
-use borrow.Author.Rules.{rules}
 use Rattle.arithmetic.specs.Reply.{Reply}
 use Rattle.probe.specs.Smoothers.{done_by}
 use Rattle.probe.proofs.smoothers.called.Goals as goal

@@ -1,6 +1,5 @@
 -- `lay`: the slots, then the words behind them.
 use mathlib.Core.Path.{refl}
-use borrow.Author.Rules.{rules}
 use Rattle.probe.proofs.smoothers.lay.Goals as goal
 
 pub returns : goal.returns

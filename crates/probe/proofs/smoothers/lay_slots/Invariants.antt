@@ -1,16 +1,8 @@
 -- `lay_slots`: at each turn the slots that are left make of what stands there what all of them make of the start.
-use Prim.Native.Nat.{ℕ, suc, ◌+◌, ◌-◌, ◌*◌, ◌≤◌, ◌<◌}
-use mathlib.Core.Path.{◌≡◌, refl, sym, ap, ◌∙◌}
-use mathlib.Core.List.{List, [], ◌∷◌, ◌++◌}
-use native.Mathlib.Nat.{add-zero}
-use native.Mathlib.Numerals.{add-one}
-use native.Mathlib.Omega.{arith}
-use lib.ListN.{length, set, drop, drop_of_length-le}
-use lib.Seq.{sets, drop-cons}
-use Rattle.bank.specs.Smoother.{vacant}
-use Rattle.bank.specs.Bank.{slot_at}
-use Rattle.bank.specs.Words.{smoother_out}
-use Rattle.bank.specs.declared.smoother.Smoother.{Smoother}
+use Prim.Native.Nat.{◌-◌, ◌*◌, ◌≤◌}
+use mathlib.Core.Path.{◌≡◌}
+use lib.ListN.{drop}
+use lib.Seq.{sets}
 use Rattle.probe.specs.Smoothers.{slots_out}
 use Rattle.probe.proofs.smoothers.lay_slots.Given as goal
 

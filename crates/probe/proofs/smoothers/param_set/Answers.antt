@@ -1,6 +1,5 @@
 -- `param_set`: the match tells which answer it was.
 use mathlib.Core.Path.{refl}
-use borrow.Author.Rules.{rules}
 use Rattle.probe.proofs.smoothers.param_set.Goals as goal
 
 pub returns-in-Finished : goal.returns-in-Finished

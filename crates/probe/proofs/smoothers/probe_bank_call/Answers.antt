@@ -1,6 +1,5 @@
 -- `probe_bank_call`: the call of the bank that was read, laid back.
 use mathlib.Core.Path.{ap, ◌∙◌}
-use borrow.Author.Rules.{rules}
 use Rattle.bank.specs.declared.smoother_bank.SmootherBank.{SmootherBank}
 use Rattle.probe.specs.Smoothers.{done_by, called_by, held_by, old_in}
 use Rattle.probe.proofs.smoothers.probe_bank_call.Goals as goal

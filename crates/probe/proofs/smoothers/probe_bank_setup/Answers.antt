@@ -1,7 +1,6 @@
 -- `probe_bank_setup`: the setup for the declarations that were read, laid back.
 use mathlib.Core.Path.{ap, ◌∙◌}
 use mathlib.Core.List.{List}
-use borrow.Author.Rules.{rules}
 use Rattle.bank.specs.Bank.{set_up_of}
 use Rattle.bank.specs.declared.param.ParamInfo.{ParamInfo}
 use Rattle.probe.specs.Smoothers.{done_by, held_by, old_in}

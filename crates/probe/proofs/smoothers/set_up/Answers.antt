@@ -1,6 +1,5 @@
 -- `set_up`: the matches tell which answer it was.
 use mathlib.Core.Path.{refl}
-use borrow.Author.Rules.{rules}
 use Rattle.probe.proofs.smoothers.set_up.Goals as goal
 
 pub returns-in-Finished : goal.returns-in-Finished

@@ -1,6 +1,5 @@
 -- `turned`: the match tells which answer it was.
 use mathlib.Core.Path.{refl}
-use borrow.Author.Rules.{rules}
 use Rattle.probe.proofs.smoothers.turned.Goals as goal
 
 pub returns-in-Finished : goal.returns-in-Finished

@@ -1,6 +1,5 @@
 -- `value_read`: the match tells which answer it was.
 use mathlib.Core.Path.{refl}
-use borrow.Author.Rules.{rules}
 use Rattle.probe.proofs.smoothers.value_read.Goals as goal
 
 pub returns-in-Value : goal.returns-in-Value

@@ -1,5 +1,4 @@
 -- `bank_with`: the one smoother, and vacant slots.
-use borrow.Author.Rules.{rules}
 use Rattle.state_bytes.proofs.block.bank_with.Goals as goal
 
 pub returns : goal.returns

@@ -9,14 +9,13 @@ use Rattle.driver.specs.Parts.{bank_with}
 use Rattle.turns.proofs.Still.{still_told, same_bytes, same_place}
 use Rattle.state_bytes.specs.Shown.{rendered_at}
 use Rattle.state_bytes.proofs.Shows.{rendered_shows, still_shows}
-use borrow.Author.Rules.{rules}
 use Rattle.state_bytes.proofs.block.render_block.Goals as goal
 
 pub render_still-requires : goal.render_still-requires
 render_still-requires c =
     let stores : Stores =
-        let a = c.args in
-            stores_at a.delay.now a.marks.now a.minima.now a.weights.now a.row.now a.detector.now in
+    let a = c.args in
+    stores_at a.delay.now a.marks.now a.minima.now a.weights.now a.row.now a.detector.now in
     let a = c.args in
     record {
       block_asked = c.requires;
@@ -26,8 +25,8 @@ render_still-requires c =
 pub returns-then-events-rests : goal.returns-then-events-rests
 returns-then-events-rests c =
     let stores : Stores =
-        let a = c.args in
-            stores_at a.delay.now a.marks.now a.minima.now a.weights.now a.row.now a.detector.now in
+    let a = c.args in
+    stores_at a.delay.now a.marks.now a.minima.now a.weights.now a.row.now a.detector.now in
     let a = c.args in
     let r = c.render_still in
     record {
@@ -39,19 +38,19 @@ returns-then-events-rests c =
 pub drive_turns-left-requires : goal.drive_turns-left-requires
 drive_turns-left-requires c =
     let stores : Stores =
-        let a = c.args in
-            stores_at a.delay.now a.marks.now a.minima.now a.weights.now a.row.now a.detector.now in
+    let a = c.args in
+    stores_at a.delay.now a.marks.now a.minima.now a.weights.now a.row.now a.detector.now in
     let a = c.args in
     subst (λ (b : SmootherBank). BlockAsked (machine_of a.l b stores) a.format a.position a.frames a.audio.now) (sym c.bank_with.ensures) c.requires
 
 pub returns : goal.returns
 returns c =
     let stores : Stores =
-        let a = c.args in
-            stores_at a.delay.now a.marks.now a.minima.now a.weights.now a.row.now a.detector.now in
+    let a = c.args in
+    stores_at a.delay.now a.marks.now a.minima.now a.weights.now a.row.now a.detector.now in
     let a = c.args in
     let d = c.drive_turns-left in
     let both =
-        rendered_shows a.format a.l a.t stores a.position a.frames a.events.now a.audio.now c.bank_with.result c.bank_with.ensures d.result.limiter d.result.bank
-        (stores_at d.new.delay d.new.marks d.new.minima a.weights.now d.new.row d.new.detector) d.new.audio d.ensures.machine_after d.ensures.audio_after a.asked (place_found_at d.result.frame d.result.seat) d.ensures.seat_value c.shown.result c.shown.ensures in
+    rendered_shows a.format a.l a.t stores a.position a.frames a.events.now a.audio.now c.bank_with.result c.bank_with.ensures d.result.limiter d.result.bank
+    (stores_at d.new.delay d.new.marks d.new.minima a.weights.now d.new.row d.new.detector) d.new.audio d.ensures.machine_after d.ensures.audio_after a.asked (place_found_at d.result.frame d.result.seat) d.ensures.seat_value c.shown.result c.shown.ensures in
     record { shown = both.0; audio_after = both.1.0; seat_value = both.1.1 }

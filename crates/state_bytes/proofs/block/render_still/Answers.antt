@@ -3,7 +3,6 @@ use mathlib.Core.Path.{ap}
 use Rattle.turns.specs.Inner.{AtRest}
 use Rattle.driver.specs.Parts.{bank_with}
 use Rattle.state_bytes.specs.Shown.{showing}
-use borrow.Author.Rules.{rules}
 use Rattle.state_bytes.proofs.block.render_still.Goals as goal
 
 pub drive_still-moved-requires : goal.drive_still-moved-requires

@@ -1,5 +1,4 @@
 -- `rests`: one parameter, which is still.
-use borrow.Author.Rules.{rules}
 use Rattle.state_bytes.proofs.Shows.{shown_rests}
 use Rattle.state_bytes.proofs.block.rests.Goals as goal
 

@@ -1,5 +1,4 @@
 -- `envelope_in`: ring, row and gain.
-use borrow.Author.Rules.{rules}
 use Rattle.state_bytes.proofs.read.envelope_in.Goals as goal
 
 pub returns : goal.returns

@@ -1,5 +1,4 @@
 -- `float_at`: of the word.
-use borrow.Author.Rules.{rules}
 use Rattle.state_bytes.proofs.read.float_at.Goals as goal
 
 pub returns : goal.returns

@@ -1,6 +1,5 @@
 -- `holds_state`: test by test.
 use Rattle.state_bytes.specs.State.{holds_state}
-use borrow.Author.Rules.{rules}
 use Rattle.state_bytes.proofs.read.holds_state.Goals as goal
 
 pub returns : goal.returns

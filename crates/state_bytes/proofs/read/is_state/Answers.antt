@@ -1,6 +1,5 @@
 -- `is_state`: by its length, and by what its words hold.
 use Rattle.state_bytes.proofs.Stored.{is_short, is_held}
-use borrow.Author.Rules.{rules}
 use Rattle.state_bytes.proofs.read.is_state.Goals as goal
 
 pub returns-then-state-ne512 : goal.returns-then-state-ne512

@@ -1,5 +1,4 @@
 -- `limiter_in`: settings and envelope, and the words beside them.
-use borrow.Author.Rules.{rules}
 use Rattle.state_bytes.proofs.read.limiter_in.Goals as goal
 
 pub returns : goal.returns

@@ -2,7 +2,6 @@
 use mathlib.Core.Path.{sym, ◌∙◌}
 use Rattle.bank.proofs.Tests.{held, failed}
 use Rattle.state_bytes.proofs.Stored.{never_is, state_long, read_other, read_parts}
-use borrow.Author.Rules.{rules}
 use Rattle.state_bytes.proofs.read.read_state.Goals as goal
 
 pub returns-then-not-is_state : goal.returns-then-not-is_state

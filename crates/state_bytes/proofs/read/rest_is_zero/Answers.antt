@@ -1,10 +1,7 @@
 -- `rest_is_zero`: the answer so far and the answer on the rest are the answer on the whole.
-use mathlib.Core.Path.{◌≡◌, refl}
-use mathlib.Core.Bool.{◌&&◌}
-use Prim.Native.Nat.{◌-◌, ◌≤◌}
+use mathlib.Core.Path.{refl}
 use borrow.Author.Rules.{rules}
-use lib.ListN.{drop}
-use Rattle.state_bytes.proofs.Stored.{all_zero, zeros_more, zeros_done}
+use Rattle.state_bytes.proofs.Stored.{zeros_more, zeros_done}
 use Rattle.state_bytes.proofs.read.rest_is_zero.Goals as goal
 
 pub loop-i-init : goal.loop-i-init

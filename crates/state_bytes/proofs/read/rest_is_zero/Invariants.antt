@@ -1,10 +1,9 @@
 -- `rest_is_zero`: the answer so far and the answer on the rest are the answer on the whole.
-use mathlib.Core.Path.{◌≡◌, refl}
+use mathlib.Core.Path.{◌≡◌}
 use mathlib.Core.Bool.{◌&&◌}
 use Prim.Native.Nat.{◌-◌, ◌≤◌}
-use borrow.Author.Rules.{rules}
 use lib.ListN.{drop}
-use Rattle.state_bytes.proofs.Stored.{all_zero, zeros_more, zeros_done}
+use Rattle.state_bytes.proofs.Stored.{all_zero}
 use Rattle.state_bytes.proofs.read.rest_is_zero.Given as goal
 
 abbrev pub invariant-loop-i : goal.invariant-loop-i

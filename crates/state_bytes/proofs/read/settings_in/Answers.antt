@@ -1,5 +1,4 @@
 -- `settings_in`: the four floats, and the channels left out.
-use borrow.Author.Rules.{rules}
 use Rattle.state_bytes.proofs.read.settings_in.Goals as goal
 
 pub returns : goal.returns

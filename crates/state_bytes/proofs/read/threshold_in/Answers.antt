@@ -1,5 +1,4 @@
 -- `threshold_in`: the smoother, and the bank's own words.
-use borrow.Author.Rules.{rules}
 use Rattle.state_bytes.proofs.read.threshold_in.Goals as goal
 
 pub returns : goal.returns

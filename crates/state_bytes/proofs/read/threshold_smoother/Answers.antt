@@ -1,5 +1,4 @@
 -- `threshold_smoother`: word by word.
-use borrow.Author.Rules.{rules}
 use Rattle.state_bytes.proofs.read.threshold_smoother.Goals as goal
 
 pub returns : goal.returns

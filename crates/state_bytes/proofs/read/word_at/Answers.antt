@@ -2,7 +2,6 @@
 use mathlib.Core.Path.{◌∙◌}
 use Rattle.state_bytes.specs.State.{state_words}
 use Rattle.state_bytes.proofs.Stored.{word_in}
-use borrow.Author.Rules.{rules}
 use Rattle.state_bytes.proofs.read.word_at.Goals as goal
 
 pub returns : goal.returns

@@ -1,5 +1,4 @@
 -- `limiter_out`: word by word.
-use borrow.Author.Rules.{rules}
 use Rattle.state_bytes.proofs.write.limiter_out.Goals as goal
 
 pub returns : goal.returns

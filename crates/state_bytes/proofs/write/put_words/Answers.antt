@@ -1,7 +1,6 @@
 -- `put_words`: the bytes of the words, in place of as many.
 use Prim.Native.Nat.{◌*◌}
 use Rattle.state_bytes.proofs.Stored.{put_part}
-use borrow.Author.Rules.{rules}
 use Rattle.state_bytes.proofs.write.put_words.Goals as goal
 
 pub returns : goal.returns

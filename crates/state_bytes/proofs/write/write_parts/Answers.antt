@@ -2,7 +2,6 @@
 use mathlib.Core.Path.{◌∙◌}
 use native.Mathlib.Omega.{arith}
 use Rattle.state_bytes.proofs.Stored.{written}
-use borrow.Author.Rules.{rules}
 use Rattle.state_bytes.proofs.write.write_parts.Goals as goal
 
 pub put_words-requires-5 : goal.put_words-requires-5

@@ -1,6 +1,5 @@
 -- `write_state`: by what the bank shows.
 use mathlib.Core.Path.{sym}
-use borrow.Author.Rules.{rules}
 use Rattle.state_bytes.proofs.write.write_state.Goals as goal
 
 pub returns : goal.returns

@@ -1,6 +1,5 @@
 -- `is_finished`: by the answer's case.
 use mathlib.Core.Path.{refl, sym}
-use borrow.Author.Rules.{rules}
 use Rattle.driver.proofs.Refusing.{refused_some}
 use Rattle.driver.proofs.answers.Answer.is_finished.Goals as goal
 

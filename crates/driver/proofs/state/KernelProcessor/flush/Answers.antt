@@ -1,7 +1,6 @@
 -- `flush`: refused, or runs of silence.
 use mathlib.Core.Path.{refl}
 use native.Mathlib.Omega.{arith}
-use borrow.Author.Rules.{rules}
 use Rattle.limiter.specs.Stores.{stores_at}
 use Rattle.turns.specs.Machine.{Machine}
 use Rattle.driver.specs.Answers.{machine_at}
@@ -17,8 +16,8 @@ judge_drain-answer-requires c = tt
 pub returns-in-Refused : goal.returns-in-Refused
 returns-in-Refused c =
     let machine : Machine =
-        let a = c.args in
-            machine_at a.self (stores_at a.delay.now a.marks.now a.minima.now a.weights.now a.row.now a.detector.now) in
+    let a = c.args in
+    machine_at a.self (stores_at a.delay.now a.marks.now a.minima.now a.weights.now a.row.now a.detector.now) in
     let a = c.args in
     let j = c.judge_drain-answer in
     drain_left_lem a.format machine a.frames a.audio.now c.size_of-size.result c.size_of-size.ensures j.result j.ensures c.in-Refused.why c.in-Refused.is
@@ -26,8 +25,8 @@ returns-in-Refused c =
 pub drainable-n-requires : goal.drainable-n-requires
 drainable-n-requires c =
     let machine : Machine =
-        let a = c.args in
-            machine_at a.self (stores_at a.delay.now a.marks.now a.minima.now a.weights.now a.row.now a.detector.now) in
+    let a = c.args in
+    machine_at a.self (stores_at a.delay.now a.marks.now a.minima.now a.weights.now a.row.now a.detector.now) in
     let a = c.args in
     let j = c.judge_drain-answer in
     (drain_may a.format machine a.frames a.audio.now c.size_of-size.result c.size_of-size.ensures j.result j.ensures c.in_default.is).drained_most
@@ -35,8 +34,8 @@ drainable-n-requires c =
 pub overflow_add-done : goal.overflow_add-done
 overflow_add-done c =
     let machine : Machine =
-        let a = c.args in
-            machine_at a.self (stores_at a.delay.now a.marks.now a.minima.now a.weights.now a.row.now a.detector.now) in
+    let a = c.args in
+    machine_at a.self (stores_at a.delay.now a.marks.now a.minima.now a.weights.now a.row.now a.detector.now) in
     let a = c.args in
     let j = c.judge_drain-answer in
     let d = drain_may a.format machine a.frames a.audio.now c.size_of-size.result c.size_of-size.ensures j.result j.ensures c.in_default.is in
@@ -45,8 +44,8 @@ overflow_add-done c =
 pub drain_frames-after-requires : goal.drain_frames-after-requires
 drain_frames-after-requires c =
     let machine : Machine =
-        let a = c.args in
-            machine_at a.self (stores_at a.delay.now a.marks.now a.minima.now a.weights.now a.row.now a.detector.now) in
+    let a = c.args in
+    machine_at a.self (stores_at a.delay.now a.marks.now a.minima.now a.weights.now a.row.now a.detector.now) in
     let a = c.args in
     let j = c.judge_drain-answer in
     drain_asked a.format machine a.frames a.audio.now c.size_of-size.result c.size_of-size.ensures j.result j.ensures c.in_default.is c.drainable-n.result c.drainable-n.ensures
@@ -54,8 +53,8 @@ drain_frames-after-requires c =
 pub returns : goal.returns
 returns c =
     let machine : Machine =
-        let a = c.args in
-            machine_at a.self (stores_at a.delay.now a.marks.now a.minima.now a.weights.now a.row.now a.detector.now) in
+    let a = c.args in
+    machine_at a.self (stores_at a.delay.now a.marks.now a.minima.now a.weights.now a.row.now a.detector.now) in
     let a = c.args in
     let j = c.judge_drain-answer in
     let d = c.drain_frames-after in

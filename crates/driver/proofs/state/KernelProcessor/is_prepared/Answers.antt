@@ -1,6 +1,5 @@
 -- `is_prepared`: by what the bank shows.
 use mathlib.Core.Path.{sym}
-use borrow.Author.Rules.{rules}
 use Rattle.driver.proofs.state.KernelProcessor.is_prepared.Goals as goal
 
 pub returns : goal.returns

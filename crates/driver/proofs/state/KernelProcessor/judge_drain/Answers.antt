@@ -21,8 +21,8 @@ pub returns-then-not-is_finished : goal.returns-then-not-is_finished
 unfolding drain_reply
 returns-then-not-is_finished c =
     let machine : Machine =
-        let a = c.args in
-            machine_at a.self (stores_at a.delay.now a.marks.now a.minima.now a.weights.now a.row.now a.detector.now) in
+    let a = c.args in
+    machine_at a.self (stores_at a.delay.now a.marks.now a.minima.now a.weights.now a.row.now a.detector.now) in
     let a = c.args in
     let m = machine in
     first_refused (answer_reply c.judge-answer.result) (numbered (ready_refusal m)) (tail_reply m a.frames a.size) (c.judge-answer.ensures a.self.bank (sym c.shown.ensures)) c.is_finished.result
@@ -31,8 +31,8 @@ returns-then-not-is_finished c =
 pub judge_tail-requires : goal.judge_tail-requires
 judge_tail-requires c =
     let machine : Machine =
-        let a = c.args in
-            machine_at a.self (stores_at a.delay.now a.marks.now a.minima.now a.weights.now a.row.now a.detector.now) in
+    let a = c.args in
+    machine_at a.self (stores_at a.delay.now a.marks.now a.minima.now a.weights.now a.row.now a.detector.now) in
     let a = c.args in
     let m = machine in
     ready_kernel m
@@ -43,8 +43,8 @@ pub returns : goal.returns
 unfolding drain_reply
 returns c =
     let machine : Machine =
-        let a = c.args in
-            machine_at a.self (stores_at a.delay.now a.marks.now a.minima.now a.weights.now a.row.now a.detector.now) in
+    let a = c.args in
+    machine_at a.self (stores_at a.delay.now a.marks.now a.minima.now a.weights.now a.row.now a.detector.now) in
     let a = c.args in
     let m = machine in
     first_passed (answer_reply c.judge-answer.result) (numbered (ready_refusal m)) (tail_reply m a.frames a.size) (c.judge-answer.ensures a.self.bank (sym c.shown.ensures)) c.is_finished.result

@@ -1,6 +1,5 @@
 -- `not_set_up`: neither of the two is.
 use mathlib.Core.Path.{refl}
-use borrow.Author.Rules.{rules}
 use Rattle.driver.proofs.state.KernelProcessor.not_set_up.Goals as goal
 
 pub returns : goal.returns

@@ -1,5 +1,4 @@
 -- `process`: refused, or the turns.
-use borrow.Author.Rules.{rules}
 use mathlib.Core.Path.{sym, ap, ◌∙◌}
 use lib.Dec.{eqb}
 use Rattle.limiter.specs.Stores.{stores_at}
@@ -29,8 +28,8 @@ refused-requires c = tt
 pub returns-then-not-is_finished : goal.returns-then-not-is_finished
 returns-then-not-is_finished c =
     let machine : Machine =
-        let a = c.args in
-            machine_at a.self (stores_at a.delay.now a.marks.now a.minima.now a.weights.now a.row.now a.detector.now) in
+    let a = c.args in
+    machine_at a.self (stores_at a.delay.now a.marks.now a.minima.now a.weights.now a.row.now a.detector.now) in
     let a = c.args in
     let z = c.size_of-size in
     let j = c.judge_block-answer in
@@ -41,8 +40,8 @@ returns-then-not-is_finished c =
 pub drive-left-requires : goal.drive-left-requires
 drive-left-requires c =
     let machine : Machine =
-        let a = c.args in
-            machine_at a.self (stores_at a.delay.now a.marks.now a.minima.now a.weights.now a.row.now a.detector.now) in
+    let a = c.args in
+    machine_at a.self (stores_at a.delay.now a.marks.now a.minima.now a.weights.now a.row.now a.detector.now) in
     let a = c.args in
     let z = c.size_of-size in
     let j = c.judge_block-answer in
@@ -52,8 +51,8 @@ drive-left-requires c =
 pub returns : goal.returns
 returns c =
     let machine : Machine =
-        let a = c.args in
-            machine_at a.self (stores_at a.delay.now a.marks.now a.minima.now a.weights.now a.row.now a.detector.now) in
+    let a = c.args in
+    machine_at a.self (stores_at a.delay.now a.marks.now a.minima.now a.weights.now a.row.now a.detector.now) in
     let a = c.args in
     let z = c.size_of-size in
     let j = c.judge_block-answer in

@@ -1,5 +1,4 @@
 -- `set_parameter_immediate`: 18 of the whole machine, then the bank's own call.
-use borrow.Author.Rules.{rules}
 use Rattle.bank.specs.Bank.{param_set_at}
 use Rattle.bank.proofs.Tests.{held, failed}
 use Rattle.driver.specs.Answers.{machine_at}

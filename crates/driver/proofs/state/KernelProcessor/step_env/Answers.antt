@@ -2,7 +2,6 @@
 use mathlib.Core.Path.{refl}
 use mathlib.Core.List.{List, []}
 use lib.Ieee.{Float}
-use borrow.Author.Rules.{rules}
 use Rattle.envelope.specs.Step.{gain_step_at}
 use Rattle.limiter.specs.Stores.{stores_at}
 use Rattle.turns.specs.Machine.{Machine}
@@ -13,16 +12,16 @@ use Rattle.driver.proofs.state.KernelProcessor.step_env.Goals as goal
 pub returns-in-Refused : goal.returns-in-Refused
 returns-in-Refused c delay detector =
     let machine : List Float → List Float → Machine =
-        λ delay detector. let a = c.args in
-            machine_at a.self (stores_at delay a.marks.now a.minima.now a.weights.now a.row.now detector) in
+    λ delay detector. let a = c.args in
+    machine_at a.self (stores_at delay a.marks.now a.minima.now a.weights.now a.row.now detector) in
     let j = c.judge_gain-judged in
     gain_refused (machine delay detector) c.args.gain j.result (j.ensures delay detector) c.in-Refused.why c.in-Refused.is
 
 pub gain_steps-step-requires : goal.gain_steps-step-requires
 gain_steps-step-requires c =
     let machine : List Float → List Float → Machine =
-        λ delay detector. let a = c.args in
-            machine_at a.self (stores_at delay a.marks.now a.minima.now a.weights.now a.row.now detector) in
+    λ delay detector. let a = c.args in
+    machine_at a.self (stores_at delay a.marks.now a.minima.now a.weights.now a.row.now detector) in
     let j = c.judge_gain-judged in
     let ready = gain_ready (machine [] []) c.args.gain j.result (j.ensures [] []) c.in_default.is in
     record {
@@ -33,8 +32,8 @@ gain_steps-step-requires c =
 pub returns : goal.returns
 returns c delay detector =
     let machine : List Float → List Float → Machine =
-        λ delay detector. let a = c.args in
-            machine_at a.self (stores_at delay a.marks.now a.minima.now a.weights.now a.row.now detector) in
+    λ delay detector. let a = c.args in
+    machine_at a.self (stores_at delay a.marks.now a.minima.now a.weights.now a.row.now detector) in
     let j = c.judge_gain-judged in
     let e = c.gain_steps-step in
     let marks = e.new.marks in
