@@ -17,7 +17,6 @@ LIBRARY = os.path.join(os.path.dirname(os.path.dirname(os.path.realpath(os.popen
 TOKEN = re.compile(r"[^\s(){}\[\];,.\"λ`]+")
 NAME = re.compile(r"[a-z][A-Za-z0-9_'₀-₉-]*")
 SIGNATURE = re.compile(r"^\s*(?:abbrev pub|unfoldable pub|pub abbrev|pub unfoldable|pub|abbrev|unfoldable)?\s*([a-z][A-Za-z0-9_'₀-₉-]*)\s*:(?![:=])", re.M)
-CASE = re.compile(r"^\s*(?:pub )?([a-z][A-Za-z0-9_'₀-₉-]*)\s*:", re.M)
 # names whose snake form another name has: what they are called instead
 OTHERWISE = {
     "allOne": "is_all_one",
