@@ -3,11 +3,11 @@
 #![tactic(auto)]
 
 ghost use Rattle.std.specs.Prelude.{◌≡◌, ◌+◌, ◌≤◌, ◌<◌, length, IfOk};
+ghost use Rattle.std.specs.Str.{IsAscii};
 
 use records::words::read_full;
-use std::alloc::{AllocError, Allocator};
 use std::rt::Files;
-use std::{fs, io};
+use std::{fs, io, str};
 
 // Room for one byte more than the most input.
 fn input_room() -> [u8; 60001]
@@ -38,9 +38,21 @@ fn read_file(rt: &impl Files, path: &str, buf: &mut [u8]) -> io::Result<File> {
     Ok(File::Bytes(count))
 }
 
-// A case's file: its two digits and what the file is.
-fn path<A: Allocator>(alloc: A, number: usize, kind: &str) -> Result<String<A>, AllocError> {
-    format!(in alloc; "{number:02}.{kind}")
+// A case's two digits.
+fn digit(n: usize) -> u8
+    ensures { result < 128 }
+{
+    48 + (n % 10) as u8
+}
+
+// A name as text.
+fn text_of(name: &[u8]) -> &str
+    requires { IsAscii name.now }
+{
+    match str::from_utf8(name) {
+        Ok(text) => text,
+        Err(_) => unreachable!(),
+    }
 }
 
 // The first of two texts' bytes that differs, or the length of the shorter one.
@@ -85,18 +97,20 @@ fn judge(text: &[u8], count: usize, recorded: &[u8], size: usize) -> Case {
 }
 
 fn run(
-    rt: &(impl Files + Alloc),
+    rt: &impl Files,
     number: usize,
     input: &mut [u8],
     text: &mut [u8],
     recorded: &mut [u8],
 ) -> io::Result<Case> {
-    let from = path(rt.alloc(), number, "in")?;
-    let File::Bytes(read) = read_file(rt, &from, input)? else {
+    let tens = digit(number / 10);
+    let ones = digit(number);
+    let from = [tens, ones, b'.', b'i', b'n'];
+    let File::Bytes(read) = read_file(rt, text_of(&from), input)? else {
         return Ok(Case::Missing);
     };
-    let to = path(rt.alloc(), number, "out")?;
-    let File::Bytes(size) = read_file(rt, &to, recorded)? else {
+    let to = [tens, ones, b'.', b'o', b'u', b't'];
+    let File::Bytes(size) = read_file(rt, text_of(&to), recorded)? else {
         return Ok(Case::Missing);
     };
     if read > input.len() {
@@ -147,7 +161,7 @@ impl Tally {
 }
 
 fn run_all(
-    rt: &(impl Files + Alloc + Print),
+    rt: &(impl Files + Print),
     input: &mut [u8],
     text: &mut [u8],
     recorded: &mut [u8],

@@ -6,7 +6,7 @@ use crate::banks::{Held, Played};
 use records::tally::{Replayed, Tally};
 use records::words;
 use std::fs::File;
-use std::io::{self, BufReader};
+use std::io;
 use std::rt::Files;
 
 // Modules 1 and 2 of document 01, and the helpers.
@@ -60,12 +60,11 @@ fn each<R: io::Read>(layer: usize, file: &mut R) -> io::Result<Replayed> {
     Ok(Replayed { tally, rest: 0 })
 }
 
-fn replay(rt: &(impl Files + Alloc + Print + Eprint), layer: usize, path: &str) -> io::Result<()> {
-    let file = match File::open(rt, path) {
+fn replay(rt: &(impl Files + Print + Eprint), layer: usize, path: &str) -> io::Result<()> {
+    let mut file = match File::open(rt, path) {
         Ok(file) => file,
         Err(error) => return eprintln!(rt; "{path}: {error}"),
     };
-    let mut file = BufReader::new(rt.alloc(), file)?;
     let replayed = each(layer, &mut file)?;
     replayed.print(rt, path.as_bytes())
 }

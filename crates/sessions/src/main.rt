@@ -8,7 +8,7 @@ use records::tally::{Replayed, Tally};
 use records::words::next;
 use session_calls::head;
 use std::fs::File;
-use std::io::{self, BufReader};
+use std::io;
 
 // The session.
 mod session;
@@ -107,11 +107,10 @@ fn each<R: io::Read>(file: &mut R) -> io::Result<Replayed> {
 }
 
 fn main(rt: HostRuntime) -> io::Result<()> {
-    let file = match File::open(&rt, "sessions") {
+    let mut file = match File::open(&rt, "sessions") {
         Ok(file) => file,
         Err(error) => return eprintln!(rt; "sessions: {error}"),
     };
-    let mut file = BufReader::new(rt.alloc(), file)?;
     let replayed = each(&mut file)?;
     replayed.print(&rt, b"calls and weights of the limiter")
 }
