@@ -2,9 +2,9 @@
 -- how many entries a ring keeps it finds by plain scan (`kept_in`).
 --
 -- What it shares with the limiter are the rules of what was set up and of the call's sample type (`rules_of`: taps, which channels count, output rule), formulas of document 01 and of its changes on plain arguments, and the table:
---   setup: look_of, row_of, coefficient_of, targetOf, threshold_param; weights_for, by which the claim opens it (Change 6)
+--   setup: look_of, row_of, coefficient_of, target_of, threshold_param; weights_for, by which the claim opens it (Change 6)
 --   a frame's peak and required gain: sums_of and largest_of (the detector), heard, required_gain, unit_gain, finite_or_zero
---   where a peak sat, Change 5: phase_of (the detector), seat_of (among the channels that count), placeOf (among a block's frames), and place_reply, which tells it
+--   where a peak sat, Change 5: phase_of (the detector), seat_of (among the channels that count), place_of (among a block's frames), and place_reply, which tells it
 --   mean and gain: mean_of (over the book's row and the weights that it opened with; it looks at the row's floors, at no tally), followed
 --   the threshold: smoother_of, target_set, immediate_set, stepped, reset_one
 --   the table's refusals: events_reply, reaches, the limits
