@@ -1,13 +1,11 @@
 -- `scatter`: the channels passed are carried.
 use mathlib.Core.Path.{◌≡◌, refl, sym, subst, ◌∙◌}
 use mathlib.Core.List.{map}
-use Prim.Native.Nat.{ℕ, ◌+◌, ◌*◌, ◌%◌, ◌≤◌, ◌<◌}
+use Prim.Native.Nat.{ℕ, ◌+◌, ◌*◌}
 use native.Mathlib.Nat.{add-zero}
 use native.Mathlib.Omega.{arith}
-use lib.ListN.{length}
 use lib.Ieee.{nan}
-use Rattle.arithmetic.specs.Number.{largest}
-use Rattle.audio.specs.Format.{sample_bytes, bytes_for, places_of}
+use Rattle.audio.specs.Format.{bytes_for, places_of}
 use Rattle.audio.specs.Inner.{PlacesCopied, PlacesCarried}
 use Rattle.audio.proofs.Carry.{places-end, carried_none, carried_more}
 use Rattle.audio.proofs.Places.{whole, places_fit, size_same}
@@ -22,42 +20,14 @@ loop-c-init c =
 pub overflow_mul-c : goal.overflow_mul-c
 overflow_mul-c c = omega arith
 
-pub overflow_mul-c-in-loop-c : goal.overflow_mul-c-in-loop-c
-overflow_mul-c-in-loop-c c =
-    let inside : (let a = c.args in let k = c.loop-c.c in let b = c.loop-c.bytes in (k * a.width + a.width ≤ length (places_of a.format b)) × (length (places_of a.format b) < largest) × (length b % sample_bytes a.format ≡ 0)) =
-    let a = c.args in
-    let small = size_small a.channels a.width c.requires.channels_bound c.requires.width_bound in
-    let size = size_same a.format c.loop-c.bytes a.bytes.now c.loop-c.invariant.1 ∙ sym c.requires.audio_size in
-    let fit = places_fit a.format c.loop-c.bytes (a.channels * a.width) size small in
-    let e = places-end c.loop-c.c a.channels a.width c.loop-c-test.true in
-    (omega (arith, e, fit), omega (arith, small, fit), (whole a.format c.loop-c.bytes (a.channels * a.width) size small).0) in
-    let i = inside in omega arith
-
-pub overflow_add-c : goal.overflow_add-c
-overflow_add-c c =
-    let inside : (let a = c.args in let k = c.loop-c.c in let b = c.loop-c.bytes in (k * a.width + a.width ≤ length (places_of a.format b)) × (length (places_of a.format b) < largest) × (length b % sample_bytes a.format ≡ 0)) =
-    let a = c.args in
-    let small = size_small a.channels a.width c.requires.channels_bound c.requires.width_bound in
-    let size = size_same a.format c.loop-c.bytes a.bytes.now c.loop-c.invariant.1 ∙ sym c.requires.audio_size in
-    let fit = places_fit a.format c.loop-c.bytes (a.channels * a.width) size small in
-    let e = places-end c.loop-c.c a.channels a.width c.loop-c-test.true in
-    (omega (arith, e, fit), omega (arith, small, fit), (whole a.format c.loop-c.bytes (a.channels * a.width) size small).0) in
-    let i = inside in omega arith
-
 pub write_channel-requires : goal.write_channel-requires
 write_channel-requires c =
-    let inside : (let a = c.args in let k = c.loop-c.c in let b = c.loop-c.bytes in (k * a.width + a.width ≤ length (places_of a.format b)) × (length (places_of a.format b) < largest) × (length b % sample_bytes a.format ≡ 0)) =
-    let a = c.args in
-    let small = size_small a.channels a.width c.requires.channels_bound c.requires.width_bound in
-    let size = size_same a.format c.loop-c.bytes a.bytes.now c.loop-c.invariant.1 ∙ sym c.requires.audio_size in
-    let fit = places_fit a.format c.loop-c.bytes (a.channels * a.width) size small in
-    let e = places-end c.loop-c.c a.channels a.width c.loop-c-test.true in
-    (omega (arith, e, fit), omega (arith, small, fit), (whole a.format c.loop-c.bytes (a.channels * a.width) size small).0) in
-    let i = inside in
+    let small = size_small _ _ c.requires.channels_bound c.requires.width_bound in
+    let size = size_same c.args.format c.loop-c.bytes c.args.bytes.now c.loop-c.invariant.1 ∙ sym c.requires.audio_size in
     record {
-      whole = i.2;
+      whole = (whole _ _ _ size small).0;
       from_inside = omega arith;
-      to_inside = omega arith;
+      to_inside = omega (arith, places-end _ _ c.args.width c.loop-c-test.true, places_fit _ _ _ size small);
       held = c.requires.held_all c.loop-c.c c.loop-c-test.true;
     }
 

@@ -1,45 +1,14 @@
 -- `slide_down`: the rows passed are there.
 use mathlib.Core.Path.{◌≡◌, refl, ap, ◌∙◌}
-use Prim.Native.Nat.{ℕ, ◌+◌, ◌*◌, ◌≤◌, ◌<◌}
+use Prim.Native.Nat.{ℕ, ◌*◌}
 use native.Mathlib.Omega.{arith}
 use lib.ListN.{take, drop}
 use Rattle.audio.specs.Inner.{put}
-use Rattle.audio.proofs.Carry.{places-end}
 use Rattle.interleaving.proofs.Sliding.{down_none, down_step}
 use Rattle.interleaving.proofs.close.slide_down.Goals as goal
 
 pub loop-i-init : goal.loop-i-init
 loop-i-init c = let a = c.args in (omega arith, refl, refl, down_none a.bytes.now a.size a.from a.to)
-
-pub overflow_mul-at : goal.overflow_mul-at
-overflow_mul-at c =
-    let inside : (let a = c.args in c.loop-i.i < a.n → c.loop-i.i * a.size + a.size ≤ a.n * a.size) =
-    λ h. let a = c.args in omega (arith, places-end c.loop-i.i a.n a.size c.loop-i-test.true) in
-    omega (arith, inside c.loop-i-test.true, c.requires.to_le_from, c.requires.from_inside)
-
-pub overflow_add-from : goal.overflow_add-from
-overflow_add-from c =
-    let inside : (let a = c.args in c.loop-i.i < a.n → c.loop-i.i * a.size + a.size ≤ a.n * a.size) =
-    λ h. let a = c.args in omega (arith, places-end c.loop-i.i a.n a.size c.loop-i-test.true) in
-    omega (arith, inside c.loop-i-test.true, c.requires.to_le_from, c.requires.from_inside)
-
-pub overflow_add-to : goal.overflow_add-to
-overflow_add-to c =
-    let inside : (let a = c.args in c.loop-i.i < a.n → c.loop-i.i * a.size + a.size ≤ a.n * a.size) =
-    λ h. let a = c.args in omega (arith, places-end c.loop-i.i a.n a.size c.loop-i-test.true) in
-    omega (arith, inside c.loop-i-test.true, c.requires.to_le_from, c.requires.from_inside)
-
-pub carry-requires : goal.carry-requires
-carry-requires c =
-    let inside : (let a = c.args in c.loop-i.i < a.n → c.loop-i.i * a.size + a.size ≤ a.n * a.size) =
-    λ h. let a = c.args in omega (arith, places-end c.loop-i.i a.n a.size c.loop-i-test.true) in
-    let l = c.loop-i in
-    let i = inside c.loop-i-test.true in
-    record {
-      from_inside = omega (arith, i, c.requires.to_le_from, c.requires.from_inside, l.invariant.1);
-      to_inside = omega (arith, i, c.requires.to_le_from, c.requires.from_inside, l.invariant.1);
-      room_enough = omega (arith, c.requires.room_enough, l.invariant.2);
-    }
 
 pub overflow_step-i : goal.overflow_step-i
 overflow_step-i c = omega arith

@@ -1,47 +1,15 @@
 -- `walk`: each turn fills the place whose row was taken last, and takes the row that comes to it.
-use mathlib.Core.Bool.{false}
-use mathlib.Core.Path.{◌≡◌, sym, ◌∙◌}
-use Prim.Native.Nat.{◌+◌, ◌*◌, ◌≤◌}
-use native.Mathlib.Nat.{le_trans}
+use mathlib.Core.Path.{sym, ◌∙◌}
 use native.Mathlib.Omega.{arith}
-use lib.ListN.{length}
-use Rattle.interleaving.specs.Inner.{bit_at}
 use Rattle.interleaving.proofs.Cycles.{walk_starts, next_inside, rows_inside, next_open, walk_goes, walk_ends, no_walk, fewer_clear}
-use Rattle.interleaving.proofs.Pieces.{ends_before}
 use Rattle.interleaving.proofs.rows.walk.Goals as goal
 
 pub returns-then-is_done : goal.returns-then-is_done
 returns-then-is_done c = no_walk c.requires.closed (sym c.is_done.ensures ∙ c.if-is_done.true)
 
-pub overflow_mul-size : goal.overflow_mul-size
-overflow_mul-size c =
-    let row_inside : (let a = c.args in a.size * a.start + a.size ≤ length a.bytes.now) =
-    le_trans (ends_before c.args.size c.requires.start_inside) c.requires.rows_inside in
-    omega (arith, row_inside)
-
-pub copy_bytes-requires : goal.copy_bytes-requires
-copy_bytes-requires c =
-    let row_inside : (let a = c.args in a.size * a.start + a.size ≤ length a.bytes.now) =
-    le_trans (ends_before c.args.size c.requires.start_inside) c.requires.rows_inside in
-    record {
-      from_inside = row_inside;
-      to_inside = omega arith;
-    }
-
-pub mark-requires : goal.mark-requires
-mark-requires c =
-    let fresh : bit_at c.args.done.now c.args.start ≡ false =
-    sym c.is_done.ensures ∙ c.if-is_done.false in
-    record {
-      inside = omega arith;
-      fresh = fresh;
-    }
-
 pub loop-from-init : goal.loop-from-init
 loop-from-init c =
-    let fresh : bit_at c.args.done.now c.args.start ≡ false =
-    sym c.is_done.ensures ∙ c.if-is_done.false in
-    (c.requires.room_len, c.mark.auto.done ∙ c.requires.done_len, walk_starts c.args.done.now c.requires.rows_inside c.requires.start_inside c.requires.closed fresh c.mark.ensures c.source_of-from.ensures)
+    (c.requires.room_len, c.mark.auto.done ∙ c.requires.done_len, walk_starts c.args.done.now c.requires.rows_inside c.requires.start_inside c.requires.closed (sym c.is_done.ensures ∙ c.if-is_done.false) c.mark.ensures c.source_of-from.ensures)
 
 pub overflow_mul-size-in-loop-from : goal.overflow_mul-size-in-loop-from
 overflow_mul-size-in-loop-from c = omega (arith, rows_inside c.loop-from.invariant.2)
@@ -99,6 +67,4 @@ shape_of-done c = omega (arith, c.loop-from.invariant.1, c.requires.done_len)
 
 pub returns : goal.returns
 returns c =
-    let fresh : bit_at c.args.done.now c.args.start ≡ false =
-    sym c.is_done.ensures ∙ c.if-is_done.false in
-    walk_ends c.loop-from.invariant.2 c.args.kept.now c.loop-from-test.false c.copy_bytes.ensures c.copy_bytes-2.ensures fresh c.mark.ensures
+    walk_ends c.loop-from.invariant.2 c.args.kept.now c.loop-from-test.false c.copy_bytes.ensures c.copy_bytes-2.ensures (sym c.is_done.ensures ∙ c.if-is_done.false) c.mark.ensures

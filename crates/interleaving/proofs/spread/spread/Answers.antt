@@ -2,61 +2,25 @@
 use mathlib.Core.Path.{◌≡◌, refl, sym, ap, subst, ◌∙◌}
 use Prim.Native.Nat.{ℕ, ◌+◌, ◌-◌, ◌*◌}
 use native.Mathlib.Omega.{arith}
-use lib.ListN.{length}
 use Rattle.audio.specs.Format.{sample_bytes}
 use Rattle.audio.specs.Inner.{put}
 use Rattle.interleaving.specs.Inner.{run, Lengths}
-use Rattle.interleaving.proofs.Spreading.{Sums, sums, kept_of, Spreading, spread_nothing, spreading_none, spreading_more, spread_all}
+use Rattle.interleaving.proofs.Spreading.{sums, kept_of, Spreading, spread_nothing, spreading_none, spreading_more, spread_all}
 use Rattle.interleaving.proofs.spread.spread.Goals as goal
 
 pub returns-then-left-eq0 : goal.returns-then-left-eq0
 returns-then-left-eq0 c = let a = c.args in spread_nothing (sample_bytes a.format) a.channels (64 * a.tiles) a.left a.bytes.now (omega (arith, c.if-left-eq0.true))
 
-pub overflow_mul-left : goal.overflow_mul-left
-overflow_mul-left c =
-    let sum : (let a = c.args in Sums a.format a.channels a.tiles a.left (length a.bytes.now) c.sample_bytes-s.result) =
-    let a = c.args in sums a.format a.channels a.tiles a.left (length a.bytes.now) c.requires.lengths c.sample_bytes-s.result c.sample_bytes-s.ensures in
-    omega (arith, sum.few)
-
-pub overflow_mul-s : goal.overflow_mul-s
-overflow_mul-s c =
-    let sum : (let a = c.args in Sums a.format a.channels a.tiles a.left (length a.bytes.now) c.sample_bytes-s.result) =
-    let a = c.args in sums a.format a.channels a.tiles a.left (length a.bytes.now) c.requires.lengths c.sample_bytes-s.result c.sample_bytes-s.ensures in
-    omega (arith, sum.room)
-
 pub overflow_mul-tiles : goal.overflow_mul-tiles
 overflow_mul-tiles c = omega (arith, c.requires.lengths.bounded)
 
-pub overflow_mul-channels : goal.overflow_mul-channels
-overflow_mul-channels c =
-    let sum : (let a = c.args in Sums a.format a.channels a.tiles a.left (length a.bytes.now) c.sample_bytes-s.result) =
-    let a = c.args in sums a.format a.channels a.tiles a.left (length a.bytes.now) c.requires.lengths c.sample_bytes-s.result c.sample_bytes-s.ensures in
-    omega (arith, sum.start, sum.sum)
-
-pub overflow_mul-s-2 : goal.overflow_mul-s-2
-overflow_mul-s-2 c =
-    let sum : (let a = c.args in Sums a.format a.channels a.tiles a.left (length a.bytes.now) c.sample_bytes-s.result) =
-    let a = c.args in sums a.format a.channels a.tiles a.left (length a.bytes.now) c.requires.lengths c.sample_bytes-s.result c.sample_bytes-s.ensures in
-    omega (arith, sum.sum)
-
-pub copy_bytes-requires : goal.copy_bytes-requires
-copy_bytes-requires c =
-    let sum : (let a = c.args in Sums a.format a.channels a.tiles a.left (length a.bytes.now) c.sample_bytes-s.result) =
-    let a = c.args in sums a.format a.channels a.tiles a.left (length a.bytes.now) c.requires.lengths c.sample_bytes-s.result c.sample_bytes-s.ensures in
-    let q = sum in record {
-      from_inside = omega (arith, q.sum);
-      to_inside = omega (arith, q.room, c.requires.kept_len);
-    }
-
 pub loop-i-init : goal.loop-i-init
 loop-i-init c =
-    let sum : (let a = c.args in Sums a.format a.channels a.tiles a.left (length a.bytes.now) c.sample_bytes-s.result) =
-    let a = c.args in sums a.format a.channels a.tiles a.left (length a.bytes.now) c.requires.lengths c.sample_bytes-s.result c.sample_bytes-s.ensures in
     let a = c.args in
     let size = sample_bytes a.format in
     let bytes = a.bytes.now in
     let e = c.sample_bytes-s.ensures in
-    let q = subst (λ (x : ℕ). Sums a.format a.channels a.tiles a.left (length bytes) x) e sum in
+    let q = sums _ _ _ _ _ c.requires.lengths _ refl in
     let whole = 64 * a.tiles in
     let got = c.copy_bytes.ensures ∙ ap (λ (x : ℕ). put a.kept.now 0 (run x (a.left * a.channels) (a.channels * whole) bytes)) e in (
       omega arith,

@@ -1,59 +1,18 @@
 -- `transpose_tiles`: the tiles passed are transposed.
-use mathlib.Core.Path.{◌≡◌, refl, ap, subst, ◌∙◌}
-use Prim.Native.Nat.{ℕ, ◌+◌, ◌-◌, ◌*◌, ◌≤◌}
+use mathlib.Core.Path.{◌≡◌, refl, subst, ◌∙◌}
+use Prim.Native.Nat.{ℕ, ◌+◌, ◌-◌, ◌*◌}
 use native.Mathlib.Omega.{arith}
-use lib.ListN.{length, take, drop}
 use Rattle.audio.specs.Format.{sample_bytes}
 use Rattle.audio.proofs.Carry.{places-end}
 use Rattle.interleaving.specs.Inner.{TransposedEach}
-use Rattle.interleaving.proofs.Pieces.{part_length}
 use Rattle.interleaving.proofs.Tiling.{tiles_none, lent_more}
 use Rattle.interleaving.proofs.tiles.transpose_tiles.Goals as goal
 
 pub loop-t-init : goal.loop-t-init
 loop-t-init c = let a = c.args in (omega arith, refl, c.requires.room_len, tiles_none (sample_bytes a.format) a.rows a.columns a.bytes.now)
 
-pub overflow_mul-at : goal.overflow_mul-at
-overflow_mul-at c =
-    let inside : (let a = c.args in c.loop-t.t * a.size + a.size ≤ length a.bytes.now) =
-    let a = c.args in omega (arith, places-end c.loop-t.t a.tiles a.size c.loop-t-test.true, c.requires.tiles_inside) in
-    omega (arith, inside)
-
-pub overflow_add-at : goal.overflow_add-at
-overflow_add-at c =
-    let inside : (let a = c.args in c.loop-t.t * a.size + a.size ≤ length a.bytes.now) =
-    let a = c.args in omega (arith, places-end c.loop-t.t a.tiles a.size c.loop-t-test.true, c.requires.tiles_inside) in
-    omega (arith, inside)
-
 pub slice_bounds-transpose_tile-count : goal.slice_bounds-transpose_tile-count
 slice_bounds-transpose_tile-count c = omega arith
-
-pub slice_bounds-transpose_tile-start : goal.slice_bounds-transpose_tile-start
-slice_bounds-transpose_tile-start c =
-    let inside : (let a = c.args in c.loop-t.t * a.size + a.size ≤ length a.bytes.now) =
-    let a = c.args in omega (arith, places-end c.loop-t.t a.tiles a.size c.loop-t-test.true, c.requires.tiles_inside) in
-    omega (arith, inside, c.loop-t.invariant.1)
-
-pub slice_bounds-transpose_tile-end : goal.slice_bounds-transpose_tile-end
-slice_bounds-transpose_tile-end c =
-    let inside : (let a = c.args in c.loop-t.t * a.size + a.size ≤ length a.bytes.now) =
-    let a = c.args in omega (arith, places-end c.loop-t.t a.tiles a.size c.loop-t-test.true, c.requires.tiles_inside) in
-    omega (arith, inside, c.loop-t.invariant.1)
-
-pub transpose_tile-requires : goal.transpose_tile-requires
-transpose_tile-requires c =
-    let inside : (let a = c.args in c.loop-t.t * a.size + a.size ≤ length a.bytes.now) =
-    let a = c.args in omega (arith, places-end c.loop-t.t a.tiles a.size c.loop-t-test.true, c.requires.tiles_inside) in
-    let l = c.loop-t in
-    let a = c.args in
-    let at = l.t * a.size in
-    let w : at + a.size - at ≡ a.size = omega arith in
-    let room : at + a.size ≤ length l.bytes = omega (arith, inside, l.invariant.1) in
-    record {
-      table_small = c.requires.table_small;
-      tile_len = ap (λ (m : ℕ). length (take m (drop at l.bytes))) w ∙ part_length l.bytes at a.size room ∙ c.requires.size_value;
-      room_len = l.invariant.2;
-    }
 
 pub overflow_step-t : goal.overflow_step-t
 overflow_step-t c = omega arith
@@ -63,14 +22,12 @@ loop-t-smaller c = omega arith
 
 pub loop-t-preserved : goal.loop-t-preserved
 loop-t-preserved c =
-    let inside : (let a = c.args in c.loop-t.t * a.size + a.size ≤ length a.bytes.now) =
-    let a = c.args in omega (arith, places-end c.loop-t.t a.tiles a.size c.loop-t-test.true, c.requires.tiles_inside) in
     let a = c.args in
     let at = c.loop-t.t * a.size in
     let w : at + a.size - at ≡ a.size = omega arith in
     let tile = c.transpose_tile.new.tile in
     let k = lent_more (sample_bytes a.format) a.rows a.columns a.bytes.now c.loop-t.t a.size (at + a.size - at) c.loop-t.bytes tile c.requires.size_value w
-    (omega (arith, inside, c.loop-t.invariant.1)) c.loop-t.invariant.3 c.transpose_tile.ensures c.transpose_tile.auto.tile in
+    (omega (arith, places-end _ _ c.args.size c.loop-t-test.true)) c.loop-t.invariant.3 c.transpose_tile.ensures c.transpose_tile.auto.tile in
     (omega arith, k.0 ∙ c.loop-t.invariant.1, c.transpose_tile.auto.room ∙ c.loop-t.invariant.2, k.1)
 
 pub returns : goal.returns
