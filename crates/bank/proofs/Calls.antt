@@ -1,17 +1,16 @@
 -- What the branches of the bank's calls come to, on plain values.
-use mathlib.Core.Path.{◌≡◌, refl, ap, ◌∙◌}
+use mathlib.Core.Path.{◌≡◌, refl}
 use mathlib.Core.Bool.{Bool, true, false}
 use mathlib.Core.List.{List, [], ◌∷◌}
-use Prim.Native.Nat.{ℕ, zero, suc, ◌≤◌, ◌<◌}
+use Prim.Native.Nat.{ℕ, ◌≤◌, ◌<◌}
 use native.Mathlib.Omega.{arith}
-use lib.ListN.{length, get_or, set, take}
+use lib.ListN.{take}
 use lib.Ieee.{Float}
 use lib.Ieee.Scale.{finite}
 use borrow.Author.Tests.{le-leb, lt-leb, ne_eqb}
 use Rattle.arithmetic.specs.Reply.{Reply, finished, refused, count, float}
 use Rattle.bank.specs.Answers.{set_up_reply, refusal_reply, param_set_reply}
-use Rattle.bank.specs.Smoother.{vacant}
-use Rattle.bank.specs.Bank.{settled, unset, declared_reply, slots_of, set_up_of, all_prepared, prepared, slot_at, slot_mapped, all_changed, one_changed, call_reply, call_of, turn_reply, turn_of, value_of}
+use Rattle.bank.specs.Bank.{settled, unset, declared_reply, slots_of, set_up_of, all_prepared, prepared, slot_at, all_changed, one_changed, call_reply, call_of, turn_reply, turn_of, value_of}
 use Rattle.bank.specs.declared.param.ParamInfo.{ParamInfo}
 use Rattle.bank.specs.declared.param.BankRefusal.{BankRefusal}
 use Rattle.bank.specs.declared.param.BankAnswer.{BankAnswer}
@@ -25,24 +24,6 @@ use Rattle.bank.proofs.Slots.{above_zero}
 -- ---- outcomes
 kept : (r : Reply) (new old : SmootherBank) → (r.number ≡ 0 → ⊥) → record { reply = r; bank = old } ≡ settled r new old
 kept r new old h = rw (ne_eqb r.number 0 h) refl
-
--- ---- one slot
-get_d_any : (ss : List Smoother) (i : ℕ) (d e : Smoother) → i < length ss → get_or ss i d ≡ get_or ss i e
-get_d_any [] i d e h = absurd (omega arith)
-get_d_any (s ∷ ss) zero d e h = refl
-get_d_any (s ∷ ss) (suc i) d e h = get_d_any ss i d e (omega arith)
-
-module _ (ss : List Smoother) (i : ℕ) (d : Smoother) (h : i < length ss) where
-  pub slot_changed : (f : Smoother → Smoother) (r : Smoother) → r ≡ f (get_or ss i d) → set ss i r ≡ slot_mapped f i ss
-  slot_changed f r e = ap (set ss i) (e ∙ ap f (get_d_any ss i d vacant h))
-
-  pub slot_cur : (get_or ss i d).cur ≡ (slot_at i ss).cur
-  slot_cur = ap (λ (s : Smoother). s.cur) (get_d_any ss i d vacant h)
-
-pub slot_past : (ss : List Smoother) (i : ℕ) → length ss ≤ i → vacant ≡ slot_at i ss
-slot_past [] i h = refl
-slot_past (s ∷ ss) zero h = absurd (omega arith)
-slot_past (s ∷ ss) (suc i) h = slot_past ss i (omega arith)
 
 -- ---- parameter calls
 -- a case other than the first, `Finished`

@@ -5,7 +5,7 @@ use mathlib.Core.List.{List}
 use Prim.Native.Nat.{ℕ, ◌+◌, ◌-◌, ◌≤◌, ◌<◌}
 use native.Mathlib.Omega.{arith}
 use lib.Dec.{leb, eqb}
-use lib.ListN.{length, get_or, take, drop, length-take}
+use lib.ListN.{length, get_or, take, drop}
 use borrow.Author.Tests.{leb-true, le-leb, lt-leb, eq-eqb, ne_eqb}
 use Rattle.arithmetic.proofs.Order.{and-true}
 use Rattle.floors_text.specs.Print.{ascii}
@@ -28,9 +28,6 @@ module _ (line : List ℕ) where
 
   cut_is : cut_out ≡ field_of line
   cut_is = let e : length line - 1 - 5 ≡ length line - 6 = omega arith in ap (λ (n : ℕ). take n (drop 5 line)) e
-
-  pub cut_few : (n : ℕ) → length line ≤ n + 6 → length cut_out ≤ n
-  cut_few n h = rw (length-take (length line - 1 - 5) (drop 5 line)) (omega arith)
 
   pub gain_none : shaped (ascii "gain=") 16 16 line ≡ false → gain_of line ≡ Malformed
   unfolding gain_of

@@ -1,8 +1,7 @@
 -- `floors`: in each of the three cases the text that is put is the definition's, by the laws of Whole.
 use mathlib.Core.Path.{sym, ◌∙◌}
-use Prim.Native.Nat.{◌≤◌}
 use native.Mathlib.Omega.{arith}
-use lib.ListN.{length, take, drop}
+use lib.ListN.{take, drop}
 use lib.Seq.{length-take-le}
 use Rattle.floors_text.specs.Print.{refusal_line}
 use Rattle.floors_text.specs.Lines.{lines_of}
@@ -20,19 +19,15 @@ returns-then-input-gt-MOST_INPUT c =
 
 pub slice_bounds-look_of-end : goal.slice_bounds-look_of-end
 slice_bounds-look_of-end c =
-    let ended : c.line_end-end.result ≤ length c.args.input.now =
-    first_end c.args.input.now c.if-input-gt-MOST_INPUT.false c.line_end-end.result c.line_end-end.ensures in
-    sym (length-take-le c.line_end-end.result c.args.input.now ended)
+    sym (length-take-le _ _ (first_end _ c.if-input-gt-MOST_INPUT.false _ c.line_end-end.ensures))
 
 pub put_refusal-requires-in-Malformed : goal.put_refusal-requires-in-Malformed
 put_refusal-requires-in-Malformed c = let h = refusal_most 1 (omega arith) in omega arith
 
 pub gains-requires : goal.gains-requires
 gains-requires c =
-    let ended : c.line_end-end.result ≤ length c.args.input.now =
-    first_end c.args.input.now c.if-input-gt-MOST_INPUT.false c.line_end-end.result c.line_end-end.ensures in
     let r = look_range (take c.line_end-end.result c.args.input.now) c.in-Number.look (sym c.look_of.ensures ∙ c.in-Number.is) in
-    (c.if-input-gt-MOST_INPUT.false, ended, r.0, r.1)
+    (c.if-input-gt-MOST_INPUT.false, first_end _ c.if-input-gt-MOST_INPUT.false _ c.line_end-end.ensures, r.0, r.1)
 
 pub returns-in-Malformed : goal.returns-in-Malformed
 returns-in-Malformed c =

@@ -1,15 +1,18 @@
 -- `gain_lines`: the invariant is Going, whose laws say what a turn, a malformed line and the end of the input make of it. The measure is what is left of the input.
 use mathlib.Core.Path.{◌≡◌, sym, ap, ◌∙◌}
-use Prim.Native.Nat.{ℕ, ◌-◌, ◌≤◌, ◌<◌}
+use Prim.Native.Nat.{ℕ, ◌+◌, ◌≤◌, ◌<◌}
 use native.Mathlib.Omega.{arith}
 use mathlib.Core.List.{List}
-use lib.ListN.{length, take, drop}
-use Rattle.floors_text.specs.Lines.{lines_of, first_of}
+use lib.ListN.{length}
 use Rattle.keeper.specs.Keeper.{Keeping, keeping_at, KeeperLeft}
-use Rattle.floors_text.proofs.Turns.{line-is, line_ends}
+use Rattle.floors_text.proofs.Turns.{line_length, line-is, line_ends}
 use Rattle.floors_text.proofs.Going.{going_start, going_few, going_ready, going_done, going_stops, left_whole, left_stopped, refusal_room, frame_room, going_turn, setup_opened}
 use Rattle.floors_text.proofs.Puts.{put_length}
 use Rattle.floors_text.proofs.gain_lines.Goals as goal
+
+-- a line that is cut out ends within the input, past its start
+line_within : (input : List ℕ) (at end : ℕ) → at < length input → end ≡ at + line_length input at → (at < end) × (end ≤ length input)
+line_within input at end h e = let w = line_ends input at h in omega arith
 
 pub loop-at-init : goal.loop-at-init
 loop-at-init c =
@@ -18,35 +21,13 @@ loop-at-init c =
 pub line_end-end-requires : goal.line_end-end-requires
 line_end-end-requires c = c.loop-at.invariant.within
 
-pub slice_bounds-gain_of-count : goal.slice_bounds-gain_of-count
-slice_bounds-gain_of-count c =
-    let ends : (c.loop-at.at < c.line_end-end.result) × (c.line_end-end.result ≤ length c.args.input.now) =
-    let h = line_ends c.args.input.now c.loop-at.at c.loop-at-test.true in
-    omega (arith, c.line_end-end.ensures) in
-    let h = ends.0 in omega arith
-
-pub slice_bounds-gain_of-start : goal.slice_bounds-gain_of-start
-slice_bounds-gain_of-start c =
-    let ends : (c.loop-at.at < c.line_end-end.result) × (c.line_end-end.result ≤ length c.args.input.now) =
-    let h = line_ends c.args.input.now c.loop-at.at c.loop-at-test.true in
-    omega (arith, c.line_end-end.ensures) in
-    let h = ends.0 in omega arith
-
 pub slice_bounds-gain_of-end : goal.slice_bounds-gain_of-end
 slice_bounds-gain_of-end c =
-    let ends : (c.loop-at.at < c.line_end-end.result) × (c.line_end-end.result ≤ length c.args.input.now) =
-    let h = line_ends c.args.input.now c.loop-at.at c.loop-at-test.true in
-    omega (arith, c.line_end-end.ensures) in
-    ends.1
+    (line_within _ _ _ c.loop-at-test.true c.line_end-end.ensures).1
 
 pub put_refusal-requires : goal.put_refusal-requires
 put_refusal-requires c =
-    let line : List ℕ =
-    take (c.line_end-end.result - c.loop-at.at) (drop c.loop-at.at c.args.input.now) in
-    let cut : line ≡ first_of (lines_of (drop c.loop-at.at c.args.input.now)) =
-    line-is c.args.input.now c.loop-at.at c.line_end-end.result c.line_end-end.ensures in
-    let h = refusal_room c.loop-at.invariant c.loop-at-test.true line cut (sym c.gain_of.ensures ∙ c.in-Malformed.is) in
-    omega arith
+    omega (arith, refusal_room c.loop-at.invariant c.loop-at-test.true _ (line-is _ _ _ c.line_end-end.ensures) (sym c.gain_of.ensures ∙ c.in-Malformed.is))
 
 pub shape_of-marks-in-Malformed : goal.shape_of-marks-in-Malformed
 shape_of-marks-in-Malformed c =
@@ -58,14 +39,11 @@ shape_of-minima-in-Malformed c =
 
 pub returns-in-Malformed : goal.returns-in-Malformed
 returns-in-Malformed c =
-    let line : List ℕ =
-    take (c.line_end-end.result - c.loop-at.at) (drop c.loop-at.at c.args.input.now) in
-    let cut : line ≡ first_of (lines_of (drop c.loop-at.at c.args.input.now)) =
-    line-is c.args.input.now c.loop-at.at c.line_end-end.result c.line_end-end.ensures in
+    let cut = line-is _ _ _ c.line_end-end.ensures in
     let e = sym c.gain_of.ensures ∙ c.in-Malformed.is in
-    let k = left_stopped c.loop-at.invariant c.loop-at-test.true line cut e in
+    let k = left_stopped c.loop-at.invariant c.loop-at-test.true _ cut e in
     record {
-      put = going_stops c.loop-at.invariant c.loop-at-test.true line cut e c.put_refusal.new.output c.put_refusal.result c.put_refusal.ensures;
+      put = going_stops c.loop-at.invariant c.loop-at-test.true _ cut e _ _ c.put_refusal.ensures;
       marks_after = ap (λ (j : Keeping). j.marks) k;
       minima_after = ap (λ (j : Keeping). j.minima) k;
     }
@@ -75,13 +53,9 @@ shape_of-output-in-Malformed c = put_length (returns-in-Malformed c).put
 
 pub step_line-turn-requires : goal.step_line-turn-requires
 step_line-turn-requires c =
-    let line : List ℕ =
-    take (c.line_end-end.result - c.loop-at.at) (drop c.loop-at.at c.args.input.now) in
-    let cut : line ≡ first_of (lines_of (drop c.loop-at.at c.args.input.now)) =
-    line-is c.args.input.now c.loop-at.at c.line_end-end.result c.line_end-end.ensures in
     record {
       ready = going_ready c.loop-at.invariant;
-      room = let h = frame_room c.loop-at.invariant c.loop-at-test.true line cut c.in-Number.pattern (sym c.gain_of.ensures ∙ c.in-Number.is) in omega arith;
+      room = omega (arith, frame_room c.loop-at.invariant c.loop-at-test.true _ (line-is _ _ _ c.line_end-end.ensures) _ (sym c.gain_of.ensures ∙ c.in-Number.is));
     }
 
 pub overflow_add-number : goal.overflow_add-number
@@ -91,20 +65,12 @@ overflow_add-number c =
 
 pub loop-at-smaller : goal.loop-at-smaller
 loop-at-smaller c =
-    let ends : (c.loop-at.at < c.line_end-end.result) × (c.line_end-end.result ≤ length c.args.input.now) =
-    let h = line_ends c.args.input.now c.loop-at.at c.loop-at-test.true in
-    omega (arith, c.line_end-end.ensures) in
-    let h = ends in
-    omega arith
+    omega (arith, line_within _ _ _ c.loop-at-test.true c.line_end-end.ensures)
 
 pub loop-at-preserved : goal.loop-at-preserved
 loop-at-preserved c =
-    let line : List ℕ =
-    take (c.line_end-end.result - c.loop-at.at) (drop c.loop-at.at c.args.input.now) in
-    let cut : line ≡ first_of (lines_of (drop c.loop-at.at c.args.input.now)) =
-    line-is c.args.input.now c.loop-at.at c.line_end-end.result c.line_end-end.ensures in
     let t = c.step_line-turn in
-    going_turn c.loop-at.invariant c.loop-at-test.true line cut c.in-Number.pattern (sym c.gain_of.ensures ∙ c.in-Number.is) t.new.output t.result.next t.ensures.put (keeping_at t.result.keeper t.new.marks t.new.minima) t.ensures.keeping_after c.line_end-end.result c.line_end-end.ensures
+    going_turn c.loop-at.invariant c.loop-at-test.true _ (line-is _ _ _ c.line_end-end.ensures) _ (sym c.gain_of.ensures ∙ c.in-Number.is) _ _ t.ensures.put _ t.ensures.keeping_after _ c.line_end-end.ensures
 
 pub shape_of-marks : goal.shape_of-marks
 shape_of-marks c = omega (arith, c.loop-at.invariant.steady.marks_fit, c.loop-at.invariant.same_look, c.requires.stores_long.0)

@@ -1,7 +1,5 @@
 -- `all_prepared`: what is left from i on answers for all.
-use mathlib.Core.Path.{◌≡◌}
 use native.Mathlib.Omega.{arith}
-use lib.ListN.{length}
 use Rattle.bank.proofs.Tests.{held, failed}
 use Rattle.bank.proofs.Slots.{prepared_start, prepared_end, prepared_fails, prepared_more}
 use Rattle.bank.proofs.smoother_bank.all_prepared.Goals as goal
@@ -22,10 +20,8 @@ bounds-smoothers-i c = omega arith
 
 pub returns-then-not-is_prepared : goal.returns-then-not-is_prepared
 returns-then-not-is_prepared c =
-    let eight : length c.args.smoothers ≡ 8 =
-    c.well_formed.0.1.0.1 in
     let a = c.args in
-    prepared_fails a.rate a.count c.loop-i.i a.smoothers c.loop-i.invariant.0 _ (omega arith) (omega (arith, eight)) (failed c.is_prepared.ensures c.if-not-is_prepared.true)
+    prepared_fails a.rate a.count c.loop-i.i a.smoothers c.loop-i.invariant.0 _ (omega arith) (omega arith) (failed c.is_prepared.ensures c.if-not-is_prepared.true)
 
 pub overflow_add-i : goal.overflow_add-i
 overflow_add-i c = omega arith
@@ -35,15 +31,10 @@ loop-i-smaller c = omega arith
 
 pub loop-i-preserved : goal.loop-i-preserved
 loop-i-preserved c =
-    let eight : length c.args.smoothers ≡ 8 =
-    c.well_formed.0.1.0.1 in
     let a = c.args in
-    (prepared_more a.rate a.count c.loop-i.i a.smoothers c.loop-i.invariant.0 _ (omega arith) (omega (arith, eight)) (held c.is_prepared.ensures c.if-not-is_prepared.false), omega arith)
+    (prepared_more a.rate a.count c.loop-i.i a.smoothers c.loop-i.invariant.0 _ (omega arith) (omega arith) (held c.is_prepared.ensures c.if-not-is_prepared.false), omega arith)
 
 pub returns : goal.returns
 returns c =
-    let eight : length c.args.smoothers ≡ 8 =
-    c.well_formed.0.1.0.1 in
     let a = c.args in
-    let e = eight in
     prepared_end a.rate a.count c.loop-i.i a.smoothers c.loop-i.invariant.0 (omega arith)

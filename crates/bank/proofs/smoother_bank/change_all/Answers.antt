@@ -1,8 +1,7 @@
 -- `change_all`: at turn i the first i slots are changed.
-use mathlib.Core.Path.{◌≡◌, ap, ◌∙◌}
+use mathlib.Core.Path.{ap, ◌∙◌}
 use Prim.Native.Nat.{ℕ}
 use native.Mathlib.Omega.{arith}
-use lib.ListN.{length}
 use Rattle.bank.specs.Smoother.{applied}
 use Rattle.bank.specs.Bank.{first_mapped}
 use Rattle.bank.proofs.Slots.{mapped_none, mapped_more, mapped_past}
@@ -38,12 +37,8 @@ loop-i-smaller c = omega arith
 
 pub loop-i-preserved : goal.loop-i-preserved
 loop-i-preserved c =
-    let eight : length c.args.smoothers ≡ 8 =
-    c.well_formed.0.1.0.1 in
-    (mapped_more (applied c.args.change) c.loop-i.i c.args.smoothers c.loop-i.slots _ c.apply.result c.loop-i.invariant.0 (omega (arith, eight)) c.apply.ensures, omega arith, omega arith)
+    (mapped_more (applied c.args.change) c.loop-i.i c.args.smoothers c.loop-i.slots _ c.apply.result c.loop-i.invariant.0 (omega arith) c.apply.ensures, omega arith, omega arith)
 
 pub returns : goal.returns
 returns c =
-    let eight : length c.args.smoothers ≡ 8 =
-    c.well_formed.0.1.0.1 in
-    c.loop-i.invariant.0 ∙ mapped_past (applied c.args.change) c.loop-i.i c.args.count c.args.smoothers (omega (arith, eight)) (omega (arith, eight))
+    c.loop-i.invariant.0 ∙ mapped_past (applied c.args.change) c.loop-i.i c.args.count c.args.smoothers (omega arith) (omega arith)

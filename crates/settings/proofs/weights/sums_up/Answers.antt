@@ -1,7 +1,5 @@
 -- `sums_up`: the loop keeps what is still to be found out equal to what was asked.
-use Rattle.std.proofs.Common.{◌≡◌, ◌*◌, true, length, get_or, sym, ◌∙◌, arith}
-use lib.Ieee.{nan}
-use Rattle.settings.specs.Weights.{in_unit}
+use Rattle.std.proofs.Common.{◌*◌, length, sym, ◌∙◌, arith}
 use Rattle.settings.proofs.WeightSum.{at_start, at_bad, at_next, at_most, at-end}
 use Rattle.settings.proofs.weights.sums_up.Goals as goal
 
@@ -26,21 +24,13 @@ returns-then-not-in_unit c =
     at_bad ws (512 * length ws) c.loop-i.sum c.loop-i.i c.loop-i.invariant c.loop-i-test.true
     (sym c.in_unit.ensures ∙ c.if-not-in_unit.true)
 
-pub part-sum-requires : goal.part-sum-requires
-part-sum-requires c =
-    let unit : in_unit (get_or c.args.weights.now c.loop-i.i nan) ≡ true =
-    sym c.in_unit.ensures ∙ c.if-not-in_unit.false in
-    unit
-
 pub overflow_add-sum : goal.overflow_add-sum
 overflow_add-sum c = omega (arith, c.part-sum.ensures.upper_bound, c.loop-i.invariant.limit, c.requires)
 
 pub returns-then-most-sum : goal.returns-then-most-sum
 returns-then-most-sum c =
-    let unit : in_unit (get_or c.args.weights.now c.loop-i.i nan) ≡ true =
-    sym c.in_unit.ensures ∙ c.if-not-in_unit.false in
     let ws = c.args.weights.now in
-    at_most ws (512 * length ws) c.loop-i.sum c.loop-i.i c.loop-i.invariant c.loop-i-test.true c.part-sum.result unit c.part-sum.ensures.value (omega (arith, c.if-most-sum.true))
+    at_most ws (512 * length ws) c.loop-i.sum c.loop-i.i c.loop-i.invariant c.loop-i-test.true _ (sym c.in_unit.ensures ∙ c.if-not-in_unit.false) c.part-sum.ensures.value (omega (arith, c.if-most-sum.true))
 
 pub overflow_add-i : goal.overflow_add-i
 overflow_add-i c = omega arith
@@ -50,10 +40,8 @@ loop-i-smaller c = omega arith
 
 pub loop-i-preserved : goal.loop-i-preserved
 loop-i-preserved c =
-    let unit : in_unit (get_or c.args.weights.now c.loop-i.i nan) ≡ true =
-    sym c.in_unit.ensures ∙ c.if-not-in_unit.false in
     let ws = c.args.weights.now in
-    at_next ws (512 * length ws) c.loop-i.sum c.loop-i.i c.loop-i.invariant c.loop-i-test.true c.part-sum.result unit c.part-sum.ensures.value (omega (arith, c.if-most-sum.false))
+    at_next ws (512 * length ws) c.loop-i.sum c.loop-i.i c.loop-i.invariant c.loop-i-test.true _ (sym c.in_unit.ensures ∙ c.if-not-in_unit.false) c.part-sum.ensures.value (omega (arith, c.if-most-sum.false))
 
 pub overflow_add-result : goal.overflow_add-result
 overflow_add-result c = omega (arith, c.loop-i.invariant.limit, c.requires)
