@@ -1,13 +1,16 @@
 -- `all_outputs`: the channels passed, and what the rest comes to.
-use mathlib.Core.Path.{refl, ◌∙◌}
-use Prim.Native.Nat.{◌+◌, ◌-◌, ◌*◌, ◌≤◌}
+use mathlib.Core.Path.{◌≡◌, refl, ◌∙◌}
+use Prim.Native.Nat.{ℕ, ◌+◌, ◌-◌, ◌*◌, ◌≤◌, ◌<◌}
 use native.Mathlib.Omega.{arith}
 use borrow.Author.Rules.{rules}
-use lib.ListN.{length}
 use Rattle.frame.specs.Rules.{leaves_by}
 use Rattle.frame.proofs.Channels.{places-end, outputs_start, outputs_end, outputs_turn, ahead_turn, pos_turn}
 use Rattle.frame.proofs.Clean.{channel_clean}
 use Rattle.frame.proofs.outputs.all_outputs.Goals as goal
+
+-- a channel's line lies in the delay
+inside : (c channels look n : ℕ) → n ≡ channels * look → c < channels → c * look + look ≤ n
+inside c channels look n e h = rw e (places-end c channels look h)
 
 pub loop-c-init : goal.loop-c-init
 loop-c-init c =
@@ -15,32 +18,16 @@ loop-c-init c =
     (search rules, search rules, search rules, outputs_start (leaves_by a.format) a.look a.pos a.gains.now a.channels a.n a.delay.now a.audio.now, λ k. absurd (omega arith), refl)
 
 pub overflow_mul-at : goal.overflow_mul-at
-overflow_mul-at c =
-    let inside : c.loop-c.c * c.args.look + c.args.look ≤ length c.loop-c.delay =
-    let a = c.args in
-    rw c.loop-c.invariant.1 (places-end c.loop-c.c a.channels a.look c.loop-c-test.true) in
-    omega (arith, inside)
+overflow_mul-at c = omega (arith, inside _ _ _ _ c.loop-c.invariant.1 c.loop-c-test.true)
 
 pub overflow_add-at : goal.overflow_add-at
-overflow_add-at c =
-    let inside : c.loop-c.c * c.args.look + c.args.look ≤ length c.loop-c.delay =
-    let a = c.args in
-    rw c.loop-c.invariant.1 (places-end c.loop-c.c a.channels a.look c.loop-c-test.true) in
-    omega (arith, inside)
+overflow_add-at c = omega (arith, inside _ _ _ _ c.loop-c.invariant.1 c.loop-c-test.true)
 
 pub offset_bounds-delay-at : goal.offset_bounds-delay-at
-offset_bounds-delay-at c =
-    let inside : c.loop-c.c * c.args.look + c.args.look ≤ length c.loop-c.delay =
-    let a = c.args in
-    rw c.loop-c.invariant.1 (places-end c.loop-c.c a.channels a.look c.loop-c-test.true) in
-    omega (arith, inside)
+offset_bounds-delay-at c = omega (arith, inside _ _ _ _ c.loop-c.invariant.1 c.loop-c-test.true)
 
 pub slice_bounds-channel_outputs-end : goal.slice_bounds-channel_outputs-end
-slice_bounds-channel_outputs-end c =
-    let inside : c.loop-c.c * c.args.look + c.args.look ≤ length c.loop-c.delay =
-    let a = c.args in
-    rw c.loop-c.invariant.1 (places-end c.loop-c.c a.channels a.look c.loop-c-test.true) in
-    omega (arith, inside)
+slice_bounds-channel_outputs-end c = omega (arith, inside _ _ _ _ c.loop-c.invariant.1 c.loop-c-test.true)
 
 pub channel_outputs-next-requires : goal.channel_outputs-next-requires
 channel_outputs-next-requires c =

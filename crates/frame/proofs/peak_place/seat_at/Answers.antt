@@ -1,15 +1,13 @@
 -- `seat_at`: a sample as high among the channels from c on, or else what `between` tells.
-use Rattle.frame.proofs.Seats.{counted_test, voices_since, sample_found, sample_passed, sample_none, seat_none, seat_some}
+use Rattle.frame.proofs.Seats.{voices_since, sample_found, sample_passed, sample_none, seat_none, seat_some}
 use Rattle.frame.specs.declared.highest.Seat.{Seat}
 use Rattle.frame.specs.Passes.{voices_pass}
 use Rattle.frame.specs.Seat.{between_from, sample_from}
 use Rattle.frame.specs.Rules.{linking_of}
 use Rattle.detector.specs.Run.{run_length}
-use Rattle.arithmetic.specs.Number.{abs_of}
 use lib.Ieee.{nan, of_bits}
 use lib.ListN.{get_or}
 use Prim.Native.Nat.{◌+◌, ◌*◌}
-use mathlib.Core.Bool.{true, false}
 use mathlib.Core.Path.{refl, ap, ◌∙◌}
 use borrow.Author.Rules.{rules}
 use Rattle.frame.proofs.peak_place.seat_at.Goals as goal
@@ -31,11 +29,9 @@ returns-then-counts_in-sample c =
     let x = a.audio.now in
     let i = c.loop-c.c in
     let y = get_or x (i * run_length + a.at) nan in
-    let k = c.counts_in in
-    let same = c.abs-sample.ensures ∙ ap abs_of c.finite_or_zero.ensures in
     let other = between_from a.peak 0 (voices_pass (linking_of a.settings) 0 a.channels a.at d x) in
     seat_some a.settings a.channels a.at d x a.peak (Seat.OnSample i) c.if-peak.false
-    (sample_found a.settings a.channels a.at d x a.peak i y (search rules) refl other (counted_test k.result _ true c.abs-sample.result _ a.peak k.ensures same c.if-counts_in-sample.true) ∙ c.loop-c.invariant.1 other)
+    (sample_found a.settings a.channels a.at d x a.peak i y (search rules) refl other (cc) ∙ c.loop-c.invariant.1 other)
 
 pub loop-c-preserved : goal.loop-c-preserved
 loop-c-preserved c =
@@ -44,9 +40,7 @@ loop-c-preserved c =
     let x = a.audio.now in
     let i = c.loop-c.c in
     let y = get_or x (i * run_length + a.at) nan in
-    let k = c.counts_in in
-    let same = c.abs-sample.ensures ∙ ap abs_of c.finite_or_zero.ensures in
-    (search rules, λ other. sample_passed a.settings a.channels a.at d x a.peak i y (search rules) refl other (counted_test k.result _ false c.abs-sample.result _ a.peak k.ensures same c.if-counts_in-sample.false) ∙ c.loop-c.invariant.1 other)
+    (search rules, λ other. sample_passed a.settings a.channels a.at d x a.peak i y (search rules) refl other (cc) ∙ c.loop-c.invariant.1 other)
 
 pub returns : goal.returns
 unfolding of_bits

@@ -1,5 +1,5 @@
 -- `render_in`: the passes add up to the frames in turn.
-use mathlib.Core.Path.{◌≡◌, ap, ◌∙◌, subst}
+use mathlib.Core.Path.{ap, ◌∙◌, subst}
 use Prim.Native.Nat.{◌*◌, ◌≤◌}
 use native.Mathlib.Omega.{arith}
 use lib.ListN.{length}
@@ -29,14 +29,12 @@ all_peaks-heard-requires c =
 
 pub highest_in-highest-requires : goal.highest_in-highest-requires
 highest_in-highest-requires c =
-    let so_many : length c.args.gains.now ≡ c.args.n =
-    zeros_length c.args.n c.args.gains.now c.requires.gains_zero in
     let r = c.requires.run_ready in
     record {
       channels_bound = r.most;
       n_le_run_length = r.short;
       first_bound = c.requires.first_bound;
-      peaks_len = c.all_peaks-heard.auto.peaks ∙ so_many;
+      peaks_len = c.all_peaks-heard.auto.peaks ∙ zeros_length _ _ c.requires.gains_zero;
       audio_len = r.audio_fit;
       detector_len = r.detector_fit;
     }
@@ -57,10 +55,8 @@ required_gains-requires c =
 
 pub gain_steps-last-requires : goal.gain_steps-last-requires
 gain_steps-last-requires c =
-    let so_many : length c.args.gains.now ≡ c.args.n =
-    zeros_length c.args.n c.args.gains.now c.requires.gains_zero in
     let r = c.requires.run_ready in
-    let many = c.required_gains.auto.peaks ∙ c.all_peaks-heard.auto.peaks ∙ so_many in
+    let many = c.required_gains.auto.peaks ∙ c.all_peaks-heard.auto.peaks ∙ zeros_length _ _ c.requires.gains_zero in
     record {
       env_ready = r.env;
       gains_bound = rw many r.room;
@@ -68,10 +64,8 @@ gain_steps-last-requires c =
 
 pub all_outputs-next-requires : goal.all_outputs-next-requires
 all_outputs-next-requires c =
-    let so_many : length c.args.gains.now ≡ c.args.n =
-    zeros_length c.args.n c.args.gains.now c.requires.gains_zero in
     let r = c.requires.run_ready in
-    let many = c.gain_steps-last.auto.gains ∙ c.required_gains.auto.peaks ∙ c.all_peaks-heard.auto.peaks ∙ so_many in
+    let many = c.gain_steps-last.auto.gains ∙ c.required_gains.auto.peaks ∙ c.all_peaks-heard.auto.peaks ∙ zeros_length _ _ c.requires.gains_zero in
     record {
       some_channel = r.some;
       channels_bound = r.most;

@@ -1,80 +1,30 @@
--- `step`: each answer by the tests that lead to it; the finished one is the inner step's.
-use mathlib.Core.Path.{◌≡◌, sym, ◌∙◌}
-use mathlib.Core.Bool.{true}
-use Rattle.keeper.specs.Keeper.{Keeping, keeping_at, look_taken, stores_fit, ordered, inner_at}
+-- `step`: each answer by the tests that lead to it; the finished one is the inner step's. What a test found is the definition's, by `cc`.
+use Rattle.keeper.specs.Keeper.{inner_at}
 use Rattle.keeper.proofs.Calls.{look_most, both_fit, step_12, step_16, step_19, step_22, step_ready, step_0}
 use Rattle.keeper.proofs.FloorKeeper.step.Goals as goal
 
 pub returns-then-not-look_taken : goal.returns-then-not-look_taken
-returns-then-not-look_taken c =
-    let kept : Keeping =
-    keeping_at c.args.self c.args.marks.now c.args.minima.now in
-    step_12 kept c.args.gain (sym c.look_taken.ensures ∙ c.if-not-look_taken.true)
+returns-then-not-look_taken c = step_12 _ _ (cc)
 
 pub stores_fit-requires : goal.stores_fit-requires
-stores_fit-requires c =
-    let looked : look_taken c.args.self.look ≡ true =
-    sym c.look_taken.ensures ∙ c.if-not-look_taken.false in
-    look_most c.args.self.look looked
+stores_fit-requires c = look_most _ (cc)
 
 pub returns-then-not-stores_fit : goal.returns-then-not-stores_fit
-returns-then-not-stores_fit c =
-    let kept : Keeping =
-    keeping_at c.args.self c.args.marks.now c.args.minima.now in
-    let looked : look_taken c.args.self.look ≡ true =
-    sym c.look_taken.ensures ∙ c.if-not-look_taken.false in
-    step_16 kept c.args.gain looked (sym c.stores_fit.ensures ∙ c.if-not-stores_fit.true)
+returns-then-not-stores_fit c = step_16 _ _ (cc) (cc)
 
 pub in_order-requires : goal.in_order-requires
-in_order-requires c =
-    let fit : stores_fit c.args.self.look c.args.marks.now c.args.minima.now ≡ true =
-    sym c.stores_fit.ensures ∙ c.if-not-stores_fit.false in
-    both_fit c.args.self.look c.args.marks.now c.args.minima.now fit
+in_order-requires c = both_fit c.args.self.look c.args.marks.now c.args.minima.now (cc)
 
 pub returns-then-not-in_order : goal.returns-then-not-in_order
-returns-then-not-in_order c =
-    let kept : Keeping =
-    keeping_at c.args.self c.args.marks.now c.args.minima.now in
-    let looked : look_taken c.args.self.look ≡ true =
-    sym c.look_taken.ensures ∙ c.if-not-look_taken.false in
-    let fit : stores_fit c.args.self.look c.args.marks.now c.args.minima.now ≡ true =
-    sym c.stores_fit.ensures ∙ c.if-not-stores_fit.false in
-    step_19 kept c.args.gain looked fit (sym c.in_order.ensures ∙ c.if-not-in_order.true)
+returns-then-not-in_order c = step_19 _ _ (cc) (cc) (cc)
 
 pub returns-then-self-ge-MOST_FRAMES : goal.returns-then-self-ge-MOST_FRAMES
-returns-then-self-ge-MOST_FRAMES c =
-    let kept : Keeping =
-    keeping_at c.args.self c.args.marks.now c.args.minima.now in
-    let looked : look_taken c.args.self.look ≡ true =
-    sym c.look_taken.ensures ∙ c.if-not-look_taken.false in
-    let fit : stores_fit c.args.self.look c.args.marks.now c.args.minima.now ≡ true =
-    sym c.stores_fit.ensures ∙ c.if-not-stores_fit.false in
-    let right : ordered kept ≡ true =
-    sym c.in_order.ensures ∙ c.if-not-in_order.false in
-    step_22 kept c.args.gain looked fit right c.if-self-ge-MOST_FRAMES.true
+returns-then-self-ge-MOST_FRAMES c = step_22 _ _ (cc) (cc) (cc) c.if-self-ge-MOST_FRAMES.true
 
 pub step_in_order-done-requires : goal.step_in_order-done-requires
-step_in_order-done-requires c =
-    let kept : Keeping =
-    keeping_at c.args.self c.args.marks.now c.args.minima.now in
-    let looked : look_taken c.args.self.look ≡ true =
-    sym c.look_taken.ensures ∙ c.if-not-look_taken.false in
-    let fit : stores_fit c.args.self.look c.args.marks.now c.args.minima.now ≡ true =
-    sym c.stores_fit.ensures ∙ c.if-not-stores_fit.false in
-    let right : ordered kept ≡ true =
-    sym c.in_order.ensures ∙ c.if-not-in_order.false in
-    step_ready kept c.args.gain looked fit right c.if-self-ge-MOST_FRAMES.false
+step_in_order-done-requires c = step_ready _ c.args.gain (cc) (cc) (cc) c.if-self-ge-MOST_FRAMES.false
 
 pub returns : goal.returns
 returns c =
-    let kept : Keeping =
-    keeping_at c.args.self c.args.marks.now c.args.minima.now in
-    let looked : look_taken c.args.self.look ≡ true =
-    sym c.look_taken.ensures ∙ c.if-not-look_taken.false in
-    let fit : stores_fit c.args.self.look c.args.marks.now c.args.minima.now ≡ true =
-    sym c.stores_fit.ensures ∙ c.if-not-stores_fit.false in
-    let right : ordered kept ≡ true =
-    sym c.in_order.ensures ∙ c.if-not-in_order.false in
     let d = c.step_in_order-done in
-    step_0 kept c.args.gain looked fit right c.if-self-ge-MOST_FRAMES.false
-    (inner_at d.result d.new.marks d.new.minima) d.ensures
+    step_0 _ _ (cc) (cc) (cc) c.if-self-ge-MOST_FRAMES.false (inner_at d.result d.new.marks d.new.minima) d.ensures

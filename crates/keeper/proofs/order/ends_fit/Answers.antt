@@ -1,10 +1,9 @@
 -- `ends_fit`: each test is about an end of the ring, by the laws of Loops.
 use mathlib.Core.Path.{refl}
-use Prim.Native.Nat.{◌+◌, ◌-◌, ◌<◌}
+use Prim.Native.Nat.{◌+◌, ◌-◌}
 use native.Mathlib.Omega.{arith}
-use lib.ListN.{length}
 use Rattle.keeper.specs.Ring.{wrap}
-use Rattle.keeper.proofs.Places.{wrap_below}
+use Rattle.keeper.proofs.Places.{back_inside}
 use Rattle.keeper.proofs.Loops.{ends_no_frame, ends_other, ends_same}
 use Rattle.keeper.proofs.order.ends_fit.Goals as goal
 
@@ -18,19 +17,11 @@ returns-then-frame-eq0 c minima =
 
 pub offset_bounds-marks-last : goal.offset_bounds-marks-last
 offset_bounds-marks-last c =
-    let place : c.wrap-last.result < length c.args.marks.now =
-    let a = c.args in
-    let k = wrap_below (a.look + 1) (a.head + a.len - 1) (omega arith) in
-    omega (arith, c.wrap-last.ensures) in
-    omega (arith, place, c.well_formed.0.1)
+    omega (arith, back_inside _ _ _ _ c.wrap-last.ensures (omega arith) (omega arith), c.well_formed.0.1)
 
 pub bounds-marks-last : goal.bounds-marks-last
 bounds-marks-last c =
-    let place : c.wrap-last.result < length c.args.marks.now =
-    let a = c.args in
-    let k = wrap_below (a.look + 1) (a.head + a.len - 1) (omega arith) in
-    omega (arith, c.wrap-last.ensures) in
-    place
+    omega (arith, back_inside _ _ _ _ c.wrap-last.ensures (omega arith) (omega arith))
 
 pub returns-then-marks-last : goal.returns-then-marks-last
 returns-then-marks-last c minima =

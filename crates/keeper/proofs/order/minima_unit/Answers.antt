@@ -1,10 +1,8 @@
 -- `minima_unit`: of minima that rise, the first and the last tell (Rising).
 use mathlib.Core.Path.{refl}
-use Prim.Native.Nat.{◌+◌, ◌-◌, ◌<◌}
 use native.Mathlib.Omega.{arith}
-use lib.ListN.{length}
 use lib.Ieee.{of_bits}
-use Rattle.keeper.proofs.Places.{wrap_below}
+use Rattle.keeper.proofs.Places.{back_inside}
 use Rattle.keeper.proofs.Rising.{ends_read}
 use Rattle.keeper.proofs.order.minima_unit.Goals as goal
 
@@ -13,19 +11,11 @@ returns-then-len-eq0 c marks r = rw c.if-len-eq0.true refl
 
 pub offset_bounds-minima-last : goal.offset_bounds-minima-last
 offset_bounds-minima-last c =
-    let place : c.wrap-last.result < length c.args.minima.now =
-    let a = c.args in
-    let k = wrap_below a.cap (a.head + a.len - 1) (omega arith) in
-    omega (arith, c.wrap-last.ensures) in
-    omega (arith, place, c.well_formed.0.1)
+    omega (arith, back_inside _ _ _ _ c.wrap-last.ensures (omega arith) (omega arith), c.well_formed.0.1)
 
 pub bounds-minima-last : goal.bounds-minima-last
 bounds-minima-last c =
-    let place : c.wrap-last.result < length c.args.minima.now =
-    let a = c.args in
-    let k = wrap_below a.cap (a.head + a.len - 1) (omega arith) in
-    omega (arith, c.wrap-last.ensures) in
-    place
+    omega (arith, back_inside _ _ _ _ c.wrap-last.ensures (omega arith) (omega arith))
 
 pub returns : goal.returns
 unfolding of_bits

@@ -1,9 +1,7 @@
 -- `drop_back`: what the drop makes of the entries left is what it makes of all. The measure is their number.
 use mathlib.Core.Path.{refl, sym, ◌∙◌}
-use Prim.Native.Nat.{◌+◌, ◌-◌, ◌<◌}
 use native.Mathlib.Omega.{arith}
-use lib.ListN.{length}
-use Rattle.keeper.proofs.Places.{wrap_below}
+use Rattle.keeper.proofs.Places.{back_inside}
 use Rattle.keeper.proofs.Loops.{back_done, back_turn, back_none}
 use Rattle.keeper.proofs.ring.drop_back.Goals as goal
 
@@ -18,19 +16,11 @@ overflow_sub-head c = omega arith
 
 pub offset_bounds-minima-back : goal.offset_bounds-minima-back
 offset_bounds-minima-back c =
-    let place : c.wrap-back.result < length c.args.minima.now =
-    let a = c.args in
-    let k = wrap_below a.cap (a.head + c.loop-left.left - 1) (omega arith) in
-    omega (arith, c.wrap-back.ensures) in
-    let k = place in omega (arith, c.well_formed.0.1)
+    omega (arith, back_inside _ _ _ _ c.wrap-back.ensures (omega arith) (omega arith), c.well_formed.0.1)
 
 pub bounds-minima-back : goal.bounds-minima-back
 bounds-minima-back c =
-    let place : c.wrap-back.result < length c.args.minima.now =
-    let a = c.args in
-    let k = wrap_below a.cap (a.head + c.loop-left.left - 1) (omega arith) in
-    omega (arith, c.wrap-back.ensures) in
-    place
+    omega (arith, back_inside _ _ _ _ c.wrap-back.ensures (omega arith) (omega arith))
 
 pub returns-then-minima-back : goal.returns-then-minima-back
 returns-then-minima-back c marks =

@@ -21,10 +21,9 @@ short-enough n l h = go (ltb 32 n) refl
 
 pub pos_after-requires : goal.pos_after-requires
 pos_after-requires c =
-    let k = short-enough (length c.args.floors.now) (length c.args.row.now) c.if-n-l.false in
     record {
-      pos_lt_l = (ordered c.args.self c.args.row.now c.requires.row_ordered).place;
-      n_bound = omega arith;
+      pos_lt_l = (ordered _ _ c.requires.row_ordered).place;
+      n_bound = omega (arith, short-enough (length c.args.floors.now) (length c.args.row.now) c.if-n-l.false);
     }
 
 pub returns-then-self-all_one : goal.returns-then-self-all_one
@@ -35,22 +34,20 @@ returns-then-self-all_one c =
 
 pub means_short-requires : goal.means_short-requires
 means_short-requires c =
-    let k = short-enough (length c.args.floors.now) (length c.args.row.now) c.if-n-l.false in
     record {
       row_ordered = c.requires.row_ordered;
       weights_len = c.requires.weights_len;
       floors_unit = c.requires.floors_unit;
-      floors_len_bound = k.0;
+      floors_len_bound = (short-enough _ _ c.if-n-l.false).0;
       row_len_bound = c.if-l-le96.true;
     }
 
 pub means_long-requires : goal.means_long-requires
 means_long-requires c =
-    let k = short-enough (length c.args.floors.now) (length c.args.row.now) c.if-n-l.false in
     record {
       row_ordered = c.requires.row_ordered;
       weights_len = c.requires.weights_len;
       floors_unit = c.requires.floors_unit;
-      floors_len_bound = k.0;
-      row_len_bound = k.1;
+      floors_len_bound = (short-enough _ _ c.if-n-l.false).0;
+      row_len_bound = (short-enough _ _ c.if-n-l.false).1;
     }
