@@ -4,10 +4,7 @@ use Rattle.frame.specs.declared.highest.Seat.{Seat}
 use Rattle.frame.specs.Passes.{voices_pass}
 use Rattle.frame.specs.Seat.{between_from, sample_from}
 use Rattle.frame.specs.Rules.{linking_of}
-use Rattle.detector.specs.Run.{run_length}
-use lib.Ieee.{nan, of_bits}
-use lib.ListN.{get_or}
-use Prim.Native.Nat.{◌+◌, ◌*◌}
+use lib.Ieee.{of_bits}
 use mathlib.Core.Path.{refl, ap, ◌∙◌}
 use borrow.Author.Rules.{rules}
 use Rattle.frame.proofs.peak_place.seat_at.Goals as goal
@@ -28,10 +25,9 @@ returns-then-counts_in-sample c =
     let d = a.detector.now in
     let x = a.audio.now in
     let i = c.loop-c.c in
-    let y = get_or x (i * run_length + a.at) nan in
     let other = between_from a.peak 0 (voices_pass (linking_of a.settings) 0 a.channels a.at d x) in
     seat_some a.settings a.channels a.at d x a.peak (Seat.OnSample i) c.if-peak.false
-    (sample_found a.settings a.channels a.at d x a.peak i y (search rules) refl other (cc) ∙ c.loop-c.invariant.1 other)
+    (sample_found a.settings a.channels a.at d x a.peak i _ (search rules) refl other (cc) ∙ c.loop-c.invariant.1 other)
 
 pub loop-c-preserved : goal.loop-c-preserved
 loop-c-preserved c =
@@ -39,8 +35,7 @@ loop-c-preserved c =
     let d = a.detector.now in
     let x = a.audio.now in
     let i = c.loop-c.c in
-    let y = get_or x (i * run_length + a.at) nan in
-    (search rules, λ other. sample_passed a.settings a.channels a.at d x a.peak i y (search rules) refl other (cc) ∙ c.loop-c.invariant.1 other)
+    (search rules, λ other. sample_passed a.settings a.channels a.at d x a.peak i _ (search rules) refl other (cc) ∙ c.loop-c.invariant.1 other)
 
 pub returns : goal.returns
 unfolding of_bits

@@ -15,40 +15,50 @@ drop_front-front-requires c =
 
 pub overflow_add-head : goal.overflow_add-head
 overflow_add-head c =
-    omega (arith, front_fits _ _ c.requires _ c.unit_gain-rg.ensures _ c.drop_back-back.ensures _ _ c.drop_front-front.ensures.ring_left c.drop_front-front.ensures.places.1)
+    let f = c.drop_front-front.ensures in
+    omega (arith, front_fits _ _ c.requires _ c.unit_gain-rg.ensures _ c.drop_back-back.ensures _ _ f.ring_left f.places.1)
 
 pub offset_bounds-marks-place : goal.offset_bounds-marks-place
 offset_bounds-marks-place c =
-    omega (arith, place_fits _ _ c.requires _ c.unit_gain-rg.ensures _ c.drop_back-back.ensures _ _ c.drop_front-front.ensures.ring_left c.drop_front-front.ensures.places.1 _ c.wrap-place.ensures, c.requires.marks_fit)
+    let f = c.drop_front-front.ensures in
+    omega (arith, place_fits _ _ c.requires _ c.unit_gain-rg.ensures _ c.drop_back-back.ensures _ _ f.ring_left f.places.1 _ c.wrap-place.ensures, c.requires.marks_fit)
 
 pub bounds-marks-place : goal.bounds-marks-place
 bounds-marks-place c =
-    omega (arith, place_fits _ _ c.requires _ c.unit_gain-rg.ensures _ c.drop_back-back.ensures _ _ c.drop_front-front.ensures.ring_left c.drop_front-front.ensures.places.1 _ c.wrap-place.ensures, c.requires.marks_fit)
+    let f = c.drop_front-front.ensures in
+    omega (arith, place_fits _ _ c.requires _ c.unit_gain-rg.ensures _ c.drop_back-back.ensures _ _ f.ring_left f.places.1 _ c.wrap-place.ensures, c.requires.marks_fit)
 
 pub offset_bounds-minima-place : goal.offset_bounds-minima-place
 offset_bounds-minima-place c =
-    omega (arith, place_fits _ _ c.requires _ c.unit_gain-rg.ensures _ c.drop_back-back.ensures _ _ c.drop_front-front.ensures.ring_left c.drop_front-front.ensures.places.1 _ c.wrap-place.ensures, c.requires.minima_fit)
+    let f = c.drop_front-front.ensures in
+    omega (arith, place_fits _ _ c.requires _ c.unit_gain-rg.ensures _ c.drop_back-back.ensures _ _ f.ring_left f.places.1 _ c.wrap-place.ensures, c.requires.minima_fit)
 
 pub bounds-minima-place : goal.bounds-minima-place
 bounds-minima-place c =
-    omega (arith, place_fits _ _ c.requires _ c.unit_gain-rg.ensures _ c.drop_back-back.ensures _ _ c.drop_front-front.ensures.ring_left c.drop_front-front.ensures.places.1 _ c.wrap-place.ensures, c.requires.minima_fit)
+    let f = c.drop_front-front.ensures in
+    omega (arith, place_fits _ _ c.requires _ c.unit_gain-rg.ensures _ c.drop_back-back.ensures _ _ f.ring_left f.places.1 _ c.wrap-place.ensures, c.requires.minima_fit)
 
 pub offset_bounds-minima-head : goal.offset_bounds-minima-head
 offset_bounds-minima-head c =
-    omega (arith, front_fits _ _ c.requires _ c.unit_gain-rg.ensures _ c.drop_back-back.ensures _ _ c.drop_front-front.ensures.ring_left c.drop_front-front.ensures.places.1, c.requires.minima_fit)
+    let f = c.drop_front-front.ensures in
+    omega (arith, front_fits _ _ c.requires _ c.unit_gain-rg.ensures _ c.drop_back-back.ensures _ _ f.ring_left f.places.1, c.requires.minima_fit)
 
 pub bounds-minima-head : goal.bounds-minima-head
 bounds-minima-head c =
-    simp length-set (omega (arith, front_fits _ _ c.requires _ c.unit_gain-rg.ensures _ c.drop_back-back.ensures _ _ c.drop_front-front.ensures.ring_left c.drop_front-front.ensures.places.1, c.requires.minima_fit))
+    let f = c.drop_front-front.ensures in
+    simp length-set (omega (arith, front_fits _ _ c.requires _ c.unit_gain-rg.ensures _ c.drop_back-back.ensures _ _ f.ring_left f.places.1, c.requires.minima_fit))
 
 pub overflow_sub-result : goal.overflow_sub-result
 overflow_sub-result c =
-    (front_fits _ _ c.requires _ c.unit_gain-rg.ensures _ c.drop_back-back.ensures _ _ c.drop_front-front.ensures.ring_left c.drop_front-front.ensures.places.1).2
+    let f = c.drop_front-front.ensures in
+    (front_fits _ _ c.requires _ c.unit_gain-rg.ensures _ c.drop_back-back.ensures _ _ f.ring_left f.places.1).2
 
 pub overflow_add-result : goal.overflow_add-result
 overflow_add-result c =
-    omega (arith, front_fits _ _ c.requires _ c.unit_gain-rg.ensures _ c.drop_back-back.ensures _ _ c.drop_front-front.ensures.ring_left c.drop_front-front.ensures.places.1, c.requires.marks_fit)
+    let f = c.drop_front-front.ensures in
+    omega (arith, front_fits _ _ c.requires _ c.unit_gain-rg.ensures _ c.drop_back-back.ensures _ _ f.ring_left f.places.1, c.requires.marks_fit)
 
 pub returns : goal.returns
 returns c =
-    step_done _ _ c.requires _ c.unit_gain-rg.ensures _ c.drop_back-back.ensures _ _ c.drop_front-front.ensures.ring_left c.drop_front-front.ensures.places.1 _ c.wrap-place.ensures
+    let f = c.drop_front-front.ensures in
+    step_done _ _ c.requires _ c.unit_gain-rg.ensures _ c.drop_back-back.ensures _ _ f.ring_left f.places.1 _ c.wrap-place.ensures
