@@ -3,7 +3,6 @@ use native.Mathlib.Omega.{arith}
 use mathlib.Core.Bool.{true, false}
 use Rattle.turns.specs.Events.{events_of}
 use Rattle.turns.specs.Machine.{machine_of}
-use Rattle.driver.specs.Answers.{answer_reply}
 use Rattle.driver.proofs.Refusing.{block_most, size_most, too_long, wrong_size, event_refused, far_judged}
 use Rattle.driver.proofs.process.judge_call.Goals as goal
 
@@ -32,7 +31,7 @@ is_finished-requires c = tt
 pub returns-then-not-is_finished : goal.returns-then-not-is_finished
 returns-then-not-is_finished c =
     let a = c.args in
-    λ b s. event_refused (machine_of a.l b s) a.position a.frames (events_of a.events.now) a.size c.if-frames-l.false c.if-size-l.false (answer_reply c.check_events-answer.result) c.check_events-answer.ensures c.is_finished.result c.is_finished.ensures c.if-not-is_finished.true
+    λ b s. event_refused (machine_of a.l b s) a.position a.frames (events_of a.events.now) a.size c.if-frames-l.false c.if-size-l.false _ c.check_events-answer.ensures _ c.is_finished.ensures c.if-not-is_finished.true
 
 pub overflow_sub-room : goal.overflow_sub-room
 overflow_sub-room c = omega (arith, c.if-frames-l.false, block_most c.args.l c.requires)
@@ -43,9 +42,9 @@ overflow_sub-frames c = omega (arith, c.if-frames-l.false, block_most c.args.l c
 pub returns-then-position-frames : goal.returns-then-position-frames
 returns-then-position-frames c =
     let a = c.args in
-    λ b s. far_judged (machine_of a.l b s) a.position a.frames (events_of a.events.now) a.size c.if-frames-l.false c.if-size-l.false (answer_reply c.check_events-answer.result) c.check_events-answer.ensures c.is_finished.result c.is_finished.ensures c.requires c.if-not-is_finished.false true c.if-position-frames.true
+    λ b s. far_judged (machine_of a.l b s) a.position a.frames (events_of a.events.now) a.size c.if-frames-l.false c.if-size-l.false _ c.check_events-answer.ensures _ c.is_finished.ensures c.requires c.if-not-is_finished.false true c.if-position-frames.true
 
 pub returns-else-position-frames : goal.returns-else-position-frames
 returns-else-position-frames c =
     let a = c.args in
-    λ b s. far_judged (machine_of a.l b s) a.position a.frames (events_of a.events.now) a.size c.if-frames-l.false c.if-size-l.false (answer_reply c.check_events-answer.result) c.check_events-answer.ensures c.is_finished.result c.is_finished.ensures c.requires c.if-not-is_finished.false false c.if-position-frames.false
+    λ b s. far_judged (machine_of a.l b s) a.position a.frames (events_of a.events.now) a.size c.if-frames-l.false c.if-size-l.false _ c.check_events-answer.ensures _ c.is_finished.ensures c.requires c.if-not-is_finished.false false c.if-position-frames.false

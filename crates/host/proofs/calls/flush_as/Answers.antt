@@ -2,28 +2,19 @@
 use mathlib.Core.Path.{ap}
 use mathlib.Core.List.{List}
 use Prim.Native.Nat.{ℕ}
-use Rattle.limiter.specs.Stores.{Stores, stores_at}
 use Rattle.turns.specs.Machine.{Machine}
 use Rattle.turns.specs.Drain.{drain_of}
-use Rattle.driver.specs.Answers.{machine_at, flush_reply, Seen}
+use Rattle.driver.specs.Answers.{flush_reply, Seen}
 use Rattle.state_bytes.proofs.Finished.{drain_set_up}
 use Rattle.host.proofs.Through.{finished_long, rendered}
 use Rattle.host.proofs.calls.flush_as.Goals as goal
 
 pub leave-requires : goal.leave-requires
 leave-requires c =
-    let stores : Stores =
-    let a = c.args in
-    stores_at a.delay.now a.marks.now a.minima.now a.weights.now a.row.now a.detector.now in
-    let m = machine_at c.read_state-p.result stores in
-    finished_long c.args.answer.now c.args.state.now c.read_state-p.result c.read_state-p.ensures (flush_reply c.flush-done.result.answer) (drain_of c.args.format m c.args.frames c.args.audio.now).reply c.of_flush.result
-    (drain_set_up m c.args.format c.args.frames c.args.audio.now) (ap (λ (s : Seen). s.reply) c.flush-done.ensures) c.of_flush.ensures
+    finished_long c.args.answer.now _ _ c.read_state-p.ensures _ _ _ (drain_set_up _ c.args.format _ _) (ap (λ (s : Seen). s.reply) c.flush-done.ensures) c.of_flush.ensures
 
 pub returns : goal.returns
 returns c =
-    let stores : Stores =
-    let a = c.args in
-    stores_at a.delay.now a.marks.now a.minima.now a.weights.now a.row.now a.detector.now in
     rendered c.args.answer.now c.args.state.now c.read_state-p.result c.read_state-p.ensures (flush_reply c.flush-done.result.answer) c.flush-done.result.processor _ c.of_flush.result _ _ _
     c.of_flush.ensures c.leave.ensures.value c.leave.ensures.buffer_after c.leave.ensures.state_after
-    (λ (m : Machine) (bytes : List ℕ). drain_of c.args.format m c.args.frames bytes) stores c.args.audio.now _ c.flush-done.ensures
+    (λ (m : Machine) (bytes : List ℕ). drain_of c.args.format m c.args.frames bytes) _ c.args.audio.now _ c.flush-done.ensures

@@ -50,14 +50,7 @@ loop-i-smaller c = omega arith
 
 pub loop-i-preserved : goal.loop-i-preserved
 loop-i-preserved c =
-    let eight : length c.args.slots ≡ 8 =
-    c.well_formed.1.0.1.0.1 in
-    let a = c.args in
-    (omega arith, laid_more a.words.now c.loop-i.words a.slots c.loop-i.i c.loop-i.invariant.1 _ c.slot.result (omega (arith, eight)) c.lay_slot.ensures c.slot.ensures)
+    (omega arith, laid_more _ _ _ _ c.loop-i.invariant.1 _ _ (omega (arith, c.well_formed.1.0.1.0.1)) c.lay_slot.ensures c.slot.ensures)
 
 pub returns : goal.returns
-returns c =
-    let eight : length c.args.slots ≡ 8 =
-    c.well_formed.1.0.1.0.1 in
-    let a = c.args in
-    laid-all a.words.now c.loop-i.words a.slots c.loop-i.i c.loop-i.invariant.1 (omega (arith, eight))
+returns c = laid-all _ _ c.args.slots c.loop-i.i c.loop-i.invariant.1 (omega (arith, c.well_formed.1.0.1.0.1))

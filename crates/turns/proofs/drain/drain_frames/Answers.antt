@@ -4,7 +4,7 @@ use native.Mathlib.Omega.{arith}
 use lib.ListN.{length}
 use Rattle.limiter.specs.Stores.{stores_at}
 use Rattle.limiter.proofs.Frames.{bounds_of}
-use Rattle.turns.proofs.Draining.{drained_start, tail_inside, drain_asks, audio_size, drain_held, drained_more, drained_limiter, drained_stores, drained_audio}
+use Rattle.turns.proofs.Draining.{drained_start, drain_asks, audio_size, drain_held, drained_more, drained_limiter, drained_stores, drained_audio}
 use Rattle.turns.proofs.drain.drain_frames.Goals as goal
 
 pub run_room-run-requires : goal.run_room-run-requires
@@ -12,8 +12,7 @@ run_room-run-requires c = tt
 
 pub loop-first-init : goal.loop-first-init
 loop-first-init c =
-    let a = c.args in
-    (drained_start a.format a.limiter a.n a.width (stores_at a.delay.now a.marks.now a.minima.now a.weights.now a.row.now a.detector.now) a.audio.now c.run_room-run.result c.run_room-run.ensures c.requires, refl, refl, refl, refl, refl, refl)
+    (drained_start _ _ _ _ _ _ _ c.run_room-run.ensures c.requires, refl, refl, refl, refl, refl, refl)
 
 pub overflow_sub-n : goal.overflow_sub-n
 overflow_sub-n c = omega arith
@@ -26,54 +25,43 @@ slice_bounds-drain-end c = omega arith
 
 pub drain-l-requires : goal.drain-l-requires
 drain-l-requires c =
-    let a = c.args in
-    let l = c.loop-first in
-    drain_asks a.format a.limiter a.n a.width (stores_at a.delay.now a.marks.now a.minima.now a.weights.now a.row.now a.detector.now) a.audio.now c.requires l.first c.tail_run-len.result l.l (stores_at l.delay l.marks l.minima a.weights.now l.row l.detector) l.audio l.run l.invariant.0 c.loop-first-test.true c.tail_run-len.ensures
+    drain_asks _ _ _ _ _ _ c.requires _ _ _ _ _ _ c.loop-first.invariant.0 c.loop-first-test.true c.tail_run-len.ensures
 
 pub slice_bounds-scatter-end : goal.slice_bounds-scatter-end
 slice_bounds-scatter-end c = omega arith
 
 pub scatter-requires : goal.scatter-requires
 scatter-requires c =
-    let a = c.args in
     let p = c.requires in
-    let l = c.loop-first in
-    let n = tail_inside a.format a.limiter a.n a.width (stores_at a.delay.now a.marks.now a.minima.now a.weights.now a.row.now a.detector.now) a.audio.now p l.first c.tail_run-len.result l.l (stores_at l.delay l.marks l.minima a.weights.now l.row l.detector) l.audio l.run l.invariant.0 c.loop-first-test.true c.tail_run-len.ensures in
-    let size = audio_size a.format a.limiter a.n a.width (stores_at a.delay.now a.marks.now a.minima.now a.weights.now a.row.now a.detector.now) a.audio.now p l.first c.tail_run-len.result l.l (stores_at l.delay l.marks l.minima a.weights.now l.row l.detector) l.audio l.run l.invariant.0 c.loop-first-test.true c.tail_run-len.ensures in
+    let now = c.loop-first.invariant.0 in
+    let more = c.loop-first-test.true in
+    let n = c.tail_run-len.ensures in
     let d = c.drain-l in
-    let held = drain_held a.format a.limiter a.n a.width (stores_at a.delay.now a.marks.now a.minima.now a.weights.now a.row.now a.detector.now) a.audio.now p l.first c.tail_run-len.result l.l (stores_at l.delay l.marks l.minima a.weights.now l.row l.detector) l.audio l.run l.invariant.0 c.loop-first-test.true c.tail_run-len.ensures d.result _ d.new.audio d.ensures in
     record {
-      channels_bound = (bounds_of a.limiter p.ready.set_up).most;
+      channels_bound = (bounds_of _ p.ready.set_up).most;
       width_bound = p.lends.short;
-      audio_size = sym size;
-      run_inside = omega (arith, n.2, p.inside);
-      run_short = n.1;
-      run_len = d.auto.audio ∙ l.invariant.0.run_fit;
-      held_all = held;
+      audio_size = sym (audio_size _ _ _ _ _ _ p _ _ _ _ _ _ now more n);
+      run_inside = omega (arith, n, more, p.inside);
+      run_short = omega (arith, n);
+      run_len = d.auto.audio ∙ now.run_fit;
+      held_all = drain_held _ _ _ _ _ _ p _ _ _ _ _ _ now more n _ _ _ d.ensures;
     }
 
 pub overflow_add-first : goal.overflow_add-first
 overflow_add-first c =
-    let a = c.args in
-    let l = c.loop-first in
-    let n = tail_inside a.format a.limiter a.n a.width (stores_at a.delay.now a.marks.now a.minima.now a.weights.now a.row.now a.detector.now) a.audio.now c.requires l.first c.tail_run-len.result l.l (stores_at l.delay l.marks l.minima a.weights.now l.row l.detector) l.audio l.run l.invariant.0 c.loop-first-test.true c.tail_run-len.ensures in
-    omega (arith, n.2, c.ranges.n)
+    omega (arith, c.tail_run-len.ensures, c.loop-first-test.true, c.ranges.n)
 
 pub loop-first-smaller : goal.loop-first-smaller
 loop-first-smaller c =
-    let a = c.args in
-    let l = c.loop-first in
-    let n = tail_inside a.format a.limiter a.n a.width (stores_at a.delay.now a.marks.now a.minima.now a.weights.now a.row.now a.detector.now) a.audio.now c.requires l.first c.tail_run-len.result l.l (stores_at l.delay l.marks l.minima a.weights.now l.row l.detector) l.audio l.run l.invariant.0 c.loop-first-test.true c.tail_run-len.ensures in
-    omega (arith, n.0, n.2)
+    omega (arith, c.tail_run-len.ensures, c.loop-first-test.true)
 
 pub loop-first-preserved : goal.loop-first-preserved
 loop-first-preserved c =
-    let a = c.args in
     let l = c.loop-first in
     let d = c.drain-l in
     let s = c.scatter in (
-      drained_more a.format a.limiter a.n a.width (stores_at a.delay.now a.marks.now a.minima.now a.weights.now a.row.now a.detector.now) a.audio.now c.requires l.first c.tail_run-len.result l.l (stores_at l.delay l.marks l.minima a.weights.now l.row l.detector) l.audio l.run l.invariant.0 c.loop-first-test.true c.tail_run-len.ensures
-          d.result (stores_at d.new.delay d.new.marks d.new.minima a.weights.now d.new.row d.new.detector) d.new.audio s.new.bytes d.ensures d.auto.audio s.ensures,
+      drained_more _ _ _ _ _ _ c.requires _ _ _ _ _ _ l.invariant.0 c.loop-first-test.true c.tail_run-len.ensures
+          _ (stores_at d.new.delay d.new.marks d.new.minima c.args.weights.now d.new.row d.new.detector) _ _ d.ensures d.auto.audio s.ensures,
       ◌∙◌ {b = length l.audio} s.auto.bytes l.invariant.1,
       ◌∙◌ {b = length l.delay} d.auto.delay l.invariant.2,
       ◌∙◌ {b = length l.marks} d.auto.marks l.invariant.3,
@@ -102,9 +90,9 @@ shape_of-detector c = c.loop-first.invariant.6
 
 pub returns : goal.returns
 returns c =
-    let a = c.args in
-    let l = c.loop-first in record {
-      value = drained_limiter a.format a.limiter a.n a.width (stores_at a.delay.now a.marks.now a.minima.now a.weights.now a.row.now a.detector.now) a.audio.now l.first l.l (stores_at l.delay l.marks l.minima a.weights.now l.row l.detector) l.audio l.run l.invariant.0 c.loop-first-test.false;
-      stores_after = drained_stores a.format a.limiter a.n a.width (stores_at a.delay.now a.marks.now a.minima.now a.weights.now a.row.now a.detector.now) a.audio.now l.first l.l (stores_at l.delay l.marks l.minima a.weights.now l.row l.detector) l.audio l.run l.invariant.0 c.loop-first-test.false;
-      audio_after = drained_audio a.format a.limiter a.n a.width (stores_at a.delay.now a.marks.now a.minima.now a.weights.now a.row.now a.detector.now) a.audio.now l.first l.l (stores_at l.delay l.marks l.minima a.weights.now l.row l.detector) l.audio l.run l.invariant.0 c.loop-first-test.false;
+    let last = c.loop-first.invariant.0 in
+    let done = c.loop-first-test.false in record {
+      value = drained_limiter _ _ _ _ _ _ _ _ _ _ _ last done;
+      stores_after = drained_stores _ _ _ _ _ _ _ _ _ _ _ last done;
+      audio_after = drained_audio _ _ _ _ _ _ _ _ _ _ _ last done;
     }

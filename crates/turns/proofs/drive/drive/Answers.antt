@@ -1,10 +1,22 @@
 -- `drive`: no event and a still bank, or turn by turn.
-use Rattle.limiter.specs.Stores.{stores_at}
-use Rattle.frame.specs.Place.{place_in}
-use Rattle.turns.specs.Machine.{Machine, machine_of}
+use mathlib.Core.Path.{◌≡◌}
+use mathlib.Core.Bool.{Bool, true, ◌&&◌}
+use lib.Ieee.{Float}
+use Rattle.arithmetic.proofs.Order.{and-true}
+use Rattle.settings.specs.Target.{target_of}
+use Rattle.limiter.specs.declared.state.Limiter.{Limiter}
+use Rattle.bank.specs.Smoother.{stepped}
+use Rattle.bank.specs.Bank.{all_changed}
+use Rattle.bank.specs.declared.smoother_bank.SmootherBank.{SmootherBank}
+use Rattle.turns.specs.Machine.{threshold_of}
 use Rattle.turns.specs.Inner.{AtRest}
-use Rattle.turns.proofs.Still.{still_told, same_machine, same_bytes, same_place}
+use Rattle.turns.proofs.Still.{same_machine, same_bytes, same_place}
 use Rattle.turns.proofs.drive.drive.Goals as goal
+
+-- a bank that is found still rests at its target
+at_rest : (l : Limiter) (target : Float) (b : SmootherBank) → target ≡ target_of (threshold_of b).cur l.settings.true_peak_margin_db → (few still : Bool) → (still ≡ true → all_changed stepped b ≡ b)
+    → few && still ≡ true → AtRest l target b
+at_rest l target b T few still S h = record { target_is = T; still = S (and-true few still h).1 }
 
 pub is_still-requires : goal.is_still-requires
 is_still-requires c = tt
@@ -14,13 +26,10 @@ target_now-requires c = tt
 
 pub drive_still-moved-requires : goal.drive_still-moved-requires
 drive_still-moved-requires c =
-    let machine : Machine =
-    let a = c.args in
-    machine_of a.limiter a.bank (stores_at a.delay.now a.marks.now a.minima.now a.weights.now a.row.now a.detector.now) in
     let a = c.args in
     record {
       bank = a.bank;
-      rest = record { target_is = c.target_now.ensures; still = c.is_still.ensures (still_told a.format machine a.position a.frames a.events.now a.audio.now c.is_still.result c.if-events-is_still.true) };
+      rest = at_rest a.limiter _ a.bank c.target_now.ensures _ _ c.is_still.ensures c.if-events-is_still.true;
       asked = c.requires;
     }
 
@@ -44,17 +53,13 @@ shape_of-detector-then-events-is_still c = c.drive_still-moved.auto.detector
 
 pub returns-then-events-is_still : goal.returns-then-events-is_still
 returns-then-events-is_still c =
-    let machine : Machine =
     let a = c.args in
-    machine_of a.limiter a.bank (stores_at a.delay.now a.marks.now a.minima.now a.weights.now a.row.now a.detector.now) in
-    let a = c.args in
-    let i = c.is_still in
-    let t = c.target_now in
-    let r = c.drive_still-moved in
-    let z : AtRest a.limiter t.result a.bank = record { target_is = t.ensures; still = i.ensures (still_told a.format machine a.position a.frames a.events.now a.audio.now i.result c.if-events-is_still.true) } in record {
-      machine_after = same_machine a.format machine a.position a.frames a.events.now a.audio.now i.result c.if-events-is_still.true (machine_of r.result.limiter a.bank (stores_at r.new.delay r.new.marks r.new.minima a.weights.now r.new.row r.new.detector)) (r.ensures.machine_after a.bank z);
-      audio_after = same_bytes a.format machine a.position a.frames a.events.now a.audio.now i.result c.if-events-is_still.true r.new.audio (r.ensures.audio_after a.bank z);
-      seat_value = same_place a.format machine a.position a.frames a.events.now a.audio.now i.result c.if-events-is_still.true a.asked (place_in r.result.highest) (r.ensures.highest_value a.bank z);
+    let z = at_rest a.limiter c.target_now.result a.bank c.target_now.ensures _ _ c.is_still.ensures c.if-events-is_still.true in
+    let r = c.drive_still-moved.ensures in
+    record {
+      machine_after = same_machine _ _ _ _ _ _ _ c.if-events-is_still.true _ (r.machine_after a.bank z);
+      audio_after = same_bytes _ _ _ _ _ _ _ c.if-events-is_still.true _ (r.audio_after a.bank z);
+      seat_value = same_place _ _ _ _ _ _ _ c.if-events-is_still.true _ _ (r.highest_value a.bank z);
     }
 
 pub drive_turns-requires : goal.drive_turns-requires

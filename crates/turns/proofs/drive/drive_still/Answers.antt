@@ -2,8 +2,8 @@
 use mathlib.Core.Path.{refl, ◌∙◌}
 use native.Mathlib.Omega.{arith}
 use lib.ListN.{length}
-use Rattle.limiter.specs.Stores.{Stores, stores_at}
-use Rattle.turns.proofs.Still.{going_start, going_inside, going_asks, going_more, gone_machine, gone_place, gone_audio}
+use Rattle.limiter.specs.Stores.{stores_at}
+use Rattle.turns.proofs.Still.{going_start, going_asks, going_more, gone_machine, gone_place, gone_audio}
 use Rattle.turns.proofs.drive.drive_still.Goals as goal
 
 pub run_room-run-requires : goal.run_room-run-requires
@@ -14,11 +14,7 @@ start_of-requires c = tt
 
 pub loop-first-init : goal.loop-first-init
 loop-first-init c =
-    let stores : Stores =
-    let a = c.args in
-    stores_at a.delay.now a.marks.now a.minima.now a.weights.now a.row.now a.detector.now in
-    let a = c.args in
-    (going_start a.format a.position a.frames a.audio.now a.limiter stores a.target a.asked c.requires c.run_room-run.result c.run_room-run.ensures c.start_of.result c.start_of.ensures, refl, refl, refl, refl, refl, refl)
+    (going_start _ _ _ _ _ _ _ _ c.requires _ c.run_room-run.ensures _ c.start_of.ensures, refl, refl, refl, refl, refl, refl)
 
 pub overflow_add-position : goal.overflow_add-position
 overflow_add-position c = omega (arith, c.requires.asked.far, c.loop-first-test.true)
@@ -36,47 +32,23 @@ slice_bounds-render_frames-end c =
 
 pub render_frames-moved-requires : goal.render_frames-moved-requires
 render_frames-moved-requires c =
-    let stores : Stores =
-    let a = c.args in
-    stores_at a.delay.now a.marks.now a.minima.now a.weights.now a.row.now a.detector.now in
-    let a = c.args in
     let l = c.loop-first in
-    let n = c.run_length-n in
-    going_asks a.format a.position a.frames a.audio.now a.limiter stores a.target a.asked c.requires l.first l.moved.highest l.moved.limiter (stores_at l.delay l.marks l.minima a.weights.now l.row l.detector) l.audio l.run l.invariant.0 c.loop-first-test.true n.result n.ensures
+    going_asks _ _ _ _ _ _ _ _ c.requires _ _ _ _ _ _ l.invariant.0 c.loop-first-test.true _ c.run_length-n.ensures
 
 pub overflow_add-first : goal.overflow_add-first
 overflow_add-first c =
-    let stores : Stores =
-    let a = c.args in
-    stores_at a.delay.now a.marks.now a.minima.now a.weights.now a.row.now a.detector.now in
-    let a = c.args in
-    let l = c.loop-first in
-    let n = c.run_length-n in
-    let i = going_inside a.format a.position a.frames a.audio.now a.limiter stores a.target a.asked c.requires l.first l.moved.highest l.moved.limiter (stores_at l.delay l.marks l.minima a.weights.now l.row l.detector) l.audio l.run l.invariant.0 c.loop-first-test.true n.result n.ensures in
-    omega (arith, i.2, c.ranges.frames)
+    omega (arith, c.run_length-n.ensures, c.loop-first-test.true, c.ranges.frames)
 
 pub loop-first-smaller : goal.loop-first-smaller
 loop-first-smaller c =
-    let stores : Stores =
-    let a = c.args in
-    stores_at a.delay.now a.marks.now a.minima.now a.weights.now a.row.now a.detector.now in
-    let a = c.args in
-    let l = c.loop-first in
-    let n = c.run_length-n in
-    let i = going_inside a.format a.position a.frames a.audio.now a.limiter stores a.target a.asked c.requires l.first l.moved.highest l.moved.limiter (stores_at l.delay l.marks l.minima a.weights.now l.row l.detector) l.audio l.run l.invariant.0 c.loop-first-test.true n.result n.ensures in
-    omega (arith, i.0, i.2)
+    omega (arith, c.run_length-n.ensures, c.loop-first-test.true)
 
 pub loop-first-preserved : goal.loop-first-preserved
 loop-first-preserved c =
-    let stores : Stores =
-    let a = c.args in
-    stores_at a.delay.now a.marks.now a.minima.now a.weights.now a.row.now a.detector.now in
-    let a = c.args in
     let l = c.loop-first in
-    let n = c.run_length-n in
     let r = c.render_frames-moved in (
-      going_more a.format a.position a.frames a.audio.now a.limiter stores a.target a.asked c.requires l.first l.moved.highest l.moved.limiter (stores_at l.delay l.marks l.minima a.weights.now l.row l.detector) l.audio l.run l.invariant.0 c.loop-first-test.true n.result n.ensures
-          r.result.limiter (stores_at r.new.delay r.new.marks r.new.minima a.weights.now r.new.row r.new.detector) r.new.audio r.new.run r.result.highest r.ensures r.auto.run,
+      going_more _ _ _ _ _ _ _ _ c.requires _ _ _ _ _ _ l.invariant.0 c.loop-first-test.true _ c.run_length-n.ensures
+          _ (stores_at r.new.delay r.new.marks r.new.minima c.args.weights.now r.new.row r.new.detector) _ _ _ r.ensures r.auto.run,
       ◌∙◌ {b = length l.audio} r.auto.audio l.invariant.1,
       ◌∙◌ {b = length l.delay} r.auto.delay l.invariant.2,
       ◌∙◌ {b = length l.marks} r.auto.marks l.invariant.3,
@@ -105,12 +77,9 @@ shape_of-detector c = c.loop-first.invariant.6
 
 pub returns : goal.returns
 returns c =
-    let stores : Stores =
-    let a = c.args in
-    stores_at a.delay.now a.marks.now a.minima.now a.weights.now a.row.now a.detector.now in
-    let a = c.args in
-    let l = c.loop-first in record {
-      machine_after = gone_machine a.format a.position a.frames a.audio.now a.limiter stores a.target a.asked l.first l.moved.highest l.moved.limiter (stores_at l.delay l.marks l.minima a.weights.now l.row l.detector) l.audio l.run l.invariant.0 c.loop-first-test.false;
-      audio_after = gone_audio a.format a.position a.frames a.audio.now a.limiter stores a.target a.asked l.first l.moved.highest l.moved.limiter (stores_at l.delay l.marks l.minima a.weights.now l.row l.detector) l.audio l.run l.invariant.0 c.loop-first-test.false;
-      highest_value = gone_place a.format a.position a.frames a.audio.now a.limiter stores a.target a.asked l.first l.moved.highest l.moved.limiter (stores_at l.delay l.marks l.minima a.weights.now l.row l.detector) l.audio l.run l.invariant.0 c.loop-first-test.false;
+    let last = c.loop-first.invariant.0 in
+    let done = c.loop-first-test.false in record {
+      machine_after = gone_machine _ _ _ _ _ _ _ _ _ _ _ _ _ _ last done;
+      audio_after = gone_audio _ _ _ _ _ _ _ _ _ _ _ _ _ _ last done;
+      highest_value = gone_place _ _ _ _ _ _ _ _ _ _ _ _ _ _ last done;
     }

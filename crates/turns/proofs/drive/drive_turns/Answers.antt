@@ -5,7 +5,7 @@ use Prim.Native.Nat.{◌/◌}
 use native.Mathlib.Omega.{arith}
 use lib.ListN.{length}
 use Rattle.limiter.specs.Stores.{stores_at}
-use Rattle.turns.specs.Machine.{Machine, machine_of}
+use Rattle.turns.specs.Machine.{machine_of}
 use Rattle.turns.proofs.Latching.{rest_end}
 use Rattle.turns.proofs.Driving.{driving_start, driving_asks, driving_more, driving_less, driven_machine, driven_place, driven_audio}
 use Rattle.turns.proofs.drive.drive_turns.Goals as goal
@@ -18,45 +18,28 @@ start_of-highest-requires c = tt
 
 pub loop-block-init : goal.loop-block-init
 loop-block-init c =
-    let machine : Machine =
     let a = c.args in
-    machine_of a.limiter a.bank (stores_at a.delay.now a.marks.now a.minima.now a.weights.now a.row.now a.detector.now) in
-    let a = c.args in
-    (driving_start a.format a.position a.frames a.events.now a.audio.now machine a.asked c.run_room-run.result c.run_room-run.ensures c.requires _ (ap (λ (h : Highest). record { position = a.position; frames = a.frames; rendered = 0; latched = 0; highest = h }) c.start_of-highest.ensures), refl, refl, refl, refl, refl, refl)
+    (driving_start _ _ _ _ _ _ _ _ c.run_room-run.ensures c.requires _ (ap (λ (h : Highest). record { position = a.position; frames = a.frames; rendered = 0; latched = 0; highest = h }) c.start_of-highest.ensures), refl, refl, refl, refl, refl, refl)
 
 pub slice_bounds-turn-end : goal.slice_bounds-turn-end
 slice_bounds-turn-end c = omega arith
 
 pub turn-t-requires : goal.turn-t-requires
 turn-t-requires c =
-    let machine : Machine =
-    let a = c.args in
-    machine_of a.limiter a.bank (stores_at a.delay.now a.marks.now a.minima.now a.weights.now a.row.now a.detector.now) in
-    let a = c.args in
-    let l = c.loop-block in
-    driving_asks a.format a.position a.frames a.events.now a.audio.now machine a.asked c.requires l.block (machine_of l.l l.b (stores_at l.delay l.marks l.minima a.weights.now l.row l.detector)) l.audio l.run l.invariant.0 c.loop-block-test.true
+    driving_asks _ _ _ _ _ _ _ c.requires _ _ _ _ c.loop-block.invariant.0 c.loop-block-test.true
 
 pub loop-block-smaller : goal.loop-block-smaller
 loop-block-smaller c =
-    let machine : Machine =
-    let a = c.args in
-    machine_of a.limiter a.bank (stores_at a.delay.now a.marks.now a.minima.now a.weights.now a.row.now a.detector.now) in
-    let a = c.args in
-    let l = c.loop-block in
     let t = c.turn-t in
-    driving_less a.format a.position a.frames a.events.now a.audio.now machine a.asked c.requires l.block (machine_of l.l l.b (stores_at l.delay l.marks l.minima a.weights.now l.row l.detector)) l.audio l.run l.invariant.0 c.loop-block-test.true
-    (machine_of t.result.limiter t.result.bank (stores_at t.new.delay t.new.marks t.new.minima a.weights.now t.new.row t.new.detector)) t.result.block t.new.audio t.new.run t.ensures t.auto.run
+    driving_less _ _ _ _ _ _ _ c.requires _ _ _ _ c.loop-block.invariant.0 c.loop-block-test.true
+    (machine_of t.result.limiter t.result.bank (stores_at t.new.delay t.new.marks t.new.minima c.args.weights.now t.new.row t.new.detector)) _ _ _ t.ensures t.auto.run
 
 pub loop-block-preserved : goal.loop-block-preserved
 loop-block-preserved c =
-    let machine : Machine =
-    let a = c.args in
-    machine_of a.limiter a.bank (stores_at a.delay.now a.marks.now a.minima.now a.weights.now a.row.now a.detector.now) in
-    let a = c.args in
     let l = c.loop-block in
     let t = c.turn-t in (
-      driving_more a.format a.position a.frames a.events.now a.audio.now machine a.asked c.requires l.block (machine_of l.l l.b (stores_at l.delay l.marks l.minima a.weights.now l.row l.detector)) l.audio l.run l.invariant.0 c.loop-block-test.true
-          (machine_of t.result.limiter t.result.bank (stores_at t.new.delay t.new.marks t.new.minima a.weights.now t.new.row t.new.detector)) t.result.block t.new.audio t.new.run t.ensures t.auto.run,
+      driving_more _ _ _ _ _ _ _ c.requires _ _ _ _ l.invariant.0 c.loop-block-test.true
+          (machine_of t.result.limiter t.result.bank (stores_at t.new.delay t.new.marks t.new.minima c.args.weights.now t.new.row t.new.detector)) _ _ _ t.ensures t.auto.run,
       ◌∙◌ {b = length l.audio} t.auto.audio l.invariant.1,
       ◌∙◌ {b = length l.delay} t.auto.delay l.invariant.2,
       ◌∙◌ {b = length l.marks} t.auto.marks l.invariant.3,
@@ -85,15 +68,13 @@ shape_of-detector-then-events-block c = c.loop-block.invariant.6
 
 pub returns-then-events-block : goal.returns-then-events-block
 returns-then-events-block c =
-    let machine : Machine =
-    let a = c.args in
-    machine_of a.limiter a.bank (stores_at a.delay.now a.marks.now a.minima.now a.weights.now a.row.now a.detector.now) in
-    let a = c.args in
+    let events = c.args.events.now in
     let l = c.loop-block in
-    let m = (machine_of l.l l.b (stores_at l.delay l.marks l.minima a.weights.now l.row l.detector)) in record {
-      machine_after = driven_machine a.format a.position a.frames a.events.now a.audio.now machine a.asked l.block m l.audio l.run l.invariant.0 c.loop-block-test.false l.b (rest_end a.events.now (length a.events.now / 3) l.block.latched l.b c.if-events-block.true);
-      audio_after = driven_audio a.format a.position a.frames a.events.now a.audio.now machine a.asked l.block m l.audio l.run l.invariant.0 c.loop-block-test.false l.b (rest_end a.events.now (length a.events.now / 3) l.block.latched l.b c.if-events-block.true);
-      seat_value = driven_place a.format a.position a.frames a.events.now a.audio.now machine a.asked l.block m l.audio l.run l.invariant.0 c.loop-block-test.false l.b (rest_end a.events.now (length a.events.now / 3) l.block.latched l.b c.if-events-block.true);
+    let none = rest_end events (length events / 3) l.block.latched l.b c.if-events-block.true in
+    record {
+      machine_after = driven_machine _ _ _ _ _ _ _ _ _ _ _ l.invariant.0 c.loop-block-test.false _ none;
+      audio_after = driven_audio _ _ _ _ _ _ _ _ _ _ _ l.invariant.0 c.loop-block-test.false _ none;
+      seat_value = driven_place _ _ _ _ _ _ _ _ _ _ _ l.invariant.0 c.loop-block-test.false _ none;
     }
 
 pub latch_rest-requires : goal.latch_rest-requires
@@ -119,13 +100,10 @@ shape_of-detector c = c.loop-block.invariant.6
 
 pub returns : goal.returns
 returns c =
-    let machine : Machine =
-    let a = c.args in
-    machine_of a.limiter a.bank (stores_at a.delay.now a.marks.now a.minima.now a.weights.now a.row.now a.detector.now) in
-    let a = c.args in
-    let l = c.loop-block in
-    let m = (machine_of l.l l.b (stores_at l.delay l.marks l.minima a.weights.now l.row l.detector)) in record {
-      machine_after = driven_machine a.format a.position a.frames a.events.now a.audio.now machine a.asked l.block m l.audio l.run l.invariant.0 c.loop-block-test.false c.latch_rest.result c.latch_rest.ensures;
-      audio_after = driven_audio a.format a.position a.frames a.events.now a.audio.now machine a.asked l.block m l.audio l.run l.invariant.0 c.loop-block-test.false c.latch_rest.result c.latch_rest.ensures;
-      seat_value = driven_place a.format a.position a.frames a.events.now a.audio.now machine a.asked l.block m l.audio l.run l.invariant.0 c.loop-block-test.false c.latch_rest.result c.latch_rest.ensures;
+    let last = c.loop-block.invariant.0 in
+    let done = c.loop-block-test.false in
+    record {
+      machine_after = driven_machine _ _ _ _ _ _ _ _ _ _ _ last done _ c.latch_rest.ensures;
+      audio_after = driven_audio _ _ _ _ _ _ _ _ _ _ _ last done _ c.latch_rest.ensures;
+      seat_value = driven_place _ _ _ _ _ _ _ _ _ _ _ last done _ c.latch_rest.ensures;
     }

@@ -8,10 +8,9 @@ use Rattle.turns.proofs.turn.render_frames.Goals as goal
 
 pub gather-requires : goal.gather-requires
 gather-requires c =
-    let a = c.args in
     let p = c.requires in
     record {
-      channels_bound = (bounds_of a.limiter p.ready.set_up).most;
+      channels_bound = (bounds_of _ p.ready.set_up).most;
       width_bound = p.lends.short;
       audio_size = sym p.lends.audio_fit;
       run_inside = p.inside;
@@ -21,33 +20,28 @@ gather-requires c =
 
 pub render-after-requires : goal.render-after-requires
 render-after-requires c =
-    let a = c.args in
     let p = c.requires in
     let g = c.gather in
-    let stores = stores_at a.delay.now a.marks.now a.minima.now a.weights.now a.row.now a.detector.now in record {
-      kernel_ready = kernel_asks a.limiter a.n stores g.new.run p.ready p.some p.short (g.auto.run ∙ p.run_fit);
-      sanitized = run_clean a.limiter a.format a.target a.width a.first a.n stores a.audio.now a.run.now g.new.run p g.ensures;
+    record {
+      kernel_ready = kernel_asks _ _ _ _ p.ready p.some p.short (g.auto.run ∙ p.run_fit);
+      sanitized = run_clean _ _ _ _ _ _ _ _ _ _ p g.ensures;
       first_bound = omega (arith, p.inside, p.lends.short);
     }
 
 pub scatter-requires : goal.scatter-requires
 scatter-requires c =
-    let a = c.args in
     let p = c.requires in
-    let g = c.gather in
     let r = c.render-after in
-    let stores = stores_at a.delay.now a.marks.now a.minima.now a.weights.now a.row.now a.detector.now in
-    let fit = g.auto.run ∙ p.run_fit in
-    let k = kernel_asks a.limiter a.n stores g.new.run p.ready p.some p.short fit in
-    let held = render_held a.limiter a.format a.target a.n stores g.new.run k r.result.limiter _ r.new.audio r.ensures.run_done in
+    let fit = c.gather.auto.run ∙ p.run_fit in
     record {
-      channels_bound = (bounds_of a.limiter p.ready.set_up).most;
+      channels_bound = (bounds_of _ p.ready.set_up).most;
       width_bound = p.lends.short;
       audio_size = sym p.lends.audio_fit;
       run_inside = omega (arith, p.inside);
       run_short = omega (arith, p.short);
       run_len = r.auto.audio ∙ fit;
-      held_all = held;
+      held_all = render_held _ _ _ _ _ _ (kernel_asks _ _ _ _ p.ready p.some p.short fit) _
+          (stores_at r.new.delay r.new.marks r.new.minima c.args.weights.now r.new.row r.new.detector) _ r.ensures.run_done;
     }
 
 pub shape_of-audio : goal.shape_of-audio
@@ -73,9 +67,7 @@ shape_of-detector c = c.render-after.auto.detector
 
 pub returns : goal.returns
 returns c =
-    let a = c.args in
     let g = c.gather in
     let r = c.render-after in
-    let s = c.scatter in
-    run_given a.limiter a.format a.target a.width a.first a.n (stores_at a.delay.now a.marks.now a.minima.now a.weights.now a.row.now a.detector.now) a.audio.now a.run.now g.new.run r.new.audio s.new.bytes r.result.limiter
-    (stores_at r.new.delay r.new.marks r.new.minima a.weights.now r.new.row r.new.detector) a.best r.result.highest c.requires g.auto.run g.ensures r.ensures.run_done r.ensures.highest_value s.ensures
+    run_given _ _ _ _ _ _ _ _ _ _ _ _ _ (stores_at r.new.delay r.new.marks r.new.minima c.args.weights.now r.new.row r.new.detector) _ _
+    c.requires g.auto.run g.ensures r.ensures.run_done r.ensures.highest_value c.scatter.ensures

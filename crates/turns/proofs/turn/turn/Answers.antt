@@ -1,8 +1,8 @@
 -- `turn`: the run's length, what latches before it, its target, and its frames.
 use native.Mathlib.Omega.{arith}
 use Rattle.limiter.specs.Stores.{stores_at}
-use Rattle.turns.specs.Machine.{Machine, machine_of, threshold_of}
-use Rattle.turns.proofs.Turning.{turn_inside, turn_asks, turn_given}
+use Rattle.turns.specs.Machine.{threshold_of}
+use Rattle.turns.proofs.Turning.{turn_asks, turn_given}
 use Rattle.turns.proofs.turn.turn.Goals as goal
 
 pub overflow_add-at : goal.overflow_add-at
@@ -22,22 +22,11 @@ target_now-requires c = tt
 
 pub render_frames-after-requires : goal.render_frames-after-requires
 render_frames-after-requires c =
-    let machine : Machine =
-    let a = c.args in
-    machine_of a.limiter a.bank (stores_at a.delay.now a.marks.now a.minima.now a.weights.now a.row.now a.detector.now) in
-    let a = c.args in
-    let n = c.run_length-n in
-    let t = c.target_now in
-    turn_asks machine a.block a.format a.events.now a.audio.now a.run.now c.requires n.result n.ensures t.result (threshold_of c.before_run-before.result.bank).cur a.limiter.settings.true_peak_margin_db t.ensures
+    turn_asks _ _ _ _ _ _ c.requires _ c.run_length-n.ensures _ (threshold_of c.before_run-before.result.bank).cur c.args.limiter.settings.true_peak_margin_db c.target_now.ensures
 
 pub overflow_add-result : goal.overflow_add-result
 overflow_add-result c =
-    let machine : Machine =
-    let a = c.args in
-    machine_of a.limiter a.bank (stores_at a.delay.now a.marks.now a.minima.now a.weights.now a.row.now a.detector.now) in
-    let a = c.args in
-    let n = c.run_length-n in
-    omega (arith, (turn_inside machine a.block a.format a.events.now a.audio.now a.run.now c.requires n.result n.ensures).2, c.requires.lends.short)
+    omega (arith, c.run_length-n.ensures, c.requires.more, c.requires.lends.short)
 
 pub shape_of-audio : goal.shape_of-audio
 shape_of-audio c = c.render_frames-after.auto.audio
@@ -62,13 +51,7 @@ shape_of-detector c = c.render_frames-after.auto.detector
 
 pub returns : goal.returns
 returns c =
-    let machine : Machine =
-    let a = c.args in
-    machine_of a.limiter a.bank (stores_at a.delay.now a.marks.now a.minima.now a.weights.now a.row.now a.detector.now) in
-    let a = c.args in
-    let n = c.run_length-n in
     let b = c.before_run-before in
-    let t = c.target_now in
     let r = c.render_frames-after in
-    turn_given machine a.block a.format a.events.now a.audio.now a.run.now c.requires n.result n.ensures b.result b.ensures.events_value b.ensures.cursor_in_bounds t.result t.ensures r.result.limiter
-    (stores_at r.new.delay r.new.marks r.new.minima a.weights.now r.new.row r.new.detector) r.new.audio r.new.run r.result.highest r.ensures
+    turn_given _ _ _ _ _ _ c.requires _ c.run_length-n.ensures b.result b.ensures.events_value b.ensures.cursor_in_bounds _ c.target_now.ensures _
+    (stores_at r.new.delay r.new.marks r.new.minima c.args.weights.now r.new.row r.new.detector) _ _ _ r.ensures

@@ -2,11 +2,10 @@
 use mathlib.Core.Path.{sym, ap, ◌∙◌}
 use lib.Dec.{eqb}
 use Rattle.limiter.specs.Stores.{stores_at}
-use Rattle.turns.specs.Machine.{Machine, machine_of}
+use Rattle.turns.specs.Machine.{machine_of}
 use Rattle.turns.specs.Events.{events_of}
 use Rattle.arithmetic.specs.Reply.{Reply}
 use Rattle.turns.specs.Block.{placed, place_reply}
-use Rattle.driver.specs.Answers.{machine_at, answer_reply, block_answer_reply}
 use Rattle.driver.proofs.Refusing.{block_asks, block_left, block_finished}
 use Rattle.driver.proofs.state.KernelProcessor.process.Goals as goal
 
@@ -27,36 +26,21 @@ refused-requires c = tt
 
 pub returns-then-not-is_finished : goal.returns-then-not-is_finished
 returns-then-not-is_finished c =
-    let machine : Machine =
     let a = c.args in
-    machine_at a.self (stores_at a.delay.now a.marks.now a.minima.now a.weights.now a.row.now a.detector.now) in
-    let a = c.args in
-    let z = c.size_of-size in
-    let j = c.judge_block-answer in
-    let f = c.is_finished in
     let told = c.refused in
-    block_left a.format machine a.position a.frames (events_of a.events.now) a.audio.now z.result z.ensures (block_answer_reply told.result) (told.ensures ∙ j.ensures a.self.bank (sym c.shown.ensures)) f.result (f.ensures ∙ ap (λ (x : Reply). eqb x.number 0) (sym told.ensures)) c.if-not-is_finished.true
+    block_left a.format _ a.position a.frames (events_of a.events.now) a.audio.now _ c.size_of-size.ensures _ (told.ensures ∙ c.judge_block-answer.ensures a.self.bank (sym c.shown.ensures))
+    _ (c.is_finished.ensures ∙ ap (λ (x : Reply). eqb x.number 0) (sym told.ensures)) c.if-not-is_finished.true
 
 pub drive-left-requires : goal.drive-left-requires
 drive-left-requires c =
-    let machine : Machine =
     let a = c.args in
-    machine_at a.self (stores_at a.delay.now a.marks.now a.minima.now a.weights.now a.row.now a.detector.now) in
-    let a = c.args in
-    let z = c.size_of-size in
-    let j = c.judge_block-answer in
-    let f = c.is_finished in
-    block_asks a.format machine a.position a.frames (events_of a.events.now) a.audio.now z.result z.ensures (answer_reply j.result) (j.ensures a.self.bank (sym c.shown.ensures)) f.result f.ensures c.if-not-is_finished.false
+    block_asks a.format _ a.position a.frames (events_of a.events.now) a.audio.now _ c.size_of-size.ensures _ (c.judge_block-answer.ensures a.self.bank (sym c.shown.ensures))
+    _ c.is_finished.ensures c.if-not-is_finished.false
 
 pub returns : goal.returns
 returns c =
-    let machine : Machine =
     let a = c.args in
-    machine_at a.self (stores_at a.delay.now a.marks.now a.minima.now a.weights.now a.row.now a.detector.now) in
-    let a = c.args in
-    let z = c.size_of-size in
-    let j = c.judge_block-answer in
-    let f = c.is_finished in
     let d = c.drive-left in
-    block_finished a.format machine a.position a.frames (events_of a.events.now) a.audio.now z.result z.ensures (answer_reply j.result) (j.ensures a.self.bank (sym c.shown.ensures)) f.result f.ensures
-    (placed d.result.frame d.result.seat) (machine_of d.result.limiter d.result.bank (stores_at d.new.delay d.new.marks d.new.minima a.weights.now d.new.row d.new.detector)) d.new.audio c.if-not-is_finished.false (ap place_reply d.ensures.seat_value) d.ensures.machine_after d.ensures.audio_after
+    block_finished a.format _ a.position a.frames (events_of a.events.now) a.audio.now _ c.size_of-size.ensures _ (c.judge_block-answer.ensures a.self.bank (sym c.shown.ensures))
+    _ c.is_finished.ensures (placed d.result.frame d.result.seat)
+    (machine_of d.result.limiter d.result.bank (stores_at d.new.delay d.new.marks d.new.minima a.weights.now d.new.row d.new.detector)) d.new.audio c.if-not-is_finished.false (ap place_reply d.ensures.seat_value) d.ensures.machine_after d.ensures.audio_after
