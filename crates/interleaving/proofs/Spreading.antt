@@ -13,9 +13,11 @@ use Rattle.audio.specs.Inner.{put}
 use Rattle.audio.specs.declared.format.Format.{Format}
 use Rattle.audio.proofs.Carry.{places-end}
 use Rattle.audio.proofs.Numbers.{put_length}
+use Rattle.audio.proofs.Places.{sample_some}
 use Rattle.interleaving.specs.Inner.{piece, run, slid, Lengths, Spaced, Transposed, Spread}
 use Rattle.interleaving.proofs.Pieces.{part_length, times_more, ends_before, put_part, piece_in, piece_before, piece_after, piece_within}
-use Rattle.interleaving.proofs.Tiling.{table_fits}
+use Rattle.interleaving.proofs.Spacing.{no_further}
+use Rattle.interleaving.proofs.Tiling.{sample_few, table_fits}
 
 -- ---- pieces put together, in pieces
 module _ (size : ℕ) (l : List ℕ) (q n : ℕ) (new : List ℕ) (long : length new ≡ size * n) (room : size * q + size * n ≤ length l) where
@@ -43,6 +45,9 @@ slid_rows size z tiles from to bytes e = ap (λ (m : ℕ). put bytes (z * to) (t
 module _ (format : Format) (channels left : ℕ) (few : channels ≤ 8) (short : left < 64) where
   pub left_few : left * channels ≤ 512
   left_few = let m = mul-le-mul {n₁ = left} {m₁ = channels} {n₂ = 64} {m₂ = 8} (omega (arith, short)) few in omega (arith, m)
+
+  pub left_kept : (c k : ℕ) → c < channels → k < left → sample_bytes format * (c + k * channels) + sample_bytes format ≤ 4096
+  left_kept c k h g = omega (arith, ends_before (sample_bytes format) {p = c + k * channels} {q = 512} (omega (arith, places-end k left channels g, h, left_few)), table_fits format 512 (omega arith))
 
   pub left_aside : (c : ℕ) → c < channels → sample_bytes format * (c * left) + sample_bytes format * left ≤ 4096
   left_aside c h =
@@ -74,26 +79,56 @@ module _ (size channels whole left : ℕ) where
   in_all : (c : ℕ) → c < channels → size * (c * frames) + size * frames ≤ size * (channels * frames)
   in_all c h = omega (arith, mul-le-mul_left {m = c * frames + frames} {n = channels * frames} size (places-end c channels frames h), mul-add size (c * frames) frames)
 
--- what a channel has ends within the bytes
-pub channel_end : (format : Format) (channels tiles left bytes : ℕ) → Lengths format channels tiles left bytes → (c : ℕ) → c < channels → sample_bytes format * (c * (64 * tiles + left) + 64 * tiles + left) ≤ bytes
-channel_end format channels tiles left bytes lengths c h =
-    let all = 64 * tiles + left in
-    let m = mul-le-mul_left {m = c * all + 64 * tiles + left} {n = channels * all} (sample_bytes format) (omega (arith, places-end c channels all h)) in
-    omega (arith, m, lengths.exact)
+  -- no wrap, and what is read and stored lies in the bytes
+  pub record Spans (c bytes : ℕ) : Type 0 where
+    pub small : size ≤ 8
+    pub total : size * (c * frames) + (size * whole + size * left) ≤ bytes
+    pub place : c * frames ≤ size * (c * frames)
+    pub some : c * whole ≤ c * frames
+    pub bytes_some : size * (c * whole) ≤ size * (c * frames)
+    pub lefts : c * left ≤ c * frames
+    pub few : frames ≤ size * frames
+    pub parts : size * frames ≡ size * whole + size * left
+    pub places : size * (c * frames + whole) ≡ size * (c * frames) + size * whole
+    pub end : size * (c * frames + whole + left) ≤ bytes
+
+  spans_of : (c bytes : ℕ) → 1 ≤ size → size ≤ 8 → c < channels → bytes ≡ size * (channels * frames) → Spans c bytes
+  spans_of c bytes one most h e = record {
+    small = most;
+    total = omega (arith, in_all c h, mul-add size whole left, e);
+    place = no_further size one (c * frames);
+    some = sooner c;
+    bytes_some = mul-le-mul_left {m = c * whole} {n = c * frames} size (sooner c);
+    lefts = mul-le-mul_left c (omega arith);
+    few = no_further size one frames;
+    parts = mul-add size whole left;
+    places = mul-add size (c * frames) whole;
+    end = omega (arith, in_all c h, mul-add size whole left, mul-add size (c * frames) whole, mul-add size (c * frames + whole) left, e);
+  }
+
+-- by the bytes of a sample that the code has
+pub spans : (format : Format) (channels tiles left bytes : ℕ) → Lengths format channels tiles left bytes → (c z : ℕ) → c < channels → z ≡ sample_bytes format → Spans z channels (64 * tiles) left c bytes
+spans format channels tiles left bytes lengths c z h e =
+    subst (λ (x : ℕ). Spans x channels (64 * tiles) left c bytes) (sym e) (spans_of (sample_bytes format) channels (64 * tiles) left c bytes (sample_some format) (sample_few format) h lengths.exact)
 
 -- the whole frames of all channels, and the frames left, as the code has them
 pub record Sums (format : Format) (channels tiles left bytes z : ℕ) : Type 0 where
   pub sum : z * (channels * (64 * tiles)) + z * (left * channels) ≡ bytes
+  pub start : channels * (64 * tiles) ≤ z * (channels * (64 * tiles))
   pub room : z * (left * channels) ≤ 4096
+  pub few : left * channels ≤ 512
 
 pub sums : (format : Format) (channels tiles left bytes : ℕ) → Lengths format channels tiles left bytes → (z : ℕ) → z ≡ sample_bytes format → Sums format channels tiles left bytes z
 sums format channels tiles left bytes lengths z e =
     let size = sample_bytes format in
     let m : channels * (64 * tiles + left) ≡ channels * (64 * tiles) + left * channels = mul-add channels (64 * tiles) left ∙ ap (λ (x : ℕ). channels * (64 * tiles) + x) (mul_comm channels left) in
+    let few = left_few format channels left lengths.few lengths.short in
     subst (λ (x : ℕ). Sums format channels tiles left bytes x) (sym e)
     (record {
       sum = sym (lengths.exact ∙ ap (λ (x : ℕ). size * x) m ∙ mul-add size (channels * (64 * tiles)) (left * channels));
-      room = table_fits format (left * channels) (left_few format channels left lengths.few lengths.short);
+      start = no_further size (sample_some format) (channels * (64 * tiles));
+      room = table_fits format (left * channels) few;
+      few = few;
     })
 
 module _ (size channels whole left : ℕ) (before : List ℕ) where

@@ -1,11 +1,10 @@
 -- `close_channel`: the samples left aside, then the slide.
 use mathlib.Core.Path.{ap, ◌∙◌}
 use Prim.Native.Nat.{ℕ, ◌+◌, ◌*◌}
-use native.Mathlib.Nat.{mul-add}
 use native.Mathlib.Omega.{arith}
 use Rattle.audio.specs.Inner.{put}
 use Rattle.interleaving.specs.Inner.{run}
-use Rattle.interleaving.proofs.Spreading.{channel_end, slid_rows}
+use Rattle.interleaving.proofs.Spreading.{spans, slid_rows}
 use Rattle.interleaving.proofs.close.close_channel.Goals as goal
 
 pub overflow_mul-whole : goal.overflow_mul-whole
@@ -15,7 +14,7 @@ pub overflow_add-frames : goal.overflow_add-frames
 overflow_add-frames c = omega (arith, c.requires.lengths.bounded, c.requires.lengths.short)
 
 pub copy_bytes-requires-clause-from_inside : goal.copy_bytes-requires-clause-from_inside
-copy_bytes-requires-clause-from_inside c = rw (c.sample_bytes-s.ensures, ← mul-add) (channel_end _ _ _ _ _ c.requires.lengths _ c.requires.c_lt_channels)
+copy_bytes-requires-clause-from_inside c = omega (arith, spans _ _ _ _ _ c.requires.lengths _ _ c.requires.c_lt_channels c.sample_bytes-s.ensures)
 
 pub returns : goal.returns
 returns c =

@@ -1,11 +1,11 @@
 -- `spread_channel`: the slide, then the samples left.
-use mathlib.Core.Path.{subst, ◌∙◌}
+use mathlib.Core.Path.{refl, subst, ◌∙◌}
 use mathlib.Core.List.{List}
 use Prim.Native.Nat.{ℕ, ◌+◌, ◌*◌}
 use native.Mathlib.Omega.{arith}
 use Rattle.audio.specs.Format.{sample_bytes}
 use Rattle.interleaving.specs.Inner.{Spaced}
-use Rattle.interleaving.proofs.Spreading.{channel_end, slid_rows}
+use Rattle.interleaving.proofs.Spreading.{spans, slid_rows}
 use Rattle.interleaving.proofs.spread.spread_channel.Goals as goal
 
 pub overflow_mul-whole : goal.overflow_mul-whole
@@ -15,7 +15,7 @@ pub overflow_add-frames : goal.overflow_add-frames
 overflow_add-frames c = omega (arith, c.requires.lengths.bounded, c.requires.lengths.short)
 
 pub move_spaced-requires-clause-to_inside : goal.move_spaced-requires-clause-to_inside
-move_spaced-requires-clause-to_inside c = rw c.slide_up.auto.bytes (channel_end _ _ _ _ _ c.requires.lengths _ c.requires.c_lt_channels)
+move_spaced-requires-clause-to_inside c = rw c.slide_up.auto.bytes (spans _ _ _ _ _ c.requires.lengths _ _ c.requires.c_lt_channels refl).end
 
 pub returns : goal.returns
 returns c =
