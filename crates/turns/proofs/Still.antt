@@ -26,7 +26,7 @@ use Rattle.turns.specs.Events.{Event, events_from, events_of, latched, latched_a
 use Rattle.turns.specs.Block.{rendered_in, period, run_at, block_done, Outcome}
 use Rattle.turns.specs.Inner.{waiting_at, before_run, RunAsked, RunGiven, TurnAsked, TurnGiven, BlockAsked, AtRest, StillAsked, driven}
 use Rattle.turns.specs.declared.turn.Unfinished.{Unfinished}
-use Rattle.turns.proofs.Turning.{turn_inside, turn_asks, turn_given}
+use Rattle.turns.proofs.Turning.{turn_asks, turn_given}
 use Rattle.turns.proofs.Driving.{Driving, driving_start, driving_asks, driving_more, driven_machine, driven_place, driven_audio}
 
 -- ---- words too few for an event
@@ -37,9 +37,6 @@ none_in words h =
     rw e refl
 
 module _ (format : Format) (m : Machine) (position frames : ℕ) (words bytes : List ℕ) (still : Bool) (h : ltb (length words) 3 && still ≡ true) where
-  pub still_told : still ≡ true
-  still_told = (and-true (ltb (length words) 3) still h).1
-
   pub no_events : driven format m position frames [] bytes ≡ driven format m position frames words bytes
   no_events = ap (λ (es : List Event). block_done (rendered_in format m) format m position frames es bytes) (none_in words (ltb-true (length words) 3 (and-true (ltb (length words) 3) still h).0))
 
@@ -87,9 +84,6 @@ module _ (format : Format) (position frames : ℕ) (bytes₀ : List ℕ) (l₀ :
 
       target_of_lem : (b : SmootherBank) → AtRest l₀ target b → target ≡ target_of (threshold_of b).cur l.settings.true_peak_margin_db
       target_of_lem b r = r.target_is ∙ ap (λ (z : LimiterSettings). target_of (threshold_of b).cur z.true_peak_margin_db) (sym (d b r).settings_are)
-
-      pub going_inside : (1 ≤ n) × (n ≤ run_length) × (first + n ≤ frames)
-      going_inside = turn_inside (machine_of l a.bank s) (block first h) format [] bytes run (asks a.bank a.rest) n N
 
       pub going_asks : RunAsked l format target frames first n s bytes run
       going_asks =

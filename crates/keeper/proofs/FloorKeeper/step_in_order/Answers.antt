@@ -51,7 +51,7 @@ bounds-minima-head c =
 pub overflow_sub-result : goal.overflow_sub-result
 overflow_sub-result c =
     let f = c.drop_front-front.ensures in
-    (front_fits _ _ c.requires _ c.unit_gain-rg.ensures _ c.drop_back-back.ensures _ _ f.ring_left f.places.1).2
+    omega (arith, front_fits _ _ c.requires _ c.unit_gain-rg.ensures _ c.drop_back-back.ensures _ _ f.ring_left f.places.1, back_fits _ _ c.requires _ c.unit_gain-rg.ensures _ c.drop_back-back.ensures)
 
 pub overflow_add-result : goal.overflow_add-result
 overflow_add-result c =
