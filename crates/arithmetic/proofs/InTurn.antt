@@ -38,14 +38,6 @@ module _ (f : Float → Float) (l : List Float) (i : ℕ) where
   pub map_done : length l ≤ i → l ≡ take i l ++ map f (drop i l)
   map_done h = laid_done f l l i h h
 
--- what another list holds
-module _ (l line : List Float) (i : ℕ) where
-  pub lifted_more : (x : Float) → i < length l → i < length line → take (i + 1) (set l i (get_or line i nan)) ++ drop (i + 1) (set line i x) ≡ take i l ++ drop i line
-  lifted_more x h k = rw (kept line i k x, stored l i h (get_or line i nan) (drop (i + 1) line), split line i k) refl
-
-  pub lifted_done : length l ≤ i → length line ≤ i → l ≡ take i l ++ drop i line
-  lifted_done h k = rw (none_left line i k) (sym (all_stored l i h))
-
 -- a list laid in reverse before another, read from its end
 pub reversed_at : (l b : List Float) (i k : ℕ) (d : Float) → i + suc k ≡ length l → get_or (reverse_aux l b) k d ≡ get_or l i d
 reversed_at [] b i k d h = absurd (omega (arith, h))

@@ -68,6 +68,3 @@ module _ (f : Format) (n : ℕ) where
     pub finite_number : T (not (nan_bits f n))
     unfolding nan_bits
     finite_number = rw (ne_eqb (n % top f / hid f) (ones f) h) tt
-
-    pub finite_value : T (not (is_nan (of_bits f n)))
-    finite_value = subst (λ (b : Bool). T (not b)) (nan_bits_is f n) finite_number

@@ -1,6 +1,6 @@
 -- `round` and `ceil`: the whole part of a value above zero, and what lies past it.
 use Rattle.std.proofs.Common.{◌≡◌, ℕ, zero, suc, ◌+◌, ◌*◌, ◌/◌, ◌%◌, ◌^◌, ◌<◌, ◌≤◌, min, Bool, true, false, ◌&&◌, T, eqb, ltb, leb, ℤ, pos, negsuc, sym, refl, ap, ◌∙◌, subst, lt_trans, mul_assoc, div-lt_iff_lt-mul, add-mul, one-mul, pow-suc, le-div_iff_mul-le, zero-mul, mul-one, div-mul-le_self, div-one, mul_left_comm, arith, lit<, lt→ltb, pow_pos, shl_lt, ltb-false, ltb-true}
-use native.Mathlib.Nat.{lt-div-mul-add, div-eq_of_lt-le, div-eq_of_lt}
+use native.Mathlib.Nat.{zero-div, lt-div-mul-add, div-eq_of_lt-le, div-eq_of_lt}
 use lib.Pow.{pow-lt}
 use lib.Ieee.{Float, nan, inf, fin, binary64, up, down, lt, add, fits, of_int, to_unsigned}
 use lib.Ieee.Fits.{down_pos}
@@ -8,7 +8,7 @@ use lib.Ieee.Exact.{HasValue, round_exact}
 use lib.Ieee.Back.{round_whole}
 use Rattle.arithmetic.specs.Number
 use Rattle.arithmetic.specs.Number.{largest, whole_by, halves_up, upward}
-use Rattle.arithmetic.specs.Part.{Rule, Parted, all_whole}
+use Rattle.arithmetic.specs.Part.{all_whole, fractional}
 use Rattle.arithmetic.proofs.Order.{clash, and-true}
 use Rattle.arithmetic.proofs.Values.{lt_values, add_values}
 
@@ -43,23 +43,18 @@ zero-lt m e = lt_values Number.zero (fin false m e) 0 1 (m * up e) (down e) (lit
     ends : (d n : ℕ) → ltb (0 * d) (n * 1) ≡ ltb 0 n
     ends d n = rw (zero-mul d, mul-one n) refl
 
--- ---- what `truncating_f64_to_u64` asks
+-- ---- what `truncating_f64_to_u64` asks of what is not below zero
 pub cut_low : (x : Float) → lt Number.zero x ≡ true → T (lt (fin true 1 (pos 0)) x)
 unfolding lt
 cut_low = over_zero (λ x. T (lt (fin true 1 (pos 0)) x)) tt (λ m e. lt→ltb 0 (1 * down e + m * up e * 1) (omega (arith, down_pos e)))
 
-widened : (n d : ℕ) → n < 2 ^ 52 * d → n < 2 ^ 64 * d
-widened n d h = omega arith
-
-pub cut_high : (x : Float) → lt Number.zero x ≡ true → lt x all_whole ≡ true → T (lt x (fin false 1 (pos 64)))
-cut_high x p = over_zero (λ x. lt x all_whole ≡ true → T (lt x (fin false 1 (pos 64)))) (λ h. unfold lt in clash false h refl) high x p
-  where
-    high : (m : ℕ) (e : ℤ) → lt (fin false m e) all_whole ≡ true → T (lt (fin false m e) (fin false 1 (pos 64)))
-    high m e h =
-        subst T (sym (lt_power m e 64))
-        (lt→ltb (m * up e) (2 ^ 64 * down e) (widened (m * up e) (down e) (ltb-true (m * up e) (2 ^ 52 * down e) (sym (lt_power m e 52) ∙ h))))
-
 -- ---- the two rules for a whole number
+-- what a rule for a whole number has to do: keep a whole number, reach what it is asked to reach, and give nothing for nothing
+pub record Rule (rule : ℕ → ℕ → ℕ) : Type 0 where
+  pub whole : (n : ℕ) → rule n 1 ≡ n
+  pub reach : (n d k : ℕ) → 0 < d → k * d ≤ n → k ≤ rule n d
+  pub nothing : (d : ℕ) → 0 < d → rule 0 d ≡ 0
+
 pub rule_halves : Rule halves_up
 rule_halves = record {
   whole = λ n. omega arith;
@@ -98,25 +93,17 @@ no_fraction m (pos k) f h = refl
 no_fraction m (negsuc k) f h = absurd (omega (arith, pow-suc 2 k, pow_pos k))
 
 module _ (rule : ℕ → ℕ → ℕ) (r : Rule rule) where
-  pub whole_none : (x : Float) → lt Number.zero x ≡ false → 0 ≡ whole_by rule x
-  unfolding lt
+  whole_none : (x : Float) → lt Number.zero x ≡ false → to_unsigned 64 x ≡ whole_by rule x
+  unfolding lt to_unsigned
   whole_none nan h = refl
   whole_none (inf true) h = refl
   whole_none (inf false) h = clash true refl h
   whole_none (fin true m e) h = refl
   whole_none (fin false m e) h =
       let z : m * up e ≡ 0 = omega (arith, ltb-false 0 (m * up e) (sym (zero-lt m e) ∙ h)) in
-      rw (z, r.nothing (down e) (down_pos e)) refl
+      rw (z, r.nothing (down e) (down_pos e), zero-div (down e)) refl
 
-  pub whole_past : (x : Float) → lt Number.zero x ≡ true → lt x (fin false 1 (pos 64)) ≡ false → largest ≡ whole_by rule x
-  whole_past x p = over_zero (λ x. lt x (fin false 1 (pos 64)) ≡ false → largest ≡ whole_by rule x) (λ h. refl) past x p
-    where
-      past : (m : ℕ) (e : ℤ) → lt (fin false m e) (fin false 1 (pos 64)) ≡ false → largest ≡ whole_by rule (fin false m e)
-      past m e h =
-          let k = r.reach (m * up e) (down e) (2 ^ 64) (down_pos e) (ltb-false (m * up e) (2 ^ 64 * down e) (sym (lt_power m e 64) ∙ h)) in
-          capped (rule (m * up e) (down e)) (omega arith)
-
-  pub whole_large : (x : Float) (t : ℕ) → fits binary64 x ≡ true → lt Number.zero x ≡ true → lt x all_whole ≡ false → t ≡ to_unsigned 64 x → t ≡ whole_by rule x
+  whole_large : (x : Float) (t : ℕ) → fits binary64 x ≡ true → lt Number.zero x ≡ true → lt x all_whole ≡ false → t ≡ to_unsigned 64 x → t ≡ whole_by rule x
   unfolding to_unsigned
   whole_large x t f p = over_zero (λ x. fits binary64 x ≡ true → lt x all_whole ≡ false → t ≡ to_unsigned 64 x → t ≡ whole_by rule x) (λ g h e. e) large x p f
     where
@@ -124,6 +111,14 @@ module _ (rule : ℕ → ℕ → ℕ) (r : Rule rule) where
       large m e g h k =
           let one = no_fraction m e (digits false m e g) (ltb-false (m * up e) (2 ^ 52 * down e) (sym (lt_power m e 52) ∙ h)) in
           k ∙ rw (one, r.whole (m * up e), div-one (m * up e)) refl
+
+  -- what may have no fraction is its whole part by either
+  pub whole_exact : (x : Float) → fits binary64 x ≡ true → fractional x ≡ false → to_unsigned 64 x ≡ whole_by rule x
+  whole_exact x f h = go (lt Number.zero x) refl
+    where
+      go : (b : Bool) → lt Number.zero x ≡ b → to_unsigned 64 x ≡ whole_by rule x
+      go true p = whole_large x _ f p (rw p at h) refl
+      go false p = whole_none x p
 
 -- ---- from 0 to 2^52, with the whole part t of n / d
 cut_small : (m : ℕ) (e : ℤ) (t : ℕ) → lt (fin false m e) all_whole ≡ true → t ≡ to_unsigned 64 (fin false m e) → (t ≡ m * up e / down e) × (t < 2 ^ 52)
@@ -171,14 +166,17 @@ module _ (n d t : ℕ) (D : 0 < d) (e : t ≡ n / d) where
   upward_more h = sym (div-eq_of_lt-le {k = t + 1} d (omega (arith, next t d)) (omega (arith, next (t + 1) d, next t d, high)))
 
 -- ---- what the four ends of `round` and `ceil` below 2^52 come to
-module _ (x : Float) (t : ℕ) (w : Float) (p : lt Number.zero x ≡ true) (q : lt x all_whole ≡ true) (c : t ≡ to_unsigned 64 x) (g : w ≡ of_int binary64 (pos t)) where
+module _ (x : Float) (t : ℕ) (w : Float) (Q : fractional x ≡ true) (c : t ≡ to_unsigned 64 x) (g : w ≡ of_int binary64 (pos t)) where
   -- a test that came out b says that u is what the rule gives
   ends : (rule : ℕ → ℕ → ℕ) (test : Float → Bool) (b : Bool) (u : ℕ) → u ≤ t + 1
       → ((m : ℕ) (e : ℤ) → t ≡ m * up e / down e → t < 2 ^ 52 → test (fin false m e) ≡ b → u ≡ rule (m * up e) (down e))
       → test x ≡ b → u ≡ whole_by rule x
   unfolding lt
-  ends rule test b u l f = over_zero (λ x. lt x all_whole ≡ true → t ≡ to_unsigned 64 x → test x ≡ b → u ≡ whole_by rule x) (λ h k. clash false h refl) end x p q c
+  ends rule test b u l f = over_zero (λ x. lt x all_whole ≡ true → t ≡ to_unsigned 64 x → test x ≡ b → u ≡ whole_by rule x) (λ h k. clash false h refl) end x q.0 q.1 c
     where
+      q : (lt Number.zero x ≡ true) × (lt x all_whole ≡ true)
+      q = and-true (lt Number.zero x) (lt x all_whole) Q
+
       end : (m : ℕ) (e : ℤ) → lt (fin false m e) all_whole ≡ true → t ≡ to_unsigned 64 (fin false m e) → test (fin false m e) ≡ b → u ≡ whole_by rule (fin false m e)
       end m e h k o =
           let s = cut_small m e t h k in
@@ -207,25 +205,8 @@ module _ (x : Float) (t : ℕ) (w : Float) (p : lt Number.zero x ≡ true) (q : 
   ceil_same = ends upward (λ x. lt w x) false t (omega arith) (λ m e k l h. upward_same (m * up e) (down e) t (down_pos e) k (omega (arith, ltb-false (t * down e) (m * up e * 1) (sym (at_whole m e l) ∙ h))))
 
 -- the whole part leaves room for one more
-pub room : (x : Float) (t : ℕ) → lt Number.zero x ≡ true → lt x all_whole ≡ true → t ≡ to_unsigned 64 x → t + 1 < 2 ^ 64
+pub room : (x : Float) (t : ℕ) → fractional x ≡ true → t ≡ to_unsigned 64 x → t + 1 < 2 ^ 64
 unfolding lt
-room x t p = over_zero (λ x. lt x all_whole ≡ true → t ≡ to_unsigned 64 x → t + 1 < 2 ^ 64) (λ h k. clash false h refl) (λ m e h k. let s = cut_small m e t h k in omega arith) x p
-
--- ---- what the ends of `whole_part` promise
-no : {A : Type 0} → true ≡ false → A
-no h = clash true refl h
-
-final : (x : Float) (t : ℕ) → ((rule : ℕ → ℕ → ℕ) → Rule rule → t ≡ whole_by rule x) → Parted x true t
-final x t f = record { final = λ h. f; above = λ h. no h; below = λ h. no h; cut = λ h. no h }
-
-pub part_none : (x : Float) → lt Number.zero x ≡ false → Parted x true 0
-part_none x h = final x 0 (λ rule r. whole_none rule r x h)
-
-pub part_past : (x : Float) → lt Number.zero x ≡ true → lt x (fin false 1 (pos 64)) ≡ false → Parted x true largest
-part_past x p h = final x largest (λ rule r. whole_past rule r x p h)
-
-pub part_large : (x : Float) (t : ℕ) → fits binary64 x ≡ true → lt Number.zero x ≡ true → lt x all_whole ≡ false → t ≡ to_unsigned 64 x → Parted x true t
-part_large x t f p h k = final x t (λ rule r. whole_large rule r x t f p h k)
-
-pub part_small : (x : Float) (t : ℕ) → lt Number.zero x ≡ true → lt x all_whole ≡ true → t ≡ to_unsigned 64 x → Parted x false t
-part_small x t p h k = record { final = λ n. no (sym n); above = λ n. p; below = λ n. h; cut = λ n. k }
+room x t b =
+    let q = and-true (lt Number.zero x) (lt x all_whole) b in
+    over_zero (λ x. lt x all_whole ≡ true → t ≡ to_unsigned 64 x → t + 1 < 2 ^ 64) (λ h k. clash false h refl) (λ m e h k. let s = cut_small m e t h k in omega arith) x q.0 q.1

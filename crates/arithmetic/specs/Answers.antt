@@ -1,9 +1,8 @@
--- Document 01's number and values for each case of an answer enum of this crate.
-use Rattle.std.specs.Prelude.{[], ◌∷◌}
+-- Document 01's number and values for what `exp` answers: the value, or 26.
+use Rattle.std.specs.Prelude.{[], ◌∷◌, Result, Ok, Err, Float}
 use Rattle.arithmetic.specs.Reply.{Reply, finished, refused, float}
-use Rattle.arithmetic.specs.declared.math.ExpAnswer.{ExpAnswer}
-use Rattle.arithmetic.specs.declared.math.ExpAnswer.TheVariants.{Value, OutOfDomain}
+use Rattle.arithmetic.specs.declared.math.OutOfDomain.{OutOfDomain}
 
-abbrev pub reply_of : ExpAnswer → Reply
-reply_of (Value v) = finished (float v ∷ [])
-reply_of OutOfDomain = refused 26 []
+abbrev pub reply_of : Result Float OutOfDomain → Reply
+reply_of (Ok v) = finished (float v ∷ [])
+reply_of (Err e) = refused 26 []

@@ -1,24 +1,16 @@
--- What private functions promise or ask: `whole_part` of number.rt, from which `round` and `ceil` go on, and `narrow_normal` of narrow.rt.
-use Rattle.std.specs.Prelude.{◌≡◌, ℕ, ◌*◌, ◌%◌, ◌^◌, ◌<◌, ◌≤◌, Bool, true, false, ◌&&◌, pos, nat_le, nat_lt, to_bits, Float}
+-- What private functions promise or ask: `has_fraction` of number.rt, by which `round` and `ceil` go, and `narrow_normal` of narrow.rt.
+use Rattle.std.specs.Prelude.{ℕ, ◌%◌, ◌^◌, Bool, false, ◌&&◌, pos, nat_le, nat_lt, to_bits, Float}
 use Rattle.std.specs.Float.{fin, binary64}
-use Rattle.std.specs.Float.Ieee.{lt, to_unsigned}
-use Rattle.arithmetic.specs.Number.{zero, whole_by}
-
--- what a rule for a whole number has to do: keep a whole number, reach what it is asked to reach, and give nothing for nothing
-pub record Rule (rule : ℕ → ℕ → ℕ) : Type 0 where
-  pub whole : (n : ℕ) → rule n 1 ≡ n
-  pub reach : (n d k : ℕ) → 0 < d → k * d ≤ n → k ≤ rule n d
-  pub nothing : (d : ℕ) → 0 < d → rule 0 d ≡ 0
+use Rattle.std.specs.Float.Ieee.{lt}
+use Rattle.arithmetic.specs.Number.{zero}
 
 -- 2^52, from which on every f64 is whole
 abbrev pub all_whole : Float
 all_whole = fin false 1 (pos 52)
 
-pub record Parted (x : Float) (exact : Bool) (whole : ℕ) : Type 0 where
-  pub final : exact ≡ true → (rule : ℕ → ℕ → ℕ) → Rule rule → whole ≡ whole_by rule x
-  pub above : exact ≡ false → lt zero x ≡ true
-  pub below : exact ≡ false → lt x all_whole ≡ true
-  pub cut : exact ≡ false → whole ≡ to_unsigned 64 x
+-- above 0 and below that: what may have a fraction
+abbrev pub fractional : Float → Bool
+fractional x = lt zero x && lt x all_whole
 
 -- ---- the patterns of 2^−126, from which on an f32 is normal, and of 2^128 − 2^103, from which on it is an infinity
 abbrev pub least_normal_bits : ℕ

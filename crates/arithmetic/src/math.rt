@@ -20,24 +20,21 @@ const P4: f64 = -1.65339022054652515390e-06;
 
 const P5: f64 = 4.13813679705723846039e-08;
 
-// What `exp` answers: the value, or 26.
-#[derive(Clone, Copy)]
-pub enum ExpAnswer {
-    Value(f64),
-    OutOfDomain,
-}
+// 26: an argument outside −700 to 0.
+#[derive(Clone, Copy, Debug, PartialEq, Eq)]
+pub struct OutOfDomain;
 
 // e to the x for −700 to 0.
-pub fn exp(x: f64) -> ExpAnswer
+pub fn exp(x: f64) -> Result<f64, OutOfDomain>
     ensures { reply_of result ≡ exp_reply x }
 {
     if x >= -700.0 {
         if x <= 0.0 {
             let h = f64::to_bits(x) / 0x1_0000_0000 % 0x8000_0000;
-            return ExpAnswer::Value(exp_at(h, x));
+            return Ok(exp_at(h, x));
         }
     }
-    ExpAnswer::OutOfDomain
+    Err(OutOfDomain)
 }
 
 // The three ranges of h, the upper 32 bits of x without its sign.

@@ -10,6 +10,9 @@ ghost use Rattle.arithmetic.specs.Sanitize.{finite_or_zero, flush_denormal};
 
 use crate::sanitize::flush_denormal;
 
+// `widen`, `finite_widen` and `to_bits32` stand beside their likes of 64 bits in pattern.rt: the impls of a trait for both
+// widths would hold the same bodies.
+
 // The weight of an f32's last place in an f64's digits.
 const PLACE: u64 = 0x2000_0000;
 // The patterns of 2^-126, from which on an f32 is normal; of 1e-30, below which outputs become 0.0; and

@@ -4,13 +4,13 @@ ghost use Rattle.std.specs.Prelude.{◌≡◌};
 ghost use Rattle.std.specs.Float.Ieee.Scale.{finite};
 ghost use Rattle.arithmetic.specs.Number;
 ghost use Rattle.arithmetic.specs.Number.{one, abs_of, min_of, max_of, clamp_of, within, copysign_of, rounded_of, ceil_of};
-ghost use Rattle.arithmetic.specs.Part.{Parted};
+ghost use Rattle.arithmetic.specs.Part.{fractional};
 
-// Whether x is neither a NaN nor an infinity: only a finite number less itself is 0.
+// Whether x is neither a NaN nor an infinity.
 pub fn is_finite(x: f64) -> bool
     ensures { result ≡ finite x }
 {
-    x - x == 0.0
+    x.is_finite()
 }
 
 // Whether x lies within 0 and 1.
@@ -24,16 +24,11 @@ pub fn unit(x: f64) -> bool
 pub fn abs(x: f64) -> f64
     ensures { result ≡ abs_of x }
 {
-    if x < 0.0 {
-        -x
-    } else if x == 0.0 {
-        0.0
-    } else {
-        x
-    }
+    x.abs()
 }
 
-// The smaller one; of a NaN and a number, the number.
+// The smaller one; of a NaN and a number, the number. std's `min` and `max` leave open which of two equal zeros they
+// give, which `min_of` and `max_of` do not.
 pub fn min(a: f64, b: f64) -> f64
     ensures { result ≡ min_of a b }
 {
@@ -46,7 +41,7 @@ pub fn min(a: f64, b: f64) -> f64
     }
 }
 
-// The larger one; of a NaN and a number, the number.
+// The larger one; of a NaN and a number, the number. It stands apart from `min`, as `max_of` from `min_of`.
 pub fn max(a: f64, b: f64) -> f64
     ensures { result ≡ max_of a b }
 {
@@ -59,7 +54,7 @@ pub fn max(a: f64, b: f64) -> f64
     }
 }
 
-// x kept within lo and hi. Where lo is above hi, hi.
+// x kept within lo and hi. Where lo is above hi, hi: std's `clamp` asks that it is not.
 pub fn clamp(x: f64, lo: f64, hi: f64) -> f64
     ensures { result ≡ clamp_of x lo hi }
 {
@@ -73,81 +68,40 @@ pub fn clamp(x: f64, lo: f64, hi: f64) -> f64
     y
 }
 
-// The magnitude of x with the sign of y.
+// The magnitude of x with the sign of y; a NaN's counts as clear.
 pub fn copysign(x: f64, y: f64) -> f64
     ensures { result ≡ copysign_of x y }
 {
-    let a = abs(x);
-    if y < 0.0 {
-        -a
-    } else if y == 0.0 {
-        // only the quotient shows the sign of a zero
-        if 1.0 / y < 0.0 { -a } else { a }
-    } else {
-        a
-    }
+    if y.is_nan() { x.abs() } else { x.copysign(y) }
 }
 
-// The whole part of x, and whether it is the whole number of x by any rule: it is outside 0 to 2^52,
-// where x is not above 0, has no fraction or is past every u64.
-#[derive(Clone, Copy)]
-struct Part {
-    whole: u64,
-    exact: bool,
-}
-
-fn whole_part(x: f64) -> Part
-    ensures { Parted x result.exact result.whole }
+// Whether x may have a fraction: none is counted of what is not above 0, and from 2^52 on there is none.
+fn has_fraction(x: f64) -> bool
+    ensures { result ≡ fractional x }
 {
-    if x > 0.0 {
-        if x < 4503599627370496.0 {
-            Part {
-                whole: std::num::truncating_f64_to_u64(x),
-                exact: false,
-            }
-        } else if x < 18446744073709551616.0 {
-            Part {
-                whole: std::num::truncating_f64_to_u64(x),
-                exact: true,
-            }
-        } else {
-            Part {
-                whole: 18446744073709551615,
-                exact: true,
-            }
-        }
-    } else {
-        Part {
-            whole: 0,
-            exact: true,
-        }
-    }
+    (0.0 < x) & (x < 4503599627370496.0)
 }
 
 // x rounded to the nearest whole number, halves upward.
 pub fn round(x: f64) -> u64
     ensures { result ≡ rounded_of x }
 {
-    let p = whole_part(x);
-    if p.exact {
-        p.whole
-    } else if x < std::num::nearest_u64_to_f64(p.whole) + 0.5 {
-        p.whole
+    let whole = std::num::saturating_f64_to_u64(x);
+    if has_fraction(x) && !(x < std::num::nearest_u64_to_f64(whole) + 0.5) {
+        whole + 1
     } else {
-        p.whole + 1
+        whole
     }
 }
 
-// The least whole number that is not below x.
+// The least whole number that is not below x. It has only the test for a fraction in common with `round`.
 pub fn ceil(x: f64) -> u64
     ensures { result ≡ ceil_of x }
 {
-    let p = whole_part(x);
-    if p.exact {
-        p.whole
-    } else if std::num::nearest_u64_to_f64(p.whole) < x {
-        p.whole + 1
+    let whole = std::num::saturating_f64_to_u64(x);
+    if has_fraction(x) && std::num::nearest_u64_to_f64(whole) < x {
+        whole + 1
     } else {
-        p.whole
+        whole
     }
 }

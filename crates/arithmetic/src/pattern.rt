@@ -40,7 +40,7 @@ pub fn to_bits(x: f64) -> u64
     }
 }
 
-// Whether two values are the same, sign included.
+// Whether two values are the same, sign included: `==` takes two zeros for one, and no NaN for itself.
 pub fn same_value(x: f64, y: f64) -> bool
     ensures { result ≡ same_value x y }
 {

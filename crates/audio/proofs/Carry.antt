@@ -14,9 +14,6 @@ use Rattle.audio.specs.Inner.{PlacesCopied, PlacesCarried}
 
 -- ---- a place at a time
 module _ {A : Type 0} {none : A} (from : ℕ) (source : List A) (to : ℕ) (before : List A) where
-  pub copied_none : PlacesCopied none 0 from source to before before
-  copied_none = record { there = λ i h. absurd (omega arith); elsewhere = λ p h. refl }
-
   pub copied_more : (n : ℕ) (now : List A) → to + n < length now → PlacesCopied none n from source to before now → PlacesCopied none (n + 1) from source to before (set now (to + n) (get_or source (from + n) none))
   copied_more n now room k = record {
     there = λ i h. go i h (ltb i n) refl;
@@ -41,9 +38,6 @@ places-end c channels w h =
     omega (arith, k, e)
 
 module _ {A : Type 0} {none : A} (n width from : ℕ) (source : List A) (room to : ℕ) (fits : to + n ≤ room) (before : List A) where
-  pub carried_none : PlacesCarried none 0 n width from source room to before before
-  carried_none = record { there = λ c i h. absurd (omega arith); elsewhere = λ p h. refl }
-
   pub carried_more : (c : ℕ) (now after : List A) → PlacesCarried none c n width from source room to before now → PlacesCopied none n (c * width + from) source (c * room + to) now after → PlacesCarried none (c + 1) n width from source room to before after
   carried_more c now after k s = record {
     there = λ d i h g. go d i h g (ltb d c) refl;

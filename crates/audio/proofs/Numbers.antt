@@ -3,10 +3,11 @@ use mathlib.Core.Path.{◌≡◌, refl, sym, ap, ◌∙◌}
 use mathlib.Core.List.{List, [], ◌∷◌, ◌++◌, append_assoc, append-nil}
 use Prim.Native.Nat.{ℕ, zero, suc, ◌+◌, ◌*◌, ◌/◌, ◌%◌, ◌^◌, ◌≤◌, ◌<◌}
 use native.Mathlib.Numerals.{add-one, towards_suc}
-use native.Mathlib.Nat.{zero-add, mul-zero, mul-suc, mul-le-mul_left, pow-suc, mod-add-div, mod-eq_of_lt, div-div-eq-div-mul, div-eq_of_lt, div-lt_iff_lt-mul, add-mul-div_left, add-mul-mod_self_left}
+use native.Mathlib.Nat.{zero-add, mul-zero, mul-suc, mul-le-mul_left, pow-suc, mod-add-div, mod-eq_of_lt, div-div-eq-div-mul, div-one, mul_assoc, div-eq_of_lt, div-lt_iff_lt-mul, add-mul-div_left, add-mul-mod_self_left}
 use native.Mathlib.Omega.{arith}
 use lib.ListN.{length, get_or, set, take, drop, length-append, length-drop, drop_of_length-le, take-append-drop}
-use lib.Seq.{sets-eq, drop-cons, drop-drop, get_or-drop, take_all, take_at, drop_at, take-take, take-add, take-append-le, drop-append-le, length-take-le}
+use lib.Seq.{drop-cons, drop-drop, get_or-drop, take_all, take_at, drop_at, take-take, take-add, take-append-le, drop-append-le, length-take-le}
+use Rattle.std.specs.Int.{byte_at, byte_worth, bytes_low_first, sum_through}
 use Rattle.audio.specs.Bytes.{word_of, bytes_of, cut, joined, words_in, bytes_out}
 use Rattle.audio.specs.Inner.{put}
 
@@ -31,7 +32,7 @@ bytes_of_word (b ∷ bytes) h =
     let rest : (b + 256 * word_of bytes) / 256 ≡ word_of bytes = add-mul-div_left b (word_of bytes) (omega arith) ∙ rw (div-eq_of_lt (h 0)) (zero-add (word_of bytes)) in
     rw (low, rest, bytes_of_word bytes (λ (i : ℕ). h (suc i))) refl
 
--- ---- eight bytes, or four, as the code has them
+-- ---- eight bytes
 -- read one after the other
 first : (l : List ℕ) (n k : ℕ) → n < length l → take (suc k) (drop n l) ≡ get_or l n 0 ∷ take k (drop (suc n) l)
 first l n k h = rw (drop-cons l n 0 h) refl
@@ -50,32 +51,39 @@ pub take_eight : (l : List ℕ) (at : ℕ) → at + 8 ≤ length l
 unfolding reads
 take_eight l at h = simp towards_suc (take_reads 8 at l h)
 
-pub take_four : (l : List ℕ) (at : ℕ) → at + 4 ≤ length l → take 4 (drop at l) ≡ get_or l at 0 ∷ get_or l (at + 1) 0 ∷ get_or l (at + 2) 0 ∷ get_or l (at + 3) 0 ∷ []
-unfolding reads
-take_four l at h = simp towards_suc (take_reads 4 at l h)
+-- ---- as std has them
+byte_is : (i w : ℕ) → byte_at i w ≡ w / 256 ^ i % 256
+byte_is zero w = rw (div-one w) refl
+byte_is (suc i) w = refl
 
--- stored one after the other
-pub put_eight : (l : List ℕ) (at b0 b1 b2 b3 b4 b5 b6 b7 : ℕ) → at + 8 ≤ length l
-    → set (set (set (set (set (set (set (set l at b0) (at + 1) b1) (at + 2) b2) (at + 3) b3) (at + 4) b4) (at + 5) b5) (at + 6) b6) (at + 7) b7
-    ≡ put l at (b0 ∷ b1 ∷ b2 ∷ b3 ∷ b4 ∷ b5 ∷ b6 ∷ b7 ∷ [])
-put_eight l at b0 b1 b2 b3 b4 b5 b6 b7 h =
-    let bs = b0 ∷ b1 ∷ b2 ∷ b3 ∷ b4 ∷ b5 ∷ b6 ∷ b7 ∷ [] in
-    simp towards_suc (simp towards_suc at (sets-eq bs l at h ∙ append_assoc (take at l) bs (drop (at + 8) l)))
-
-pub put_four : (l : List ℕ) (at b0 b1 b2 b3 : ℕ) → at + 4 ≤ length l → set (set (set (set l at b0) (at + 1) b1) (at + 2) b2) (at + 3) b3 ≡ put l at (b0 ∷ b1 ∷ b2 ∷ b3 ∷ [])
-put_four l at b0 b1 b2 b3 h =
-    let bs = b0 ∷ b1 ∷ b2 ∷ b3 ∷ [] in
-    simp towards_suc (simp towards_suc at (sets-eq bs l at h ∙ append_assoc (take at l) bs (drop (at + 4) l)))
-
-pub bytes_four : (w : ℕ) → bytes_of 4 w ≡ w % 256 ∷ w / 256 % 256 ∷ w / 65536 % 256 ∷ w / 16777216 % 256 ∷ []
+low_first : (i size w : ℕ) → bytes_low_first i size w ≡ bytes_of size (w / 256 ^ i)
 unfolding bytes_of
-bytes_four w = simp div-div-eq-div-mul
+low_first i zero w = refl
+low_first i (suc size) w =
+    let e : w / 256 ^ suc i ≡ w / 256 ^ i / 256 = ap (λ (k : ℕ). w / k) (pow-suc 256 i) ∙ sym (div-div-eq-div-mul w (256 ^ i) 256) in
+    rw (byte_is i w, low_first (suc i) size w, e) refl
 
-pub bytes_eight : (w : ℕ)
-    → bytes_of 8 w
-    ≡ w % 256 ∷ w / 256 % 256 ∷ w / 65536 % 256 ∷ w / 16777216 % 256 ∷ w / 4294967296 % 256 ∷ w / 1099511627776 % 256 ∷ w / 281474976710656 % 256 ∷ w / 72057594037927936 % 256 ∷ []
-unfolding bytes_of
-bytes_eight w = simp div-div-eq-div-mul
+pub le_bytes : (size w : ℕ) → bytes_low_first 0 size w ≡ bytes_of size w
+le_bytes size w = low_first 0 size w ∙ ap (bytes_of size) (div-one w)
+
+-- the first of them apart
+sum_first : (f : ℕ → ℕ) (k : ℕ) → sum_through (λ (i : ℕ). byte_worth i (f i)) (suc k) ≡ f 0 + 256 * sum_through (λ (i : ℕ). byte_worth i (f (suc i))) k
+sum_first f zero = omega arith
+sum_first f (suc k) =
+    let p = pow-suc 256 (suc k) in
+    let m = mul_assoc (f (suc (suc k))) (256 ^ suc k) 256 in
+    rw (sum_first f k, p) (omega (arith, m))
+
+pub le_word : (k : ℕ) (l : List ℕ) → length l ≡ suc k → sum_through (λ (i : ℕ). byte_worth i (get_or l i 0)) k ≡ word_of l
+unfolding word_of
+le_word k [] e = absurd (omega arith)
+le_word zero (b ∷ []) e = omega arith
+le_word zero (b ∷ c ∷ l) e = absurd (omega arith)
+le_word (suc k) (b ∷ l) e = sum_first (λ (i : ℕ). get_or (b ∷ l) i 0) k ∙ ap (λ (n : ℕ). b + 256 * n) (le_word k l (omega arith))
+
+-- those at a place
+pub le_word_at : (k at : ℕ) (bytes : List ℕ) → at + suc k ≤ length bytes → (let l = take (suc k) (drop at bytes) in sum_through (λ (i : ℕ). byte_worth i (get_or l i 0)) k ≡ word_of l)
+le_word_at k at bytes h = le_word k (take (suc k) (drop at bytes)) (length-take-le (suc k) (drop at bytes) (rw (length-drop at bytes) (omega arith)))
 
 -- ---- places
 pub put_length : (bytes : List ℕ) (at : ℕ) (new : List ℕ) → at + length new ≤ length bytes → length (put bytes at new) ≡ length bytes

@@ -8,7 +8,7 @@ ghost use Rattle.audio.specs.Format.{binary_of, sample_bytes, bytes_for, size_of
 ghost use Rattle.audio.specs.Inner.{PlacesCopied, PlacesCarried, Held, HeldAll, Placed};
 
 use crate::format::Format;
-use crate::words::{put_word, put_word32, word, word32};
+use crate::words::{bytes_at, put_bytes, put_word, word};
 use arithmetic::narrow::{finite_widen, to_bits32};
 use arithmetic::pattern::{finite_from_bits, to_bits};
 
@@ -19,7 +19,7 @@ fn sample(format: Format, bytes: &[u8], i: usize) -> f64
 {
     match format {
         Format::F64 => finite_from_bits(word(bytes, 8 * i)),
-        Format::F32 => finite_widen(word32(bytes, 4 * i)),
+        Format::F32 => finite_widen(u32::from_le_bytes(bytes_at(bytes, 4 * i))),
     }
 }
 
@@ -32,7 +32,7 @@ fn put_sample(format: Format, bytes: &mut [u8], i: usize, x: f64)
 {
     match format {
         Format::F64 => put_word(bytes, 8 * i, to_bits(x)),
-        Format::F32 => put_word32(bytes, 4 * i, to_bits32(x)),
+        Format::F32 => put_bytes(bytes, 4 * i, &to_bits32(x).to_le_bytes()),
     }
 }
 
@@ -48,6 +48,7 @@ fn read_channel(format: Format, n: usize, from: usize, bytes: &[u8], to: usize, 
 }
 
 // n frames, from a frame of bytes of `width` samples a channel on, into a run, sanitized.
+// Its five numbers stay apart: a struct of them would be made for this call and `scatter`, and be read by nothing else.
 pub fn gather(
     format: Format,
     channels: usize,

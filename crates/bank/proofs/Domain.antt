@@ -1,7 +1,8 @@
 -- The argument of `exp` for a smoothing coefficient lies from −1 to 0, so that 26 never arises.
-use mathlib.Core.Path.{◌≡◌, refl, sym, ap, ◌∙◌, subst}
+use mathlib.Core.Path.{◌≡◌, refl, sym, ◌∙◌, subst}
 use mathlib.Core.Bool.{Bool, true, false}
-use mathlib.Core.List.{[], ◌∷◌}
+use Rattle.std.specs.Prelude.{Result}
+use Rattle.std.specs.Result.{result_unwrap_or}
 use Prim.Native.Nat.{ℕ, ◌*◌, ◌≤◌, ◌<◌}
 use native.Mathlib.Omega.{arith}
 use lib.Dec.{lit<}
@@ -15,11 +16,9 @@ use borrow.Author.Tests.{leb-true, le-leb, ne_eqb}
 use Rattle.arithmetic.specs.Number.{zero, one, max_of, sign_of}
 use Rattle.arithmetic.specs.Exp.{in_domain, exp_of, exp_reply}
 use Rattle.arithmetic.specs.Answers.{reply_of}
-use Rattle.arithmetic.specs.Reply.{Reply, finished, refused, float}
-use Rattle.arithmetic.specs.declared.math.ExpAnswer.{ExpAnswer}
-use Rattle.arithmetic.specs.declared.math.ExpAnswer.TheVariants.{Value, OutOfDomain}
+use Rattle.arithmetic.specs.declared.math.OutOfDomain.{OutOfDomain}
 use Rattle.arithmetic.proofs.Order.{left, right, le_is, clash, not-lt→le}
-use Rattle.arithmetic.proofs.Rows.{finished_within}
+use Rattle.arithmetic.proofs.Exp.{value_or}
 use Rattle.arithmetic.proofs.Cut.{neg-round, sign_round}
 use Rattle.bank.specs.Smoother.{steps_of, coeff_of}
 use Rattle.bank.specs.declared.param.Smoothing.{Smoothing}
@@ -84,18 +83,9 @@ pole_domain (fin false m e) h =
     rw (ne_eqb m 0 (λ z. omega arith), ← neg-round binary64 false (1 * down e) (m * up e * 1))
     (small (round binary64 false (1 * down e) (m * up e * 1)) (sign_round binary64 false (1 * down e) (m * up e * 1)) (rounded_small (1 * down e) (m * up e * 1) C (omega arith)))
 
--- ---- what `exp` answers there
-pub exp_value : (n v : Float) (r : ExpAnswer) → le one n ≡ true → r ≡ Value v → reply_of r ≡ exp_reply (div binary64 minus_one n) → v ≡ exp_of (div binary64 minus_one n)
-exp_value n v r h e p =
-    let q : finished (float v ∷ []) ≡ finished (float (exp_of (div binary64 minus_one n)) ∷ []) = sym (ap reply_of e) ∙ p ∙ finished_within (div binary64 minus_one n) (pole_domain n h) in
-    let l = ap (λ (y : Reply). y.values) q in
-    cc
-
-pub exp_answers : (n : Float) (r : ExpAnswer) → le one n ≡ true → r ≡ OutOfDomain → reply_of r ≡ exp_reply (div binary64 minus_one n) → ⊥
-exp_answers n r h e p =
-    let q : refused 26 [] ≡ finished (float (exp_of (div binary64 minus_one n)) ∷ []) = sym (ap reply_of e) ∙ p ∙ finished_within (div binary64 minus_one n) (pole_domain n h) in
-    let z : ◌≡◌ {A = ℕ} 26 0 = ap (λ (y : Reply). y.number) q in
-    omega arith
+-- ---- what `exp` answers there, for a coefficient: its value
+pub exp_value : (n other : Float) (r : Result Float OutOfDomain) → le one n ≡ true → reply_of r ≡ exp_reply (div binary64 minus_one n) → result_unwrap_or r other ≡ exp_of (div binary64 minus_one n)
+exp_value n other r h e = value_or (div binary64 minus_one n) (pole_domain n h) r other e
 
 pub coeff_pole : (shape : Smoothing) (n v : Float) → shape ≡ OnePole → v ≡ exp_of (div binary64 minus_one n) → sub binary64 one v ≡ coeff_of shape n
 unfolding coeff_of of_bits

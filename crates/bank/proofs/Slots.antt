@@ -1,24 +1,23 @@
 -- The loops over a bank's slots, on plain lists: what one turn adds, and that nothing is left past the count or the last slot.
 use mathlib.Core.Path.{◌≡◌, refl, sym, ap, ◌∙◌}
 use mathlib.Core.Bool.{Bool, true, false, cond, ◌&&◌}
-use mathlib.Core.List.{List, [], ◌∷◌}
+use mathlib.Core.List.{List, [], ◌∷◌, ◌++◌}
+use Rattle.std.specs.List.{list_all, enumerate_from}
 use Prim.Native.Nat.{ℕ, zero, suc, ◌+◌, ◌≤◌, ◌<◌, min}
 use native.Mathlib.Numerals.{add-one}
 use native.Mathlib.Omega.{arith}
-use lib.Dec.{eqb}
+use lib.Dec.{eqb, leb}
 use lib.ListN.{length, get_or, set, take, drop, replicate, length-take, drop_of_length-le}
-use lib.Seq.{drop-cons, get_or-take}
-use borrow.Author.Tests.{eq-eqb, eqb-true, ne_eqb, le-ltb}
+use lib.Seq.{drop-cons}
+use borrow.Author.Tests.{eq-eqb, eqb-true, ne_eqb, leb-true, leb-false}
 use Rattle.arithmetic.specs.Reply.{Reply, finished}
 use Rattle.bank.specs.Param.{fault_of, fault_reply, param_reply}
-use Rattle.bank.specs.Answers.{refusal_reply, set_up_reply}
-use Rattle.bank.specs.Smoother.{vacant, smoother_of, info_of, derived, slot_prepared}
-use Rattle.bank.specs.Bank.{first_mapped, slots_of, first_fault, declared_reply, all_prepared}
+use Rattle.bank.specs.Answers.{refusal_reply}
+use Rattle.bank.specs.Smoother.{vacant, smoother_of, slot_prepared}
+use Rattle.bank.specs.Bank.{first_mapped, slots_of, first_fault, all_prepared}
 use Rattle.bank.specs.declared.param.ParamInfo.{ParamInfo}
 use Rattle.bank.specs.declared.param.BankRefusal.{BankRefusal}
 use Rattle.bank.specs.declared.param.BankRefusal.TheVariants.{TooMany, Id, Range, DefaultNotFinite, DefaultOutside, SmoothingTime}
-use Rattle.bank.specs.declared.param.BankAnswer.{BankAnswer}
-use Rattle.bank.specs.declared.param.BankAnswer.TheVariants.{Finished, Refused}
 use Rattle.bank.specs.declared.smoother.Smoother.{Smoother}
 
 -- ---- slots through a function
@@ -49,6 +48,28 @@ module _ (f : Smoother → Smoother) where
   mapped_past (suc m) (suc n) [] h k = refl
   mapped_past (suc m) (suc n) (s ∷ ss) h k = ap {B = List Smoother} (λ l. f s ∷ l) (mapped_past m n ss (omega arith) (omega arith))
 
+  mapped_nil : (i : ℕ) → first_mapped f i [] ≡ []
+  unfolding first_mapped
+  mapped_nil zero = refl
+  mapped_nil (suc i) = refl
+
+  mapped_split : (m i : ℕ) (ss : List Smoother) → m ≤ i → first_mapped f i (take m ss) ++ drop m ss ≡ first_mapped f m ss
+  unfolding first_mapped
+  mapped_split zero i ss h = ap (λ (l : List Smoother). l ++ ss) (mapped_nil i)
+  mapped_split (suc m) zero ss h = absurd (omega arith)
+  mapped_split (suc m) (suc i) [] h = refl
+  mapped_split (suc m) (suc i) (s ∷ ss) h = ap {B = List Smoother} (λ l. f s ∷ l) (mapped_split m i ss (omega arith))
+
+  -- the first n that there are, lent as a part, and the others after them
+  pub mapped_part : (m n i : ℕ) (ss now : List Smoother) → m ≡ min n (length ss) → length (take m ss) ≤ i → now ≡ first_mapped f i (take m ss) → now ++ drop m ss ≡ first_mapped f n ss
+  mapped_part m n i ss now e h k =
+      let short : m ≤ i = omega (arith, simp length-take at h) in
+      rw k (mapped_split m i ss short ∙ go (leb n (length ss)) refl)
+    where
+      go : (b : Bool) → leb n (length ss) ≡ b → first_mapped f m ss ≡ first_mapped f n ss
+      go true t = ap (λ (x : ℕ). first_mapped f x ss) (omega (arith, leb-true n (length ss) t))
+      go false t = mapped_past m n ss (omega (arith, leb-false n (length ss) t)) (omega (arith, leb-false n (length ss) t))
+
 -- ---- slots of declarations
 module _ (rate : ℕ) where
   pub slots_none : (ps : List ParamInfo) → replicate (length ps) vacant ≡ slots_of rate 0 ps
@@ -73,33 +94,14 @@ module _ (rate : ℕ) where
   slots_past (suc m) zero (p ∷ ps) h k = absurd (omega arith)
   slots_past (suc m) (suc n) (p ∷ ps) h k = ap {B = List Smoother} (λ l. smoother_of rate p ∷ l) (slots_past m n ps (omega arith) (omega arith))
 
--- ---- tests of the first n, from i on
-module _ {A : Type 0} (n i : ℕ) (l : List A) where
-  rest_next : (d : A) → i < n → i < length l → drop i (take n l) ≡ get_or l i d ∷ drop (suc i) (take n l)
-  rest_next d h k = drop-cons (take n l) i d (simp length-take (omega arith)) ∙ ap (λ (x : A). x ∷ drop (suc i) (take n l)) (get_or-take n l i d h)
+-- ---- 18 of each slot, beside its index
+each_slot : (rate i : ℕ) (ss : List Smoother) → list_all (λ (p : ℕ × Smoother). slot_prepared rate p.0 p.1) (enumerate_from i ss) ≡ all_prepared rate i ss
+unfolding all_prepared
+each_slot rate i [] = refl
+each_slot rate i (s ∷ ss) = ap (λ (b : Bool). slot_prepared rate i s && b) (rw add-one (each_slot rate (suc i) ss))
 
-  rest_none : min n (length l) ≤ i → drop i (take n l) ≡ []
-  rest_none h = drop_of_length-le (take n l) {i = i} (simp length-take h)
-
--- what is answered from i on is what is answered of all
-pub prepared_start : (rate n : ℕ) (ss : List Smoother) → all_prepared rate 0 (drop 0 (take n ss)) ≡ all_prepared rate 0 (take n ss)
-prepared_start rate n ss = refl
-
-module _ (rate n i : ℕ) (ss : List Smoother) (e : all_prepared rate i (drop i (take n ss)) ≡ all_prepared rate 0 (take n ss)) where
-  pub prepared_end : min n (length ss) ≤ i → true ≡ all_prepared rate 0 (take n ss)
-  unfolding all_prepared
-  prepared_end h = sym (ap (all_prepared rate i) (rest_none n i ss h)) ∙ e
-
-  module _ (d : Smoother) (h : i < n) (k : i < length ss) where
-    prepared_next : slot_prepared rate i (get_or ss i d) && all_prepared rate (suc i) (drop (suc i) (take n ss)) ≡ all_prepared rate 0 (take n ss)
-    unfolding all_prepared
-    prepared_next = sym (ap (all_prepared rate i) (rest_next n i ss d h k)) ∙ e
-
-    pub prepared_fails : slot_prepared rate i (get_or ss i d) ≡ false → false ≡ all_prepared rate 0 (take n ss)
-    prepared_fails f = rw f at prepared_next
-
-    pub prepared_more : slot_prepared rate i (get_or ss i d) ≡ true → all_prepared rate (i + 1) (drop (i + 1) (take n ss)) ≡ all_prepared rate 0 (take n ss)
-    prepared_more f = rw (add-one i) (rw f at prepared_next)
+pub each_prepared : (r : Bool) (rate i : ℕ) (ss : List Smoother) → r ≡ list_all (λ (p : ℕ × Smoother). slot_prepared rate p.0 p.1) (enumerate_from i ss) → r ≡ all_prepared rate i ss
+each_prepared r rate i ss e = e ∙ each_slot rate i ss
 
 -- ---- the first fault
 -- the reply of a declaration tells whether it has a fault
@@ -124,38 +126,21 @@ above_zero (SmoothingTime i) h = omega arith
 pub a_fault : (n index : ℕ) (why : BankRefusal) → refusal_reply why ≡ fault_reply n index → eqb n 0 ≡ false
 a_fault n index why e = ne_eqb n 0 (λ z. above_zero why (ap (λ (r : Reply). r.number) e ∙ fault_number n index ∙ z))
 
-module _ (n i : ℕ) (ps : List ParamInfo) (e : first_fault i (drop i (take n ps)) ≡ first_fault 0 (take n ps)) where
-  pub fault_end : min n (length ps) ≤ i → finished [] ≡ first_fault 0 (take n ps)
+-- what is answered from i on is what is answered of all
+module _ (i : ℕ) (ps : List ParamInfo) (e : first_fault i (drop i ps) ≡ first_fault 0 ps) where
+  pub fault_end : length ps ≤ i → finished [] ≡ first_fault 0 ps
   unfolding first_fault
-  fault_end h = sym (ap (first_fault i) (rest_none n i ps h)) ∙ e
+  fault_end h = sym (ap (first_fault i) (drop_of_length-le ps {i = i} h)) ∙ e
 
-  module _ (d : ParamInfo) (h : i < n) (k : i < length ps) where
-    fault_next : cond (eqb (fault_of i (get_or ps i d)) 0) (first_fault (suc i) (drop (suc i) (take n ps))) (fault_reply (fault_of i (get_or ps i d)) i) ≡ first_fault 0 (take n ps)
-    unfolding first_fault
-    fault_next = sym (ap (first_fault i) (rest_next n i ps d h k)) ∙ e
+  module _ (d : ParamInfo) (k : i < length ps) where
+    fault_next : (b : Bool) → eqb (fault_of i (get_or ps i d)) 0 ≡ b → cond b (first_fault (i + 1) (drop (i + 1) ps)) (param_reply i (get_or ps i d)) ≡ first_fault 0 ps
+    unfolding first_fault param_reply
+    fault_next b h = rw (← h, add-one i) (sym (ap (first_fault i) (drop-cons ps i d k)) ∙ e)
 
-    pub fault_here : (why : BankRefusal) → refusal_reply why ≡ param_reply i (get_or ps i d) → refusal_reply why ≡ first_fault 0 (take n ps)
+    pub fault_here : (why : BankRefusal) → refusal_reply why ≡ param_reply i (get_or ps i d) → refusal_reply why ≡ first_fault 0 ps
     unfolding param_reply
-    fault_here why a =
-        let f = fault_of i (get_or ps i d) in
-        a ∙ sym (ap (λ (b : Bool). cond b (first_fault (suc i) (drop (suc i) (take n ps))) (fault_reply f i)) (a_fault f i why a)) ∙ fault_next
+    fault_here why a = a ∙ fault_next false (a_fault (fault_of i (get_or ps i d)) i why a)
 
-    pub fault_more : finished [] ≡ param_reply i (get_or ps i d) → first_fault (i + 1) (drop (i + 1) (take n ps)) ≡ first_fault 0 (take n ps)
+    pub fault_more : finished [] ≡ param_reply i (get_or ps i d) → first_fault (i + 1) (drop (i + 1) ps) ≡ first_fault 0 ps
     unfolding param_reply
-    fault_more a =
-        let f = fault_of i (get_or ps i d) in
-        rw (add-one i) (sym (ap (λ (b : Bool). cond b (first_fault (suc i) (drop (suc i) (take n ps))) (fault_reply f i)) (no_fault f i a)) ∙ fault_next)
-
-pub declared_few : (n : ℕ) (ps : List ParamInfo) (r : Reply) → n ≤ 8 → r ≡ first_fault 0 (take n ps) → r ≡ declared_reply ps n
-unfolding declared_reply
-declared_few n ps r h e = rw (le-ltb 8 n h) e
-
--- ---- 18 of one slot, by the answer of `validate`
-module _ (rate index : ℕ) (s : Smoother) (r : BankAnswer) (p : ParamInfo) (e : p ≡ info_of s) (a : set_up_reply r ≡ param_reply index p) where
-  pub slot_finished : (b : Bool) → r ≡ Finished → b ≡ derived rate s → b ≡ slot_prepared rate index s
-  unfolding slot_prepared param_reply
-  slot_finished b k d = rw (no_fault (fault_of index (info_of s)) index (sym (ap set_up_reply k) ∙ a ∙ ap (param_reply index) e)) d
-
-  pub slot_refused : (why : BankRefusal) → r ≡ Refused why → false ≡ slot_prepared rate index s
-  unfolding slot_prepared param_reply
-  slot_refused why k = rw (a_fault (fault_of index (info_of s)) index why (sym (ap set_up_reply k) ∙ a ∙ ap (param_reply index) e)) refl
+    fault_more a = fault_next true (no_fault (fault_of i (get_or ps i d)) i a)

@@ -1,16 +1,16 @@
 -- The bank and its calls: what each refuses, in the table's order, and the bank afterwards.
-use Rattle.std.specs.Prelude.{ℕ, zero, suc, Bool, true, false, cond, ◌&&◌, not, List, [], ◌∷◌, eqb, leb, ltb, take, get_or, set, Float}
+use Rattle.std.specs.Prelude.{◌≡◌, ℕ, zero, suc, Bool, true, false, cond, ◌&&◌, not, List, [], ◌∷◌, Result, Ok, Err, eqb, leb, ltb, take, get_or, set, Float}
 use Rattle.std.specs.Float.Ieee.Scale.{finite}
 use Rattle.arithmetic.specs.Reply.{Reply, finished, refused, count, float}
 use Rattle.bank.specs.Param.{fault_of, fault_reply}
 use Rattle.bank.specs.Smoother.{vacant, smoother_of, slot_prepared, target_set, immediate_set, stepped, reset_one}
 use Rattle.bank.specs.Answers.{set_up_reply, param_set_reply, bank_step_reply}
+use Rattle.bank.specs.declared.param.BankRefusal.{BankRefusal}
 use Rattle.bank.specs.declared.param.ParamInfo.{ParamInfo}
 use Rattle.bank.specs.declared.smoother.Smoother.{Smoother}
 use Rattle.bank.specs.declared.smoother_bank.SmootherBank.{SmootherBank}
-use Rattle.bank.specs.declared.smoother_bank.BankSetUp.{BankSetUp}
-use Rattle.bank.specs.declared.smoother_bank.BankParamSet.{BankParamSet}
-use Rattle.bank.specs.declared.smoother_bank.BankStepped.{BankStepped}
+use Rattle.bank.specs.declared.smoother_bank.NotSetUp.{NotSetUp}
+use Rattle.bank.specs.declared.smoother_bank.ParamRefusal.{ParamRefusal}
 
 -- what a call leaves: its reply and the bank
 pub record BankLeft : Type 0 where
@@ -62,6 +62,10 @@ prepared b = b.ready && (leb b.count 8 && all_prepared b.rate 0 (take b.count b.
 -- ---- the other calls
 abbrev pub with_slots : List Smoother → SmootherBank → SmootherBank
 with_slots ss b = record { smoothers = ss; count = b.count; rate = b.rate; ready = b.ready }
+
+-- each call of a closure, where its answers are those that calls may give, answers f of the smoother
+abbrev pub Computes : (Smoother → Smoother → Type 0) → (Smoother → Smoother) → Type 0
+Computes answers f = (s r : Smoother) → answers s r → r ≡ f s
 
 -- the slot at an index
 abbrev pub slot_at : ℕ → List Smoother → Smoother
@@ -121,12 +125,17 @@ unfoldable pub bank_after : ℕ → SmootherBank → SmootherBank
 bank_after zero b = b
 bank_after (suc n) b = bank_after n (step_of b).bank
 
--- ---- what the functions answer
-abbrev pub set_up_at : BankSetUp → BankLeft
-set_up_at r = record { reply = set_up_reply r.answer; bank = r.bank }
+-- ---- what the functions answer, and the bank that they leave
+-- a refused setup leaves the bank that was never set up
+abbrev pub bank_left : Result SmootherBank BankRefusal → SmootherBank
+bank_left (Ok b) = b
+bank_left (Err why) = unset
 
-abbrev pub param_set_at : BankParamSet → BankLeft
-param_set_at r = record { reply = param_set_reply r.answer; bank = r.bank }
+abbrev pub set_up_at : Result SmootherBank BankRefusal → BankLeft
+set_up_at r = record { reply = set_up_reply r; bank = bank_left r }
 
-abbrev pub bank_stepped_at : BankStepped → BankLeft
-bank_stepped_at r = record { reply = bank_step_reply r.answer; bank = r.bank }
+abbrev pub param_set_at : Result Unit ParamRefusal → SmootherBank → BankLeft
+param_set_at r b = record { reply = param_set_reply r; bank = b }
+
+abbrev pub bank_stepped_at : Result Unit NotSetUp → SmootherBank → BankLeft
+bank_stepped_at r b = record { reply = bank_step_reply r; bank = b }

@@ -10,7 +10,6 @@ use Rattle.bank.specs.declared.param.ParamInfo.{ParamInfo}
 use Rattle.bank.specs.declared.param.Smoothing.{Smoothing}
 use Rattle.bank.specs.declared.param.Smoothing.TheVariants.{Step, Linear, OnePole}
 use Rattle.bank.specs.declared.smoother.Smoother.{Smoother}
-use Rattle.bank.specs.declared.smoother.Change.{Change}
 
 -- ---- derived values
 -- steps: ((smoothing time × 1e-3) × rate) / 32, at least 1
@@ -130,13 +129,6 @@ kept s = changed (ranged s (finite_or_zero s.cur)) s.target s.updates_remaining 
 
 unfoldable pub stepped : Smoother → Smoother
 stepped s = kept (moved s)
-
--- what a call does to a smoother
-abbrev pub applied : Change → Smoother → Smoother
-applied Change.Step s = stepped s
-applied Change.Reset s = reset_one s
-applied (Change.Target v) s = target_set v s
-applied (Change.Immediate v) s = immediate_set v s
 
 -- s after n updates
 unfoldable pub after : ℕ → Smoother → Smoother

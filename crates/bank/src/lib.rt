@@ -10,3 +10,5 @@ pub mod smoother;
 pub mod smoother_bank;
 // A smoother as words.
 pub mod words;
+// Refusals as numbers.
+pub mod numbers;

@@ -7,7 +7,7 @@ ghost use Rattle.bank.specs.Answers.{set_up_reply};
 use arithmetic::number::is_finite;
 
 // How a value ramps toward a new target.
-#[derive(Clone, Copy)]
+#[derive(Clone, Copy, Debug, PartialEq, Eq)]
 pub enum Smoothing {
     Step,
     Linear,
@@ -25,7 +25,7 @@ pub struct ParamInfo {
 }
 
 // Why a setup is refused: 1, and 2 to 6 with the index of the parameter.
-#[derive(Clone, Copy)]
+#[derive(Clone, Copy, Debug, PartialEq, Eq)]
 pub enum BankRefusal {
     TooMany,
     Id(usize),
@@ -35,63 +35,45 @@ pub enum BankRefusal {
     SmoothingTime(usize),
 }
 
-#[derive(Clone, Copy)]
-pub enum BankAnswer {
-    Finished,
-    Refused(BankRefusal),
-}
-
 fn range_holds(low: f64, high: f64) -> bool
     ensures { result ≡ range_holds low high }
 {
-    if is_finite(low) {
-        if is_finite(high) {
-            return low <= high;
-        }
-    }
-    false
+    is_finite(low) && is_finite(high) && low <= high
 }
 
 fn default_holds(low: f64, high: f64, x: f64) -> bool
     ensures { result ≡ within low high x }
 {
-    if low <= x {
-        return x <= high;
-    }
-    false
+    low <= x && x <= high
 }
 
 fn time_holds(ms: f64) -> bool
     ensures { result ≡ time_holds ms }
 {
-    if is_finite(ms) {
-        if ms > 0.0 {
-            return ms <= 10000.0;
-        }
-    }
-    false
+    is_finite(ms) && ms > 0.0 && ms <= 10000.0
 }
 
 impl ParamInfo {
     // 2 to 6, in the table's order.
-    pub fn validate(self, index: usize) -> BankAnswer
+    #[tactic(auto, unfolding(crate::specs::Param::param_reply, crate::specs::Param::fault_of))]
+    pub fn validate(self, index: usize) -> Result<(), BankRefusal>
         ensures { set_up_reply result ≡ param_reply index self }
     {
         if self.id as usize != index {
-            return BankAnswer::Refused(BankRefusal::Id(index));
+            return Err(BankRefusal::Id(index));
         }
         if !range_holds(self.low, self.high) {
-            return BankAnswer::Refused(BankRefusal::Range(index));
+            return Err(BankRefusal::Range(index));
         }
         if !is_finite(self.default) {
-            return BankAnswer::Refused(BankRefusal::DefaultNotFinite(index));
+            return Err(BankRefusal::DefaultNotFinite(index));
         }
         if !default_holds(self.low, self.high, self.default) {
-            return BankAnswer::Refused(BankRefusal::DefaultOutside(index));
+            return Err(BankRefusal::DefaultOutside(index));
         }
         if !time_holds(self.smoothing_ms) {
-            return BankAnswer::Refused(BankRefusal::SmoothingTime(index));
+            return Err(BankRefusal::SmoothingTime(index));
         }
-        BankAnswer::Finished
+        Ok(())
     }
 }

@@ -4,10 +4,10 @@ ghost use Rattle.std.specs.Prelude.{◌≡◌, true};
 ghost use Rattle.std.specs.Float.Ieee.{le};
 ghost use Rattle.arithmetic.specs.Number.{one};
 ghost use Rattle.bank.specs.Smoother.{steps_of, coeff_of, smoother_of, info_of, derived, slot_prepared, vacant};
-ghost use Rattle.bank.specs.Smoother.{target_set, immediate_set, moved, linear_moved, stepped, reset_one, applied};
+ghost use Rattle.bank.specs.Smoother.{target_set, immediate_set, moved, linear_moved, stepped, reset_one};
 
-use crate::param::{BankAnswer, ParamInfo, Smoothing};
-use arithmetic::math::{ExpAnswer, exp};
+use crate::param::{ParamInfo, Smoothing};
+use arithmetic::math::exp;
 use arithmetic::number::{abs, ceil, clamp, copysign, is_finite, max};
 use arithmetic::pattern::same_value;
 use arithmetic::sanitize::finite_or_zero;
@@ -31,15 +31,6 @@ pub struct Smoother {
     pub smoothing_ms: f64,
 }
 
-// What a call does to a smoother.
-#[derive(Clone, Copy)]
-pub enum Change {
-    Step,
-    Reset,
-    Target(f64),
-    Immediate(f64),
-}
-
 // How many updates lie in the smoothing time, at least 1.
 fn steps_of(ms: f64, rate: u32) -> f64
     ensures { result ≡ steps_of ms rate }
@@ -55,21 +46,18 @@ fn coeff_of(shape: Smoothing, steps: f64) -> f64
     match shape {
         Smoothing::Step => 1.0,
         Smoothing::Linear => 1.0,
-        Smoothing::OnePole => match exp(-1.0 / steps) {
-            ExpAnswer::Value(v) => 1.0 - v,
-            ExpAnswer::OutOfDomain => 1.0,
-        },
+        Smoothing::OnePole => 1.0 - exp(-1.0 / steps).unwrap_or(0.0),
     }
 }
 
 impl Smoother {
     // A smoother at its default. The default lies within the range, so the Rust's clamp of it changes
     // nothing.
+    #[tactic(auto, using(crate::proofs::Domain::steps_least), unfolding(crate::specs::Smoother::smoother_of))]
     pub fn new(p: ParamInfo, rate: u32) -> Smoother
         ensures { result ≡ smoother_of rate p }
     {
         let steps = steps_of(p.smoothing_ms, rate);
-        let shape = p.smoothing;
         Smoother {
             id: p.id,
             cur: p.default,
@@ -77,11 +65,11 @@ impl Smoother {
             low: p.low,
             high: p.high,
             default: p.default,
-            steps: steps,
+            steps,
             updates_remaining: 0,
             step_delta: 0.0,
-            shape: shape,
-            coeff: coeff_of(shape, steps),
+            shape: p.smoothing,
+            coeff: coeff_of(p.smoothing, steps),
             smoothing_ms: p.smoothing_ms,
         }
     }
@@ -110,41 +98,35 @@ impl Smoother {
     pub fn info(self) -> ParamInfo
         ensures { result ≡ info_of self }
     {
-        let shape = self.shape;
         ParamInfo {
             id: self.id,
             low: self.low,
             high: self.high,
             default: self.default,
             smoothing_ms: self.smoothing_ms,
-            smoothing: shape,
+            smoothing: self.shape,
         }
     }
 
     // The stored derived values are those that the settings give.
+    #[tactic(auto, using(crate::proofs::Domain::steps_least), unfolding(crate::specs::Smoother::derived))]
     fn is_derived(self, rate: u32) -> bool
         ensures { result ≡ derived rate self }
     {
         let steps = steps_of(self.smoothing_ms, rate);
-        let shape = self.shape;
-        let coeff = coeff_of(shape, steps);
-        if same_value(self.steps, steps) {
-            return same_value(self.coeff, coeff);
-        }
-        false
+        same_value(self.steps, steps) && same_value(self.coeff, coeff_of(self.shape, steps))
     }
 
     // What 18 asks of the smoother at an index: 2 to 6, and the derived values.
+    #[tactic(auto, unfolding(crate::specs::Smoother::slot_prepared, crate::specs::Param::param_reply))]
     pub fn is_prepared(self, index: usize, rate: u32) -> bool
         ensures { result ≡ slot_prepared rate index self }
     {
-        match self.info().validate(index) {
-            BankAnswer::Finished => self.is_derived(rate),
-            BankAnswer::Refused(_) => false,
-        }
+        self.info().validate(index).is_ok() && self.is_derived(rate)
     }
 
     // Sets the target, kept within the range. A target that equals the present one restarts nothing.
+    #[tactic(auto, unfolding(crate::specs::Smoother::target_set))]
     pub fn set_target(mut self, value: f64) -> Smoother
         ensures { result ≡ target_set value self }
     {
@@ -153,19 +135,15 @@ impl Smoother {
             return self;
         }
         self.target = target;
-        let shape = self.shape;
-        match shape {
-            Smoothing::Linear => {
-                self.updates_remaining = ceil(self.steps);
-                self.step_delta = abs(self.target - self.cur) / self.steps;
-                self
-            }
-            Smoothing::Step => self,
-            Smoothing::OnePole => self,
+        if self.shape == Smoothing::Linear {
+            self.updates_remaining = ceil(self.steps);
+            self.step_delta = abs(self.target - self.cur) / self.steps;
         }
+        self
     }
 
     // Sets the value and the target at once, with no ramp.
+    #[tactic(auto, unfolding(crate::specs::Smoother::immediate_set))]
     pub fn set_immediate(mut self, value: f64) -> Smoother
         ensures { result ≡ immediate_set value self }
     {
@@ -177,6 +155,7 @@ impl Smoother {
     }
 
     // Back to the default. The step size stays, as in the Rust.
+    #[tactic(auto, unfolding(crate::specs::Smoother::reset_one))]
     pub fn reset(mut self) -> Smoother
         ensures { result ≡ reset_one self }
     {
@@ -200,8 +179,8 @@ impl Smoother {
             return self;
         }
         let d = self.target - self.cur;
-        self.cur = self.cur + copysign(self.step_delta, d);
-        self.updates_remaining = self.updates_remaining - 1;
+        self.cur += copysign(self.step_delta, d);
+        self.updates_remaining -= 1;
         self
     }
 
@@ -209,21 +188,21 @@ impl Smoother {
     fn moved(mut self) -> Smoother
         ensures { result ≡ moved self }
     {
-        let shape = self.shape;
-        match shape {
+        match self.shape {
             Smoothing::Step => {
                 self.cur = self.target;
                 self
             }
             Smoothing::Linear => self.linear_moved(),
             Smoothing::OnePole => {
-                self.cur = self.cur + (self.target - self.cur) * self.coeff;
+                self.cur += (self.target - self.cur) * self.coeff;
                 self
             }
         }
     }
 
     // One update: the value goes toward its target and is kept finite and within the range.
+    #[tactic(auto, unfolding(crate::specs::Smoother::stepped))]
     pub fn step(self) -> Smoother
         ensures { result ≡ stepped self }
     {
@@ -234,30 +213,12 @@ impl Smoother {
 
     // Where it answers true, a step changes nothing: a Linear value at its target, finite and within
     // its range. It may answer false of others.
+    #[tactic(auto, using(crate::proofs::Still::linear_rests))]
     pub fn is_still(self) -> bool
         ensures { result ≡ true → stepped self ≡ self }
     {
-        let shape = self.shape;
-        match shape {
-            Smoothing::Linear => {
-                let stands = (self.cur == self.target) & (self.updates_remaining == 0);
-                let inside = !(self.cur < self.low) & !(self.cur > self.high);
-                stands & (inside & is_finite(self.cur))
-            }
-            Smoothing::Step => false,
-            Smoothing::OnePole => false,
-        }
-    }
-
-    // What a call does to this smoother.
-    pub fn apply(self, change: Change) -> Smoother
-        ensures { result ≡ applied change self }
-    {
-        match change {
-            Change::Step => self.step(),
-            Change::Reset => self.reset(),
-            Change::Target(value) => self.set_target(value),
-            Change::Immediate(value) => self.set_immediate(value),
-        }
+        let stands = (self.cur == self.target) & (self.updates_remaining == 0);
+        let inside = !(self.cur < self.low) & !(self.cur > self.high);
+        (self.shape == Smoothing::Linear) & stands & inside & is_finite(self.cur)
     }
 }

@@ -1,5 +1,5 @@
 // A smoother as twelve words (specs/Words.antt), for whoever keeps or lends a bank as numbers.
-ghost use Rattle.std.specs.Prelude.{◌≡◌, cond, ◌+◌, ◌<◌, ◌≤◌, length};
+ghost use Rattle.std.specs.Prelude.{◌≡◌, ◌+◌, ◌<◌, ◌≤◌, length};
 ghost use Rattle.bank.specs.Words.{float_in, half_in, shape_of, smoother_in, shape_word, smoother_out};
 
 use crate::param::Smoothing;
@@ -22,16 +22,29 @@ pub fn half_in(words: &[u64], k: usize) -> u32
     (words[k] % 4294967296) as u32
 }
 
-fn shape_of(word: u64) -> Smoothing
-    ensures { result ≡ shape_of word }
-{
-    if word == 0 {
-        return Smoothing::Step;
+// Any word is a shape, as `shape_of` has it: a state's is judged before (`is_held`).
+impl From<u64> for Smoothing {
+    ghost from_gives = { λ word shape. shape ≡ shape_of word };
+
+    fn from(word: u64) -> Smoothing {
+        match word {
+            0 => Smoothing::Step,
+            1 => Smoothing::Linear,
+            _ => Smoothing::OnePole,
+        }
     }
-    if word == 1 {
-        return Smoothing::Linear;
+}
+
+impl From<Smoothing> for u64 {
+    ghost from_gives = { λ shape word. word ≡ shape_word shape };
+
+    fn from(shape: Smoothing) -> u64 {
+        match shape {
+            Smoothing::Step => 0,
+            Smoothing::Linear => 1,
+            Smoothing::OnePole => 2,
+        }
     }
-    Smoothing::OnePole
 }
 
 // The smoother from a place on.
@@ -39,7 +52,6 @@ pub fn smoother_in(words: &[u64], k: usize) -> Smoother
     requires { k + 12 ≤ length words.now }
     ensures { result ≡ smoother_in words.now k }
 {
-    let shape = shape_of(words[k + 9]);
     Smoother {
         id: half_in(words, k),
         cur: float_in(words, k + 1),
@@ -50,36 +62,18 @@ pub fn smoother_in(words: &[u64], k: usize) -> Smoother
         steps: float_in(words, k + 6),
         updates_remaining: words[k + 7],
         step_delta: float_in(words, k + 8),
-        shape,
+        shape: Smoothing::from(words[k + 9]),
         coeff: float_in(words, k + 10),
         smoothing_ms: float_in(words, k + 11),
     }
 }
 
-fn shape_word(shape: Smoothing) -> u64
-    ensures { result ≡ shape_word shape }
-{
-    match shape {
-        Smoothing::Step => 0,
-        Smoothing::Linear => 1,
-        Smoothing::OnePole => 2,
-    }
-}
-
-// A yes as 1, a no as 0.
-pub fn flag(yes: bool) -> u64
-    ensures { result ≡ cond yes 1 0 }
-{
-    if yes { 1 } else { 0 }
-}
-
+// The words that `smoother_in` reads. It reads them at a place among others, so it is no `From`, nor is this, its like.
 pub fn smoother_out(s: Smoother) -> [u64; 12]
     ensures { result ≡ smoother_out s }
 {
-    let shape = s.shape;
-    let shape_at = shape_word(shape);
     [
-        s.id as u64,
+        u64::from(s.id),
         to_bits(s.cur),
         to_bits(s.target),
         to_bits(s.low),
@@ -88,7 +82,7 @@ pub fn smoother_out(s: Smoother) -> [u64; 12]
         to_bits(s.steps),
         s.updates_remaining,
         to_bits(s.step_delta),
-        shape_at,
+        u64::from(s.shape),
         to_bits(s.coeff),
         to_bits(s.smoothing_ms),
     ]

@@ -6,6 +6,7 @@ use mathlib.Core.Bool.{true, false}
 use mathlib.Core.List.{List, [], ◌∷◌}
 use lib.ListN.{length, replicate}
 use lib.Ieee.{Float, of_bits, to_bits, to_unsigned, lt, le, eq, ne, is_nan, neg, add, sub, mul, div, of_int}
+use Rattle.std.proofs.Common.{None}
 use Rattle.arithmetic.specs.Number
 use Rattle.arithmetic.specs.Number.{bits, one}
 use Rattle.arithmetic.specs.Exp.{exp_of}
@@ -27,7 +28,6 @@ use Rattle.settings.specs.Target.{target_of}
 use Rattle.settings.specs.Weights.{accepted}
 use Rattle.settings.specs.declared.LimiterSettings.{LimiterSettings}
 use Rattle.settings.specs.declared.ProcessSpec.{ProcessSpec}
-use Rattle.settings.specs.declared.memory.Cap.{Cap}
 use Rattle.limiter.specs.State.{fresh_envelope}
 use Rattle.limiter.specs.Stores.{Stores, stores_at}
 use Rattle.limiter.specs.Prepare.{prepare_of}
@@ -120,7 +120,7 @@ abbrev pub settings_in : Start → LimiterSettings
 settings_in s = settings_of Number.zero Number.zero s.lookahead s.release s.left_out_mask
 
 abbrev pub spec_in : Start → ProcessSpec
-spec_in s = process_spec 8000 s.channels 64 Cap.Unlimited false
+spec_in s = process_spec 8000 s.channels 64 None false
 
 abbrev pub stores_in : Start → Stores
 stores_in s =

@@ -8,6 +8,7 @@ use lib.Dec.{eqb}
 use lib.ListN.{length, replicate}
 use lib.Ieee.{Float, nan, of_bits, lt, le, mul, of_int}
 use borrow.Author.Tests.{eqb-true, eq-eqb, ne_eqb}
+use Rattle.std.proofs.Common.{None}
 use Rattle.arithmetic.specs.Reply.{Reply, finished, numbered, unless}
 use Rattle.arithmetic.proofs.Order.{and-true}
 use Rattle.settings.specs.Settings.{defaults}
@@ -15,7 +16,6 @@ use Rattle.settings.specs.Derived.{look_of, row_of}
 use Rattle.settings.specs.Weights.{accepted}
 use Rattle.settings.specs.House.{Stretch, stretches, house_start, house_fits, house_of}
 use Rattle.settings.specs.Accepted.{refusal_of}
-use Rattle.settings.specs.declared.memory.Cap.{Cap}
 use Rattle.settings.proofs.Stretches.{all, house_accepted}
 use Rattle.limiter.specs.Stores.{Stores, lengths_of}
 use Rattle.limiter.specs.Prepare.{stores_refusal}
@@ -78,7 +78,7 @@ no_house : (stores : Stores) → (asking (looking ms1·52) 48000 stores).reply �
 unfolding setup_of set_up_of declared_reply first_fault fault_of house_start mul of_int of_bits lt le
 no_house stores = prepare_replies _ _ stores
 
-not_a_number : (x : Float) (mark : ℕ) → (setup_of defaults (stereo Cap.Unlimited) (lent 2 72 (replicate 61 nan) x mark)).reply ≡ numbered 17
+not_a_number : (x : Float) (mark : ℕ) → (setup_of defaults (stereo None) (lent 2 72 (replicate 61 nan) x mark)).reply ≡ numbered 17
 unfolding setup_of set_up_of declared_reply first_fault fault_of accepted mul of_int of_bits lt le
 not_a_number x mark = prepare_replies _ _ (lent 2 72 (replicate 61 nan) x mark)
 

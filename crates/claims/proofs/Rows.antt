@@ -5,6 +5,7 @@ use mathlib.Core.Bool.{true}
 use mathlib.Core.List.{List, [], ◌∷◌, map}
 use lib.ListN.{replicate}
 use lib.Ieee.{Float, lt, le, of_bits, mul, of_int}
+use Rattle.std.proofs.Common.{Option, Some, None}
 use Rattle.arithmetic.specs.Reply.{Reply, finished, refused, numbered, float, count}
 use Rattle.audio.specs.Format.{size_of}
 use Rattle.audio.specs.declared.format.Format.TheVariants.{F64}
@@ -12,7 +13,6 @@ use Rattle.keeper.proofs.Rows.{gains_count, half_then_ones, set_up11}
 use Rattle.settings.specs.Settings.{defaults}
 use Rattle.settings.specs.Derived.{look_of}
 use Rattle.settings.proofs.Rows.{default_look, default_row, default_bytes, shortest, longest, too_short, too_long}
-use Rattle.settings.specs.declared.memory.Cap.{Cap}
 use Rattle.limiter.specs.Stores.{Stores, lengths_of}
 use Rattle.limiter.specs.Prepare.{stores_refusal}
 use Rattle.bank.specs.Param.{fault_of}
@@ -36,7 +36,7 @@ four_looks : map (λ (ms : Float). look_of ms 48000) (ms0·22 ∷ ms85·34 ∷ m
 four_looks = rw (shortest, longest, too_short, too_long) refl
 
 module _ (stores : Stores) where
-  passes : capped_at 4336 stores ≡ numbered (stores_refusal (stereo Cap.Unlimited) 72 (lengths_of stores) stores.weights)
+  passes : capped_at 4336 stores ≡ numbered (stores_refusal (stereo None) 72 (lengths_of stores) stores.weights)
   unfolding Calls.setup_of set_up_of declared_reply first_fault fault_of mul of_int of_bits lt le
   passes = prepare_replies _ _ stores
 
@@ -48,11 +48,11 @@ module _ (stores : Stores) where
   unfolding Calls.setup_of set_up_of declared_reply first_fault fault_of of_bits lt le
   over_7 = refl
 
-  pass_11 : looking_at ms0·22 stores ≡ numbered (stores_refusal (stereo Cap.Unlimited) 11 (lengths_of stores) stores.weights)
+  pass_11 : looking_at ms0·22 stores ≡ numbered (stores_refusal (stereo None) 11 (lengths_of stores) stores.weights)
   unfolding Calls.setup_of set_up_of declared_reply first_fault fault_of mul of_int of_bits lt le
   pass_11 = prepare_replies _ _ stores
 
-  pass_4096 : looking_at ms85·34 stores ≡ numbered (stores_refusal (stereo Cap.Unlimited) 4096 (lengths_of stores) stores.weights)
+  pass_4096 : looking_at ms85·34 stores ≡ numbered (stores_refusal (stereo None) 4096 (lengths_of stores) stores.weights)
   unfolding Calls.setup_of set_up_of declared_reply first_fault fault_of mul of_int of_bits lt le
   pass_4096 = prepare_replies _ _ stores
 
@@ -103,7 +103,7 @@ unfolding aimed_bank
 ramp_lands = minus_one_to_minus_four.0
 
 -- ---- the drains, by the claim: the book's replies compute
-module _ (cap : Cap) (stores : Stores) where
+module _ (cap : Option ℕ) (stores : Stores) where
   abbrev start : Calls.Left
   start = Calls.setup_of defaults (stereo cap) stores
 
@@ -139,7 +139,7 @@ starred = record {
   steps_33 = one_step;
   ramp_8 = ramp_lands;
   ramp_7 = not_yet;
-  drains = λ x mark. drains_reply (Cap.Bytes 4336) (lent72 x mark) (ap (λ (r : Reply). r.number) (cap_finished x mark));
+  drains = λ x mark. drains_reply (Some 4336) (lent72 x mark) (ap (λ (r : Reply). r.number) (cap_finished x mark));
   drains_after = drains_reply;
   floors = Rows.starred;
 }

@@ -7,6 +7,7 @@ use native.Mathlib.Omega.{arith}
 use lib.ListN.{get_or, drop, replicate}
 use lib.Ieee.{nan, binary64, of_bits, to_bits, lt, le, mul, of_int}
 use borrow.Author.Tests.{eqb-false}
+use Rattle.std.proofs.Common.{Some, None}
 use Rattle.arithmetic.specs.Number
 use Rattle.arithmetic.specs.Number.{bits, one}
 use Rattle.arithmetic.specs.Reply.{Value, count, float, Reply}
@@ -15,7 +16,6 @@ use Rattle.settings.specs.Settings.{settings_of, all_count, process_spec, defaul
 use Rattle.settings.specs.Weights.{accepted}
 use Rattle.settings.specs.HouseTable.{house, at44100, at48000, at96000, at192000}
 use Rattle.settings.specs.House.{house_start}
-use Rattle.settings.specs.declared.memory.Cap.{Cap}
 use Rattle.limiter.specs.Stores.{Stores, stores_at}
 use Rattle.limiter.specs.Prepare.{prepare_of}
 use Rattle.bank.specs.Param.{fault_of}
@@ -53,18 +53,18 @@ pub no_margin_first : Claim margin_first → ⊥
 unfolding setting_up tabled
 no_margin_first claim =
     eqb-false 9 8 refl
-    (ap (λ (r : Reply). r.number) (claim.setup_answered (settings_of Number.zero (bits 0xbff0_0000_0000_0000) one one all_count) (process_spec 0 1 64 Cap.Unlimited false) no_stores))
+    (ap (λ (r : Reply). r.number) (claim.setup_answered (settings_of Number.zero (bits 0xbff0_0000_0000_0000) one one all_count) (process_spec 0 1 64 None false) no_stores))
 
 -- 2: the starred row, a cap of 4,335: the cap left is 4,255
 pub no_whole_cap_told : Claim whole_cap_told → ⊥
 unfolding setting_up tabled
 no_whole_cap_told claim =
-    eqb-false 4335 4255 refl (ap (λ (r : Reply). count_of (get_or r.values 1 (count 0))) (claim.setup_answered defaults (stereo (Cap.Bytes 4335)) no_stores))
+    eqb-false 4335 4255 refl (ap (λ (r : Reply). count_of (get_or r.values 1 (count 0))) (claim.setup_answered defaults (stereo (Some 4335)) no_stores))
 
 -- 3: a cap of 0 is over by the bank's bytes alone: 7, where the stores' lengths are the first that this limiter refuses
 pub no_zero_uncapped : Claim zero_uncapped → ⊥
 unfolding setting_up tabled
-no_zero_uncapped claim = eqb-false 16 7 refl (ap (λ (r : Reply). r.number) (claim.setup_answered defaults (stereo (Cap.Bytes 0)) no_stores))
+no_zero_uncapped claim = eqb-false 16 7 refl (ap (λ (r : Reply). r.number) (claim.setup_answered defaults (stereo (Some 0)) no_stores))
 
 -- 4: a weight of 0 is refused, and then a parameter call is finished
 abbrev no_weight : Stores
@@ -80,14 +80,14 @@ pub no_empty_unjudged : Claim empty_unjudged → ⊥
 unfolding setting_up
 no_empty_unjudged claim =
     eqb-false 0 18 refl
-    (ap (λ (r : Reply). r.number) (claim.refused_after defaults (process_spec 0 1 64 Cap.Unlimited false) no_stores (λ z. omega arith) (block F64 0 0 [] [] ∷ [])).0.reply)
+    (ap (λ (r : Reply). r.number) (claim.refused_after defaults (process_spec 0 1 64 None false) no_stores (λ z. omega arith) (block F64 0 0 [] [] ∷ [])).0.reply)
 
 -- 6: and then a NaN for the threshold is told
 pub no_value_first : Claim value_first → ⊥
 unfolding setting_up
 no_value_first claim =
     eqb-false 23 18 refl
-    (ap (λ (r : Reply). r.number) (claim.refused_after defaults (process_spec 0 1 64 Cap.Unlimited false) no_stores (λ z. omega arith) (parameter 0 nan ∷ [])).0.reply)
+    (ap (λ (r : Reply). r.number) (claim.refused_after defaults (process_spec 0 1 64 None false) no_stores (λ z. omega arith) (parameter 0 nan ∷ [])).0.reply)
 
 -- 7: look 14, mono; weights of 1/8, 1/4 and 5/8, which sum up and rise late
 abbrev late : Stores
@@ -106,11 +106,11 @@ pub no_lengths_first : Claim lengths_first → ⊥
 unfolding setting_up tabled house_start
 no_lengths_first claim =
     eqb-false 16 29 refl
-    (ap (λ (r : Reply). r.number) (claim.setup_answered (settings_of Number.zero Number.zero ms1·52 Number.zero all_count) (process_spec 48000 1 64 Cap.Unlimited true) no_stores))
+    (ap (λ (r : Reply). r.number) (claim.setup_answered (settings_of Number.zero Number.zero ms1·52 Number.zero all_count) (process_spec 48000 1 64 None true) no_stores))
 
 -- 9: at 48,000, look 72: the first weight, of which the bits are compared
 pub no_house_late : Claim house_late → ⊥
 unfolding setting_up house_start house at44100 at48000 at96000 at192000 to_bits
 no_house_late claim =
     eqb-false (to_bits binary64 (get_or (drop 56 house) 0 nan)) (to_bits binary64 (get_or (drop 55 house) 0 nan)) refl
-    (ap (λ (t : Stores). to_bits binary64 (get_or t.weights 0 nan)) (claim.setup_fills defaults (process_spec 48000 1 64 Cap.Unlimited true) (lent 1 72 (replicate 61 nan) Number.zero 0) refl))
+    (ap (λ (t : Stores). to_bits binary64 (get_or t.weights 0 nan)) (claim.setup_fills defaults (process_spec 48000 1 64 None true) (lent 1 72 (replicate 61 nan) Number.zero 0) refl))

@@ -7,6 +7,7 @@ use native.Mathlib.Omega.{arith}
 use lib.ListN.{length, replicate, length-replicate}
 use lib.Ieee.{Float}
 use borrow.Author.Tests.{ne_eqb}
+use Rattle.std.proofs.Common.{Option, None}
 use Rattle.arithmetic.specs.Number
 use Rattle.arithmetic.specs.Number.{one}
 use Rattle.arithmetic.specs.Reply.{numbered, unless}
@@ -16,7 +17,6 @@ use Rattle.settings.specs.Settings.{process_spec}
 use Rattle.settings.specs.Derived.{look_of, row_of, coefficient_of}
 use Rattle.frame.specs.Rules.{Linking, linking_of}
 use Rattle.settings.specs.declared.ProcessSpec.{ProcessSpec}
-use Rattle.settings.specs.declared.memory.Cap.{Cap}
 use Rattle.frame.specs.Run.{moving_at}
 use Rattle.limiter.specs.State.{fresh_envelope, spec_of}
 use Rattle.limiter.specs.Stores.{lengths_of, cleared}
@@ -59,7 +59,7 @@ module _ (linking : Linking) (look channels : ℕ) (marks : List ℕ) (minima we
 
 -- ---- a reset
 -- what setup was told, with any cap and asked for a house table or not
-abbrev spec_with : Limiter → Cap → Bool → ProcessSpec
+abbrev spec_with : Limiter → Option ℕ → Bool → ProcessSpec
 spec_with l cap house = process_spec l.rate l.channels l.max_block cap house
 
 pub reset_answers : (m : Machine) → (reset_of m).reply ≡ numbered (reset_refusal m)
@@ -109,7 +109,7 @@ module _ (m : Machine) (passed : reset_refusal m ≡ 0) where
       let o = reset_set_up.one in
       record { slots = rw (o.count, o.slots) refl; count = o.count; ready = o.ready }
 
-  reset_tied : (cap : Cap) (house : Bool) → Tied (opened m.limiter.settings (spec_with m.limiter cap house) m.stores.weights (reset_one (threshold_of m.bank))) (reset_done m)
+  reset_tied : (cap : Option ℕ) (house : Bool) → Tied (opened m.limiter.settings (spec_with m.limiter cap house) m.stores.weights (reset_one (threshold_of m.bank))) (reset_done m)
   unfolding Reset.reset_of
   reset_tied cap house =
       let l = m.limiter in
@@ -149,7 +149,7 @@ module _ (m : Machine) (passed : reset_refusal m ≡ 0) where
   unfolding reset_of
   reset_opened =
       rw passed
-      (subst (λ (s : Smoother). Tied (opened m.limiter.settings (spec_of m.limiter) m.stores.weights s) (reset_done m)) (sym reset_first) (reset_tied Cap.Unlimited false))
+      (subst (λ (s : Smoother). Tied (opened m.limiter.settings (spec_of m.limiter) m.stores.weights s) (reset_done m)) (sym reset_first) (reset_tied None false))
 
 -- ---- the call, on state and stores that are tied to the book
 module _ (drops : ℕ) (b : Book) (m : Machine) (t : Tied b m) (n : CountedIn drops b m) where

@@ -9,6 +9,7 @@ use lib.ListN.{length, take, drop, replicate}
 use lib.Ieee.{Float, of_bits, lt, le}
 use lib.Ieee.Scale.{finite}
 use borrow.Author.Tests.{leb-true, leb-false, lt-ltb, le-ltb, eqb-true, eqb-false, ne_eqb, not-true, not-false}
+use Rattle.std.proofs.Common.{Option, Some, None, Result, Ok, Err}
 use Rattle.arithmetic.specs.Number
 use Rattle.arithmetic.specs.Number.{within}
 use Rattle.arithmetic.specs.Reply.{Reply, finished, refused, numbered, count, unless, and_then}
@@ -21,8 +22,7 @@ use Rattle.settings.specs.House.{house_end, house_start, house_fits}
 use Rattle.settings.specs.Accepted.{rate_taken, margin_taken, lookahead_taken, release_taken, channels_taken, block_taken, refusal_of}
 use Rattle.settings.specs.declared.LimiterSettings.{LimiterSettings}
 use Rattle.settings.specs.declared.ProcessSpec.{ProcessSpec}
-use Rattle.settings.specs.declared.memory.Cap.{Cap}
-use Rattle.settings.specs.declared.memory.CapJudged.{CapJudged}
+use Rattle.settings.specs.declared.memory.OverCap.{OverCap}
 use Rattle.settings.proofs.Taken.{taken}
 use Rattle.limiter.specs.Stores.{Stores, lengths_of, lengths_fit}
 use Rattle.limiter.specs.Prepare.{stores_refusal, prepare_refusal, LimiterLeft, limiter_left, prepare_of}
@@ -156,19 +156,19 @@ bank_answered declarations n rate = ap (λ (r : Reply). cond (ltb 8 n) (refused 
 
 -- ---- the limiter's share
 -- 7 and 15
-cap_row : (n need : ℕ) (cap : Cap) (rows : List Row) → first_arising (over_cap (suc n) need cap ∷ rows) ≡ and_then (cap_reply (suc n) (cap_judged need cap)) (first_arising rows)
+cap_row : (n need : ℕ) (cap : Option ℕ) (rows : List Row) → first_arising (over_cap (suc n) need cap ∷ rows) ≡ and_then (cap_reply (suc n) (cap_judged need cap)) (first_arising rows)
 unfolding first_arising
-cap_row n need Cap.Unlimited rows = refl
-cap_row n need (Cap.Bytes cap) rows = rw (over-is need cap) (go (leb need cap))
+cap_row n need None rows = refl
+cap_row n need (Some cap) rows = rw (over-is need cap) (go (leb need cap))
   where
     go : (t : Bool) → cond (not t) (refused (suc n) (count need ∷ count cap ∷ [])) (first_arising rows)
-        ≡ and_then (cap_reply (suc n) (cond t CapJudged.Passed (CapJudged.Over need cap))) (first_arising rows)
+        ≡ and_then (cap_reply (suc n) (cond {A = Result (Unit {0}) OverCap} t (Ok tt) (Err (record { needed = need; cap = cap })))) (first_arising rows)
     go true = refl
     go false = rw (ne_eqb (suc n) 0 (λ z. omega arith)) refl
 
-rest-is : (cap : Cap) → rest cap ≡ left_of bank_bytes cap
-rest-is Cap.Unlimited = refl
-rest-is (Cap.Bytes cap) = refl
+rest-is : (cap : Option ℕ) → rest cap ≡ left_of bank_bytes cap
+rest-is None = refl
+rest-is (Some cap) = refl
 
 margin_row : (m : Float) → (not (finite m) || lt m Number.zero || lt plus30 m) ≡ not (margin_taken m)
 margin_row m = rw (not_not_and (finite m) (lt m Number.zero)) (not_not_and (finite m && not (lt m Number.zero)) (lt plus30 m))
@@ -237,7 +237,7 @@ module _ (s : LimiterSettings) (spec : ProcessSpec) (stores : Stores) where
       ≡ and_then (cap_reply 15 (cap_judged (needed spec.channels look) (left_of bank_bytes spec.cap))) (numbered (stores_refusal spec look (lengths_of stores) stores.weights))
   left_rows z =
       cap_row 14 (limiter_needs spec.channels look) (rest spec.cap) (drop 9 (limiter_rows s spec stores))
-      ∙ ap (λ (cap : Cap). and_then (cap_reply 15 (cap_judged (limiter_needs spec.channels look) cap)) (first_arising (drop 9 (limiter_rows s spec stores)))) (rest-is spec.cap)
+      ∙ ap (λ (cap : Option ℕ). and_then (cap_reply 15 (cap_judged (limiter_needs spec.channels look) cap)) (first_arising (drop 9 (limiter_rows s spec stores)))) (rest-is spec.cap)
       ∙ ap (λ (need : ℕ). and_then (cap_reply 15 (cap_judged need (left_of bank_bytes spec.cap))) (first_arising (drop 9 (limiter_rows s spec stores)))) (needs_is z)
       ∙ ap (λ (r : Reply). and_then (cap_reply 15 (cap_judged (needed spec.channels look) (left_of bank_bytes spec.cap))) r) stores_rows
 
@@ -369,9 +369,9 @@ read_off rows c = record {
 }
 
 -- the limiter's setup: eighteen rows, in this order
-over_number : (number need : ℕ) (cap : Cap) → (over_cap number need cap).number ≡ number
-over_number number need Cap.Unlimited = refl
-over_number number need (Cap.Bytes cap) = refl
+over_number : (number need : ℕ) (cap : Option ℕ) → (over_cap number need cap).number ≡ number
+over_number number need None = refl
+over_number number need (Some cap) = refl
 
 pub setup_numbers_lem : (s : LimiterSettings) (spec : ProcessSpec) (stores : Stores) → numbers_of (setup_table s spec stores) ≡ setup_numbers
 unfolding parameter_rows

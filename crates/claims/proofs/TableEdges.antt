@@ -3,13 +3,13 @@ use mathlib.Core.Path.{◌≡◌, refl}
 use mathlib.Core.Bool.{true, false}
 use mathlib.Core.List.{[], ◌∷◌, map}
 use lib.Ieee.{Float, nan, inf, of_bits, lt, mul, of_int}
+use Rattle.std.proofs.Common.{Some, None}
 use Rattle.arithmetic.specs.Number
 use Rattle.arithmetic.specs.Number.{bits}
 use Rattle.arithmetic.specs.Reply.{Reply, refused, numbered, count}
 use Rattle.settings.specs.Settings.{settings_of, all_count, process_spec, defaults}
 use Rattle.settings.specs.declared.LimiterSettings.{LimiterSettings}
 use Rattle.settings.specs.declared.ProcessSpec.{ProcessSpec}
-use Rattle.settings.specs.declared.memory.Cap.{Cap}
 use Rattle.limiter.specs.Stores.{stores_at}
 use Rattle.claims.specs.Table.{first_arising, parameter_rows, setup_table}
 
@@ -17,7 +17,7 @@ abbrev reply_to : LimiterSettings → ProcessSpec → Reply
 reply_to s spec = first_arising (setup_table s spec (stores_at [] [] [] [] [] []))
 
 abbrev set_to : LimiterSettings → Reply
-set_to s = reply_to s (process_spec 48000 2 512 Cap.Unlimited false)
+set_to s = reply_to s (process_spec 48000 2 512 None false)
 
 abbrev minus_zero : Float
 minus_zero = bits 0x8000_0000_0000_0000
@@ -53,16 +53,16 @@ releases = refl
 
 -- 8, 13 and 14: rates 0, 7,999 and 192,001; channels 0 and 9, 1 and 8 pass; a largest block of 65,537, 0 and 65,536 pass
 specs : map (λ (spec : ProcessSpec). reply_to defaults spec)
-    (process_spec 0 2 512 Cap.Unlimited false ∷ process_spec 7999 2 512 Cap.Unlimited false ∷ process_spec 192001 2 512 Cap.Unlimited false ∷ process_spec 192000 2 512 Cap.Unlimited false
-    ∷ process_spec 48000 0 512 Cap.Unlimited false ∷ process_spec 48000 9 512 Cap.Unlimited false ∷ process_spec 48000 1 512 Cap.Unlimited false ∷ process_spec 48000 8 512 Cap.Unlimited false
-    ∷ process_spec 48000 2 65537 Cap.Unlimited false ∷ process_spec 48000 2 0 Cap.Unlimited false ∷ process_spec 48000 2 65536 Cap.Unlimited false ∷ [])
+    (process_spec 0 2 512 None false ∷ process_spec 7999 2 512 None false ∷ process_spec 192001 2 512 None false ∷ process_spec 192000 2 512 None false
+    ∷ process_spec 48000 0 512 None false ∷ process_spec 48000 9 512 None false ∷ process_spec 48000 1 512 None false ∷ process_spec 48000 8 512 None false
+    ∷ process_spec 48000 2 65537 None false ∷ process_spec 48000 2 0 None false ∷ process_spec 48000 2 65536 None false ∷ [])
     ≡ numbered 8 ∷ numbered 8 ∷ numbered 8 ∷ numbered 16 ∷ numbered 13 ∷ numbered 13 ∷ numbered 16 ∷ numbered 16 ∷ numbered 14 ∷ numbered 16 ∷ numbered 16 ∷ []
 unfolding first_arising parameter_rows of_bits lt mul of_int
 specs = refl
 
 -- 7 before 8, with needed and cap: caps 0 and 79; a cap of 80 leaves 0: 15, after 8 to 14
 caps : map (λ (spec : ProcessSpec). reply_to defaults spec)
-    (process_spec 0 2 512 (Cap.Bytes 0) false ∷ process_spec 48000 2 512 (Cap.Bytes 79) false ∷ process_spec 48000 2 512 (Cap.Bytes 80) false ∷ process_spec 48000 9 512 (Cap.Bytes 80) false ∷ [])
+    (process_spec 0 2 512 (Some 0) false ∷ process_spec 48000 2 512 (Some 79) false ∷ process_spec 48000 2 512 (Some 80) false ∷ process_spec 48000 9 512 (Some 80) false ∷ [])
     ≡ refused 7 (count 80 ∷ count 0 ∷ []) ∷ refused 7 (count 80 ∷ count 79 ∷ []) ∷ refused 15 (count 4256 ∷ count 0 ∷ []) ∷ numbered 13 ∷ []
 unfolding first_arising parameter_rows of_bits lt mul of_int
 caps = refl

@@ -1,5 +1,5 @@
 -- Rows on document 02's Change 6, as the starred rows of document 01 are written. That all of them hold is one claim: `housed`, proofs/HouseRows.antt.
-use Rattle.std.specs.Prelude.{ℕ, ◌+◌, ◌≡◌, true, List, [], ◌∷◌, length, replicate, Float}
+use Rattle.std.specs.Prelude.{ℕ, ◌+◌, ◌≡◌, true, List, [], ◌∷◌, length, replicate, Float, None}
 use Rattle.std.specs.Float.{nan}
 use Rattle.arithmetic.specs.Number.{bits}
 use Rattle.arithmetic.specs.Reply.{finished, numbered}
@@ -9,7 +9,6 @@ use Rattle.settings.specs.Weights.{accepted}
 use Rattle.settings.specs.House.{Stretch, stretches, house_of}
 use Rattle.settings.specs.declared.LimiterSettings.{LimiterSettings}
 use Rattle.settings.specs.declared.ProcessSpec.{ProcessSpec}
-use Rattle.settings.specs.declared.memory.Cap.{Cap}
 use Rattle.limiter.specs.Stores.{Stores}
 use Rattle.driver.specs.Calls.{Left, setup_of}
 use Rattle.claims.specs.Rows.{stereo, looking, lent}
@@ -20,7 +19,7 @@ ms1·52 = bits 0x3ff8_51eb_851e_b852
 
 -- a setup that asks for a house table, stereo, a largest block of 512
 abbrev pub asked : ℕ → ProcessSpec
-asked rate = process_spec rate 2 512 Cap.Unlimited true
+asked rate = process_spec rate 2 512 None true
 
 abbrev pub asking : LimiterSettings → ℕ → Stores → Left
 asking s rate stores = setup_of s (asked rate) stores
@@ -52,4 +51,4 @@ pub record HouseRows : Type 0 where
   -- a store one too short gives 16 where 29 does not arise; where it does, `none_fits`
   pub too_short : (x : Float) (mark : ℕ) → Each (TooShort x mark) stretches
   -- asked for nothing, a store full of NaN gives 17
-  pub not_asked : (x : Float) (mark : ℕ) → (setup_of defaults (stereo Cap.Unlimited) (lent 2 72 (replicate 61 nan) x mark)).reply ≡ numbered 17
+  pub not_asked : (x : Float) (mark : ℕ) → (setup_of defaults (stereo None) (lent 2 72 (replicate 61 nan) x mark)).reply ≡ numbered 17

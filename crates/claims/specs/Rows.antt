@@ -1,5 +1,5 @@
 -- Document 01's starred rows, one list, in its order. That all of them hold is one claim: `starred`, proofs/Rows.antt.
-use Rattle.std.specs.Prelude.{ℕ, ◌+◌, ◌*◌, ◌≡◌, true, false, List, [], ◌∷◌, map, replicate, Float}
+use Rattle.std.specs.Prelude.{ℕ, ◌+◌, ◌*◌, ◌≡◌, true, false, List, [], ◌∷◌, map, replicate, Float, Option, Some, None}
 use Rattle.std.specs.Float.{nan, inf}
 use Rattle.std.specs.Float.Ieee.{lt}
 use Rattle.arithmetic.specs.Number.{bits, zero, one}
@@ -13,7 +13,6 @@ use Rattle.settings.specs.Derived.{look_of, row_of}
 use Rattle.settings.specs.Memory.{needed}
 use Rattle.settings.specs.House.{house_of}
 use Rattle.settings.specs.declared.LimiterSettings.{LimiterSettings}
-use Rattle.settings.specs.declared.memory.Cap.{Cap}
 use Rattle.settings.specs.declared.ProcessSpec.{ProcessSpec}
 use Rattle.limiter.specs.Stores.{Stores, stores_at, lengths_of}
 use Rattle.limiter.specs.Prepare.{stores_refusal}
@@ -35,18 +34,18 @@ abbrev pub tells : Float → ℕ → ℕ → Reply
 tells floor dropped kept = finished (float floor ∷ count dropped ∷ count kept ∷ [])
 
 -- 48,000, stereo, a largest block of 512
-abbrev pub stereo : Cap → ProcessSpec
+abbrev pub stereo : Option ℕ → ProcessSpec
 stereo cap = process_spec 48000 2 512 cap false
 
 -- what setup replies there: by default, with a cap; and with another lookahead
 abbrev pub capped_at : ℕ → Stores → Reply
-capped_at cap stores = (Calls.setup_of defaults (stereo (Cap.Bytes cap)) stores).reply
+capped_at cap stores = (Calls.setup_of defaults (stereo (Some cap)) stores).reply
 
 abbrev pub looking : Float → LimiterSettings
 looking ms = settings_of defaults.threshold_db defaults.true_peak_margin_db ms defaults.release_ms all_count
 
 abbrev pub looking_at : Float → Stores → Reply
-looking_at ms stores = (Calls.setup_of (looking ms) (stereo Cap.Unlimited) stores).reply
+looking_at ms stores = (Calls.setup_of (looking ms) (stereo None) stores).reply
 
 -- stores of the right lengths with these weights, all else in them any one value and any one mark
 abbrev pub lent : ℕ → ℕ → List Float → Float → ℕ → Stores
@@ -115,14 +114,14 @@ pub record Starred : Type 0 where
   pub default_bytes : needed 2 72 ≡ 4256
   -- * Cap 4,336 passes (on stores that fit, with the Rust's own weights; on any stores, what is left to judge are these: 16 and 17); 4,335 gives 15 (4,256, 4,255); 79 gives 7 (80, 79).
   pub cap_passes : (x : Float) (mark : ℕ) → capped_at 4336 (lent72 x mark) ≡ finished []
-  pub cap_judges : (stores : Stores) → capped_at 4336 stores ≡ numbered (stores_refusal (stereo Cap.Unlimited) 72 (lengths_of stores) stores.weights)
+  pub cap_judges : (stores : Stores) → capped_at 4336 stores ≡ numbered (stores_refusal (stereo None) 72 (lengths_of stores) stores.weights)
   pub cap_15 : (stores : Stores) → capped_at 4335 stores ≡ refused 15 (count 4256 ∷ count 4255 ∷ [])
   pub cap_7 : (stores : Stores) → capped_at 79 stores ≡ refused 7 (count 80 ∷ count 79 ∷ [])
   -- * At 48,000: 0.22 ms gives look 11, 85.34 gives 4,096; 0.21 (10) and 85.36 (4,097) are refused.
   pub looks : map (λ (ms : Float). look_of ms 48000) (ms0·22 ∷ ms85·34 ∷ ms0·21 ∷ ms85·36 ∷ []) ≡ 11 ∷ 4096 ∷ 10 ∷ 4097 ∷ []
   pub looks_pass : (x : Float) (mark : ℕ) → (looking_at ms0·22 (lent11 x mark) ≡ finished []) × (looking_at ms85·34 (lent4096 x mark) ≡ finished [])
   pub looks_judge : (stores : Stores)
-      → (looking_at ms0·22 stores ≡ numbered (stores_refusal (stereo Cap.Unlimited) 11 (lengths_of stores) stores.weights)) × (looking_at ms85·34 stores ≡ numbered (stores_refusal (stereo Cap.Unlimited) 4096 (lengths_of stores) stores.weights))
+      → (looking_at ms0·22 stores ≡ numbered (stores_refusal (stereo None) 11 (lengths_of stores) stores.weights)) × (looking_at ms85·34 stores ≡ numbered (stores_refusal (stereo None) 4096 (lengths_of stores) stores.weights))
   pub looks_12 : (stores : Stores) → (looking_at ms0·21 stores ≡ refused 12 []) × (looking_at ms85·36 stores ≡ refused 12 [])
   -- * Position 0, 64 frames: runs 32, 32, two bank steps. Position 33, 40 frames: runs 31, 9, one step.
   pub runs_0 : runs_of 0 64 ≡ 32 ∷ 32 ∷ []
@@ -133,8 +132,8 @@ pub record Starred : Type 0 where
   pub ramp_8 : ramped 8 ≡ finished (float minus4 ∷ [])
   pub ramp_7 : (ramped 7 ≡ finished (float above_minus4 ∷ [])) × (lt minus4 above_minus4 ≡ true)
   -- * Look 72, drains of 50: 50 not done, 22 done, 0 done. (After the setup that passes above; and after any that is finished, whatever its cap and stores.)
-  pub drains : (x : Float) (mark : ℕ) → Drains (Calls.setup_of defaults (stereo (Cap.Bytes 4336)) (lent72 x mark)).machine
-  pub drains_after : (cap : Cap) (stores : Stores)
+  pub drains : (x : Float) (mark : ℕ) → Drains (Calls.setup_of defaults (stereo (Some 4336)) (lent72 x mark)).machine
+  pub drains_after : (cap : Option ℕ) (stores : Stores)
       → (let start = Calls.setup_of defaults (stereo cap) stores in
       start.reply.number ≡ 0 → Drains start.machine)
   -- * For look=11, gain=3ff0000000000000, gain=3fe0000000000000, gain=3fe8000000000000 `floors` writes

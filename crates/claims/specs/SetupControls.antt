@@ -1,6 +1,6 @@
 -- CONTROLS OF SETUP: nine limiters of which the claim is false in what setup replies, in the weights that it leaves, or in what is replied after a refused one (proofs/SetupControls.antt). Each is `limiting` but for the one place
 -- that its comment names.
-use Rattle.std.specs.Prelude.{◌+◌, cond, not, ◌&&◌, Float, List, [], ◌∷◌, ◌++◌, eqb, length, take, drop, replicate}
+use Rattle.std.specs.Prelude.{ℕ, ◌+◌, cond, not, ◌&&◌, Float, List, [], ◌∷◌, ◌++◌, eqb, length, take, drop, replicate, Option, Some, None}
 use Rattle.std.specs.Float.Ieee.Scale.{finite}
 use Rattle.arithmetic.specs.Reply.{Value, count, float, finished, refused, numbered}
 use Rattle.settings.specs.Settings.{process_spec}
@@ -11,7 +11,6 @@ use Rattle.settings.specs.House.{house_start}
 use Rattle.settings.specs.Accepted.{margin_taken}
 use Rattle.settings.specs.declared.LimiterSettings.{LimiterSettings}
 use Rattle.settings.specs.declared.ProcessSpec.{ProcessSpec}
-use Rattle.settings.specs.declared.memory.Cap.{Cap}
 use Rattle.limiter.specs.State.{started}
 use Rattle.limiter.specs.Stores.{Stores, lengths_of, lengths_fit, filled, with_weights}
 use Rattle.bank.specs.Bank.{set_up_of}
@@ -33,9 +32,9 @@ margin_first = with_setups (λ s spec stores.
     cond (eqb r.reply.number 8 && not (margin_taken s.true_peak_margin_db)) (left (numbered 9) r.machine) r)
 
 -- ---- 2: 15 with the cap in place of the cap left
-abbrev pub cap_of : Cap → List Value
-cap_of Cap.Unlimited = []
-cap_of (Cap.Bytes cap) = count cap ∷ []
+abbrev pub cap_of : Option ℕ → List Value
+cap_of None = []
+cap_of (Some cap) = count cap ∷ []
 
 abbrev pub whole_cap_told : Limiting
 whole_cap_told = with_setups (λ s spec stores.
@@ -43,9 +42,9 @@ whole_cap_told = with_setups (λ s spec stores.
     cond (eqb r.reply.number 15) (left (refused 15 (take 1 r.reply.values ++ cap_of spec.cap)) r.machine) r)
 
 -- ---- 3: a cap of 0 is read as no cap
-abbrev pub uncapped : Cap → Cap
-uncapped Cap.Unlimited = Cap.Unlimited
-uncapped (Cap.Bytes cap) = cond (eqb cap 0) Cap.Unlimited (Cap.Bytes cap)
+abbrev pub uncapped : Option ℕ → Option ℕ
+uncapped None = None
+uncapped (Some cap) = cond (eqb cap 0) None (Some cap)
 
 abbrev pub zero_uncapped : Limiting
 zero_uncapped = with_setups (λ s spec stores. setup_of s (process_spec spec.rate spec.channels spec.max_block (uncapped spec.cap) spec.house) stores)

@@ -3,7 +3,7 @@
 --
 -- It is a definition of its own: it shares no test, count or constant with those that setup is defined by, but for what the table only names, look (`look_of`), L (`row_of`) and the weights rule (`accepted`,
 -- document 01's sentence over a list), and IEEE's comparisons (`finite`, `lt`): neither a NaN nor an infinity is finite, and −0.0 is neither negative nor above 0.
-use Rattle.std.specs.Prelude.{ℕ, suc, ◌+◌, ◌-◌, ◌*◌, ◌<◌, ◌≡◌, Bool, true, false, cond, not, ◌&&◌, ◌||◌, List, [], ◌∷◌, ◌++◌, map, eqb, ltb, length, take, get_or, Float}
+use Rattle.std.specs.Prelude.{ℕ, suc, ◌+◌, ◌-◌, ◌*◌, ◌<◌, ◌≡◌, Bool, true, false, cond, not, ◌&&◌, ◌||◌, List, [], ◌∷◌, ◌++◌, map, eqb, ltb, length, take, get_or, Float, Option, Some, None}
 use Rattle.std.specs.Float.Ieee.{lt}
 use Rattle.std.specs.Float.Ieee.Scale.{finite}
 use Rattle.arithmetic.specs.Number
@@ -13,7 +13,6 @@ use Rattle.settings.specs.Derived.{look_of, row_of}
 use Rattle.settings.specs.Weights.{accepted}
 use Rattle.settings.specs.declared.LimiterSettings.{LimiterSettings}
 use Rattle.settings.specs.declared.ProcessSpec.{ProcessSpec}
-use Rattle.settings.specs.declared.memory.Cap.{Cap}
 use Rattle.limiter.specs.Stores.{Stores}
 use Rattle.bank.specs.declared.param.ParamInfo.{ParamInfo}
 use Rattle.bank.specs.declared.param.Smoothing.TheVariants.{Linear}
@@ -81,9 +80,9 @@ threshold_declared s = record { id = 0; low = minus30; high = Number.zero; defau
 
 -- ---- limiter setup, after that
 -- so many bytes over a cap, with needed and cap; "No cap means no limit"
-abbrev pub over_cap : ℕ → ℕ → Cap → Row
-over_cap number need Cap.Unlimited = row false number []
-over_cap number need (Cap.Bytes cap) = row (ltb cap need) number (count need ∷ count cap ∷ [])
+abbrev pub over_cap : ℕ → ℕ → Option ℕ → Row
+over_cap number need None = row false number []
+over_cap number need (Some cap) = row (ltb cap need) number (count need ∷ count cap ∷ [])
 
 -- "80 per bank parameter"
 abbrev pub bank_needs : ℕ
@@ -94,9 +93,9 @@ abbrev pub limiter_needs : ℕ → ℕ → ℕ
 limiter_needs channels look = 8 * (channels * look + 2 * (look + 1) + 2 * row_of look + 60 * channels)
 
 -- "The bank's bytes are taken first; the limiter's cap is the rest"
-abbrev pub rest : Cap → Cap
-rest Cap.Unlimited = Cap.Unlimited
-rest (Cap.Bytes cap) = Cap.Bytes (cap - bank_needs)
+abbrev pub rest : Option ℕ → Option ℕ
+rest None = None
+rest (Some cap) = Some (cap - bank_needs)
 
 -- a number is not from lo to hi
 abbrev pub outside : ℕ → ℕ → ℕ → Bool

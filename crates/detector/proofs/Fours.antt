@@ -5,15 +5,15 @@ use Prim.Native.Nat.{ℕ, zero, suc, ◌+◌, ◌-◌, ◌*◌, ◌<◌, ◌≤�
 use native.Mathlib.Nat.{add-zero}
 use native.Mathlib.Numerals.{add-one}
 use native.Mathlib.Omega.{arith}
-use lib.ListN.{length, get_or, take, drop, set, replicate, take-append-drop, length-set, length-drop}
+use lib.ListN.{length, get_or, take, drop, replicate, take-append-drop, length-drop}
 use lib.Seq.{take-suc, take-take, take-add, take_all, drop-drop, take-append-le, length-take-le, get_or-take}
 use lib.Ieee.{Float, nan}
 use Rattle.arithmetic.specs.Number
 use Rattle.arithmetic.proofs.InTurn.{split}
-use Rattle.detector.specs.Oversample.{remembered, largest_of}
-use Rattle.detector.specs.Sums.{factor, tap_count, added, sums_on, sums_by, up_to, samples_at, newer_of, fours_of, answers_of}
+use Rattle.detector.specs.Oversample.{remembered}
+use Rattle.detector.specs.Sums.{factor, tap_count, added, sums_on, sums_by, up_to, samples_at, newer_of, fours_of}
 use Rattle.detector.proofs.Sums.{added_part, sums_length, sums_append, sums_split, sums_enough, four_of}
-use Rattle.detector.proofs.Line.{newest_twelve, up_to_length, sample_up_to, answer_more}
+use Rattle.detector.proofs.Line.{newest_twelve, up_to_length, sample_up_to}
 
 -- the sums of one answer
 by_length : (table ds : List Float) → length (sums_by table ds) ≡ factor
@@ -106,6 +106,13 @@ module _ (table behind run : List Float) (at : ℕ) where
       let v3 = four_of (sums_by table (samples_at behind run (at + 3))) (by_length table (samples_at behind run (at + 3))) in
       rw (v0.is, v1.is, v2.is, v3.is) (refl, refl, refl, refl)
 
+  pub quarter : (r : ℕ) → r < 4 → take factor (drop (4 * r) (fours_of table behind run at)) ≡ sums_by table (samples_at behind run (at + r))
+  quarter zero h = rw (add-zero at) quarters.0
+  quarter (suc zero) h = quarters.1
+  quarter (suc (suc zero)) h = quarters.2
+  quarter (suc (suc (suc zero))) h = quarters.3
+  quarter (suc (suc (suc (suc r)))) h = absurd (omega (arith, h))
+
 -- ---- the twelve samples that the first answer reads
 -- three more of a list
 three : (l : List Float) (n : ℕ) → n + 3 ≤ length l → take (n + 3) l ≡ take n l ++ (get_or l n nan ∷ get_or l (n + 1) nan ∷ get_or l (n + 2) nan ∷ [])
@@ -162,31 +169,6 @@ module _ (table : List Float) (t : length table ≡ tap_count) where
         let three-same : get_or u 9 nan ∷ get_or u 10 nan ∷ get_or u 11 nan ∷ [] ≡ b = rw (same 9 (omega arith), same 10 (omega arith), same 11 (omega arith)) in
         let twelve : samples_at behind run at ≡ take 9 u ++ b = rw (reverse_aux-eq (take (at + 1) run) behind, take-append-le remembered u behind (omega arith), ← three-same) (three u 9 (omega arith)) in
         rw (e2, e1, twelve) (rw m at (sums_append (take 9 u) b table s))
-
--- ---- four answers written
-module _ (sums : List Float → List Float) (behind run : List Float) where
-  abbrev answer : ℕ → Float
-  answer i = largest_of (sums (samples_at behind run i))
-
-  abbrev Agree : List Float → ℕ → Type 0
-  Agree l i = take i l ≡ take i (answers_of sums behind run)
-
-  pub four_more : (l : List Float) (at : ℕ) (v0 v1 v2 v3 : Float) → at + 3 < length run → length run ≤ length l
-      → v0 ≡ answer at → v1 ≡ answer (at + 1) → v2 ≡ answer (at + 2) → v3 ≡ answer (at + 3) → Agree l at → Agree (set (set (set (set l at v0) (at + 1) v1) (at + 2) v2) (at + 3) v3) (at + 4)
-  four_more l at v0 v1 v2 v3 p q e0 e1 e2 e3 h =
-      let l1 = set l at v0 in
-      let l2 = set l1 (at + 1) v1 in
-      let l3 = set l2 (at + 2) v2 in
-      let n1 : length l1 ≡ length l = length-set l at v0 in
-      let n2 : length l2 ≡ length l = length-set l1 (at + 1) v1 ∙ n1 in
-      let n3 : length l3 ≡ length l = length-set l2 (at + 2) v2 ∙ n2 in
-      let i2 : at + 1 + 1 ≡ at + 2 = omega arith in
-      let i3 : at + 2 + 1 ≡ at + 3 = omega arith in
-      let i4 : at + 3 + 1 ≡ at + 4 = omega arith in
-      let h1 : Agree l1 (at + 1) = answer_more sums behind run l at v0 (omega arith) (omega arith) h e0 in
-      let h2 : Agree l2 (at + 2) = rw i2 at (answer_more sums behind run l1 (at + 1) v1 (omega arith) (omega arith) h1 e1) in
-      let h3 : Agree l3 (at + 3) = rw i3 at (answer_more sums behind run l2 (at + 2) v2 (omega arith) (omega arith) h2 e2) in
-      rw i4 at (answer_more sums behind run l3 (at + 3) v3 p (omega arith) h3 e3)
 
 -- ---- one answer: the run from place i back, and what the store holds behind it
 module _ (table store run first : List Float) (i : ℕ) (h : i < length run) where

@@ -12,7 +12,7 @@ use Rattle.arithmetic.specs.Number.{zero, abs_of, sign_of, with_sign}
 use Rattle.arithmetic.proofs.Order.{clash, not-lt→le, le→not-lt, le_then_le}
 use Rattle.detector.specs.Oversample.{remembered, shifted, sums_of, larger, largest_from, largest_of, pushed_at, detected, peak_abs_of}
 use Rattle.detector.specs.Run.{pushes_of}
-use Rattle.detector.specs.declared.answer.Phase.TheVariants.{Nowhere}
+use Rattle.std.specs.Prelude.{None}
 
 -- ---- two tests
 
@@ -112,7 +112,7 @@ module _ (phases : List (List Float)) where
   unfolding peak_abs_of detected largest_of
   push_unsigned store x = go (eqb (length store) remembered)
     where
-      go : (b : Bool) → sign_of (cond b (detected phases (shifted store x)) (pushed_at zero Nowhere store)).peak ≡ false
+      go : (b : Bool) → sign_of (cond b (detected phases (shifted store x)) (pushed_at zero None store)).peak ≡ false
       go true = largest_unsigned zero (sums_of phases (shifted store x)) refl
       go false = refl
 

@@ -9,7 +9,7 @@ use Rattle.detector.specs.Taps.{taps, phase0, phase1, phase2, phase3}
 use Rattle.detector.specs.Oversample.{sum_from, sum_of, sums_of, larger, largest_from, largest_of, first_at, phase_of, shifted, detected, peak_abs_of}
 use Rattle.detector.specs.Run.{pushes_of, peaks_abs_of}
 use Rattle.detector.specs.History.{silent}
-use Rattle.detector.specs.declared.answer.Phase.TheVariants.{Nowhere, At}
+use Rattle.std.specs.Prelude.{Some, None}
 use Rattle.detector.specs.Level.{share, level_of, all_within, lies_within}
 
 -- what an `unfolding` line names, so that a push computes
@@ -31,13 +31,13 @@ nan_sum_loses = (refl, refl)
 
 -- the last of equal phases, or any but the first infinite one; a NaN's; one of a peak of 0.0
 pub first_phase :
-    (phase_of (share ∷ neg one ∷ one ∷ []) ≡ At 1) × (phase_of (one ∷ inf true ∷ inf false ∷ []) ≡ At 1)
-    × (phase_of (nan ∷ one ∷ []) ≡ At 1) × (phase_of (nan ∷ zero ∷ []) ≡ Nowhere)
+    (phase_of (share ∷ neg one ∷ one ∷ []) ≡ Some 1) × (phase_of (one ∷ inf true ∷ inf false ∷ []) ≡ Some 1)
+    × (phase_of (nan ∷ one ∷ []) ≡ Some 1) × (phase_of (nan ∷ zero ∷ []) ≡ None)
 unfolding phase_of first_at largest_of largest_from larger lt eq neg of_bits
 first_phase = (refl, refl, refl, refl)
 
 -- a store of another length shifted: 11 samples stay as they are, and the answer is 0.0
-pub short_store_left : peak_abs_of taps (replicate 11 one) one ≡ record { peak = zero; phase = Nowhere; store = replicate 11 one }
+pub short_store_left : peak_abs_of taps (replicate 11 one) one ≡ record { peak = zero; phase = None; store = replicate 11 one }
 unfolding peak_abs_of
 short_store_left = refl
 

@@ -1,11 +1,9 @@
 -- Module 3 of document 01, `oversample.rs`: `peak_abs`, the detector. It is stated for any table of taps, a list of phases with the tap of the newest sample first; the store is one channel's remembered samples, newest first.
-use Rattle.std.specs.Prelude.{ℕ, ◌+◌, cond, List, [], ◌∷◌, eqb, length, take, Float}
+use Rattle.std.specs.Prelude.{ℕ, ◌+◌, cond, List, [], ◌∷◌, Option, Some, None, eqb, length, take, Float}
 use Rattle.std.specs.Float.{binary64}
 use Rattle.std.specs.Float.Ieee.{add, mul, lt, eq}
 use Rattle.arithmetic.specs.Number.{zero, abs_of}
 use Rattle.arithmetic.specs.Sanitize.{finite_or_zero}
-use Rattle.detector.specs.declared.answer.Phase.{Phase}
-use Rattle.detector.specs.declared.answer.Phase.TheVariants.{Nowhere, At}
 
 -- how many samples a channel's store remembers
 abbrev pub remembered : ℕ
@@ -43,21 +41,21 @@ unfoldable pub largest_of : List Float → Float
 largest_of sums = largest_from zero sums
 
 -- the first of these sums, counted from p, whose magnitude is the peak; a NaN's is not
-unfoldable pub first_at : Float → ℕ → List Float → Phase
-first_at peak p [] = Nowhere
-first_at peak p (s ∷ ss) = cond (eq (abs_of s) peak) (At p) (first_at peak (p + 1) ss)
+unfoldable pub first_at : Float → ℕ → List Float → Option ℕ
+first_at peak p [] = None
+first_at peak p (s ∷ ss) = cond (eq (abs_of s) peak) (Some p) (first_at peak (p + 1) ss)
 
 -- Change 5: "the first phase (0 to 3) whose magnitude is the largest, or none where the peak is 0.0"
-unfoldable pub phase_of : List Float → Phase
-phase_of sums = cond (eq (largest_of sums) zero) Nowhere (first_at (largest_of sums) 0 sums)
+unfoldable pub phase_of : List Float → Option ℕ
+phase_of sums = cond (eq (largest_of sums) zero) None (first_at (largest_of sums) 0 sums)
 
 -- what a push gives: its answer, peak and phase, and the store afterwards
 pub record Pushed : Type 0 where
   pub peak : Float
-  pub phase : Phase
+  pub phase : Option ℕ
   pub store : List Float
 
-abbrev pub pushed_at : Float → Phase → List Float → Pushed
+abbrev pub pushed_at : Float → Option ℕ → List Float → Pushed
 pushed_at peak phase store = record { peak = peak; phase = phase; store = store }
 
 -- the answer for the samples that a store now holds
@@ -66,4 +64,4 @@ detected phases store = pushed_at (largest_of (sums_of phases store)) (phase_of 
 
 -- One push. A store that does not hold 12 samples is left alone, and the answer is 0.0, which has no phase.
 unfoldable pub peak_abs_of : List (List Float) → List Float → Float → Pushed
-peak_abs_of phases store x = cond (eqb (length store) remembered) (detected phases (shifted store x)) (pushed_at zero Nowhere store)
+peak_abs_of phases store x = cond (eqb (length store) remembered) (detected phases (shifted store x)) (pushed_at zero None store)

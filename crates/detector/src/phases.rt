@@ -1,14 +1,14 @@
 // The sums of the four phases, a sample at a time, the largest magnitude among them, and the first that has it.
 // The table is flat: four taps in a row meet one sample. It is handed down: named where it is indexed, it would be
-// laid on the stack each time.
-ghost use Rattle.std.specs.Prelude.{◌≡◌, false, cond, List, [], ◌∷◌, ◌+◌, ◌-◌, ◌*◌, ◌%◌, ◌≤◌, ◌<◌, length, take, drop, replicate, Float};
+// laid on the stack each time. Places in a run are asked to lie in it by clauses: a type of such a place would be made at
+// each call.
+ghost use Rattle.std.specs.Prelude.{◌≡◌, false, cond, List, [], ◌∷◌, ◌+◌, ◌-◌, ◌*◌, ◌%◌, ◌≤◌, ◌<◌, length, take, drop, replicate, Float, None};
 ghost use Rattle.std.specs.Float.Ieee.{eq, lt};
 ghost use Rattle.arithmetic.specs.Number.{zero, abs_of};
 ghost use Rattle.detector.specs.Oversample.{remembered, larger, largest_of, first_at, phase_of};
-ghost use Rattle.detector.specs.declared.answer.Phase.TheVariants.{Nowhere};
 ghost use Rattle.detector.specs.Sums.{factor, tap_count, added, sums_on, sums_by, up_to, samples_at, newer_of, fours_of, answers_of};
 
-use crate::answer::{Peak, Phase};
+use crate::answer::Peak;
 use arithmetic::number::abs;
 
 // A sample times its taps, added to the sums that these belong to: each product is rounded before it is added.
@@ -23,8 +23,7 @@ fn add_products(sums: &mut [f64], taps: &[f64], d: f64)
 }
 
 // The samples of a run from place i back, m of them, into the sums.
-fn add_run(sums: &mut [f64], table: &[f64], run: &[f64], i: usize, m: usize)
-    requires table_len { length table.now ≡ tap_count }
+fn add_run(sums: &mut [f64], table: &[f64; 48], run: &[f64], i: usize, m: usize)
     requires sums_bound { factor * m + length sums.old ≤ tap_count + factor }
     requires i_in_bounds { i < length run.now }
     requires m_bound { m ≤ i + 1 }
@@ -36,11 +35,9 @@ fn add_run(sums: &mut [f64], table: &[f64], run: &[f64], i: usize, m: usize)
     }
 }
 
-// The store's samples into the sums, behind m newer ones, up to `end` in all.
-fn add_store(sums: &mut [f64], table: &[f64], store: &[f64], m: usize, end: usize)
-    requires table_len { length table.now ≡ tap_count }
+// The store's samples into the sums, behind m newer ones, up to `end` in all. It reads forwards what `add_run` reads backwards.
+fn add_store(sums: &mut [f64], table: &[f64; 48], store: &[f64; 12], m: usize, end: usize)
     requires sums_bound { factor * end + length sums.old ≤ tap_count + factor }
-    requires store_len { length store.now ≡ remembered }
     requires m_le_end { m ≤ end }
     requires end_le_remembered { end ≤ remembered }
     ensures { sums.new
@@ -74,35 +71,29 @@ fn larger_of(peak: f64, sum: f64) -> f64
     if m > peak { m } else { peak }
 }
 
-// The largest magnitude among the four interpolated outputs.
+// The largest magnitude among the interpolated outputs.
 fn largest_of(sums: &[f64]) -> f64
-    requires { length sums.now ≡ factor }
     ensures { result ≡ largest_of sums.now }
 {
-    let peak = larger_of(0.0, sums[0]);
-    let peak = larger_of(peak, sums[1]);
-    let peak = larger_of(peak, sums[2]);
-    larger_of(peak, sums[3])
+    let mut peak = 0.0;
+    for s in sums {
+        peak = larger_of(peak, *s);
+    }
+    peak
 }
 
 // The first of the interpolated outputs whose magnitude is the peak.
-fn phase_of(sums: &[f64], peak: f64) -> Phase
-    ensures { result ≡ cond (eq peak zero) Nowhere (first_at peak 0 sums.now) }
+fn phase_of(sums: &[f64], peak: f64) -> Option<usize>
+    ensures { result ≡ cond (eq peak zero) None (first_at peak 0 sums.now) }
 {
     if peak == 0.0 {
-        return Phase::Nowhere;
+        return None;
     }
-    let n = sums.len();
-    for p in 0..n {
-        if abs(sums[p]) == peak {
-            return Phase::At(p);
-        }
-    }
-    Phase::Nowhere
+    sums.iter().position(|s| abs(*s) == peak)
 }
 
 // What the sums of an answer tell.
-fn answer_of(sums: &[f64]) -> Peak
+fn answer_of(sums: &[f64; 4]) -> Peak
     requires { length sums.now ≡ factor }
     ensures peak_value { result.peak ≡ largest_of sums.now }
     ensures phase_value { result.phase ≡ phase_of sums.now }
@@ -113,9 +104,7 @@ fn answer_of(sums: &[f64]) -> Peak
 }
 
 // The answer for a sample and what a store remembers behind it.
-pub fn peak_of_push(table: &[f64], newest: f64, store: &[f64]) -> Peak
-    requires table_len { length table.now ≡ tap_count }
-    requires store_len { length store.now ≡ remembered }
+pub fn peak_of_push(table: &[f64; 48], newest: f64, store: &[f64; 12]) -> Peak
     ensures peak_value { result.peak ≡ largest_of (sums_by table.now (take remembered (newest ∷ store.now))) }
     ensures phase_value { result.phase ≡ phase_of (sums_by table.now (take remembered (newest ∷ store.now))) }
 {
@@ -126,9 +115,7 @@ pub fn peak_of_push(table: &[f64], newest: f64, store: &[f64]) -> Peak
 }
 
 // The sums of the answer at place i of a run that follows what a store remembers.
-fn sums_of_one(table: &[f64], store: &[f64], run: &[f64], i: usize) -> [f64; 4]
-    requires table_len { length table.now ≡ tap_count }
-    requires store_len { length store.now ≡ remembered }
+fn sums_of_one(table: &[f64; 48], store: &[f64; 12], run: &[f64], i: usize) -> [f64; 4]
     requires i_in_bounds { i < length run.now }
     ensures { result ≡ sums_by table.now (samples_at store.now run.now i) }
 {
@@ -143,9 +130,7 @@ fn sums_of_one(table: &[f64], store: &[f64], run: &[f64], i: usize) -> [f64; 4]
 }
 
 // The answer at place i of such a run, with its phase.
-pub fn answer_one(table: &[f64], store: &[f64], run: &[f64], i: usize) -> Peak
-    requires table_len { length table.now ≡ tap_count }
-    requires store_len { length store.now ≡ remembered }
+pub fn answer_one(table: &[f64; 48], store: &[f64; 12], run: &[f64], i: usize) -> Peak
     requires i_in_bounds { i < length run.now }
     ensures peak_value { result.peak ≡ largest_of (sums_by table.now (samples_at store.now run.now i)) }
     ensures phase_value { result.phase ≡ phase_of (sums_by table.now (samples_at store.now run.now i)) }
@@ -158,9 +143,8 @@ pub fn answer_one(table: &[f64], store: &[f64], run: &[f64], i: usize) -> Peak
 // before it.
 
 // The samples newer than that at `at`, which only the three answers ahead read.
-fn add_first(sums: &mut [f64], table: &[f64], run: &[f64], at: usize)
+fn add_first(sums: &mut [f64; 16], table: &[f64; 48], run: &[f64], at: usize)
     requires sums_zero { sums.old ≡ replicate (factor * 4) zero }
-    requires table_len { length table.now ≡ tap_count }
     requires at_in_bounds { at + 3 < length run.now }
     ensures { sums.new ≡ newer_of table.now run.now at }
 {
@@ -170,9 +154,7 @@ fn add_first(sums: &mut [f64], table: &[f64], run: &[f64], at: usize)
 }
 
 // The last three samples that the first answer reads: the answers ahead have no taps left for some of them.
-fn add_last(sums: &mut [f64], table: &[f64], d0: f64, d1: f64, d2: f64)
-    requires sums_len { length sums.old ≡ factor * 4 }
-    requires table_len { length table.now ≡ tap_count }
+fn add_last(sums: &mut [f64; 16], table: &[f64; 48], d0: f64, d1: f64, d2: f64)
     ensures { sums.new ≡ sums_on (drop (factor * 9) table.now) sums.old (d0 ∷ d1 ∷ d2 ∷ []) }
 {
     add_products(&mut sums[0..12], &table[36..48], d0);
@@ -181,10 +163,7 @@ fn add_last(sums: &mut [f64], table: &[f64], d0: f64, d1: f64, d2: f64)
 }
 
 // The twelve samples from place `at` of a run back into the sums, where the oldest of them lie in the store.
-fn add_across(sums: &mut [f64], table: &[f64], store: &[f64], run: &[f64], at: usize)
-    requires sums_len { length sums.old ≡ factor * 4 }
-    requires table_len { length table.now ≡ tap_count }
-    requires store_len { length store.now ≡ remembered }
+fn add_across(sums: &mut [f64; 16], table: &[f64; 48], store: &[f64; 12], run: &[f64], at: usize)
     requires at_in_bounds { at < length run.now }
     requires at_bound { at ≤ 8 }
     ensures { sums.new
@@ -195,10 +174,9 @@ fn add_across(sums: &mut [f64], table: &[f64], store: &[f64], run: &[f64], at: u
     add_last(sums, table, store[8 - at], store[9 - at], store[10 - at]);
 }
 
-// The same where all twelve lie in the run, whatever came before it.
-fn add_within(sums: &mut [f64], table: &[f64], run: &[f64], at: usize)
-    requires sums_len { length sums.old ≡ factor * 4 }
-    requires table_len { length table.now ≡ tap_count }
+// The same where all twelve lie in the run. No store is read, so the promise holds of whatever came before it: one function
+// with `add_across` could not say so.
+fn add_within(sums: &mut [f64; 16], table: &[f64; 48], run: &[f64], at: usize)
     requires at_in_bounds { at < length run.now }
     requires remembered_bound { remembered ≤ at + 1 }
     ensures { (behind : List Float) → sums.new
@@ -208,10 +186,9 @@ fn add_within(sums: &mut [f64], table: &[f64], run: &[f64], at: usize)
     add_last(sums, table, run[at - 9], run[at - 10], run[at - 11]);
 }
 
-// The sums of four answers of a run, that at `at` first.
-fn sums_of_four(table: &[f64], store: &[f64], run: &[f64], at: usize) -> [f64; 16]
-    requires table_len { length table.now ≡ tap_count }
-    requires store_len { length store.now ≡ remembered }
+// The sums of four answers of a run, that at `at` first. They are no `sums_of_one` of another size: of the fifteen samples
+// that the four read only nine meet them all.
+fn sums_of_four(table: &[f64; 48], store: &[f64; 12], run: &[f64], at: usize) -> [f64; 16]
     requires at_in_bounds { at + 3 < length run.now }
     requires at_a_fourth { at % 4 ≡ 0 }
     ensures { result ≡ fours_of table.now store.now run.now at }
@@ -228,9 +205,7 @@ fn sums_of_four(table: &[f64], store: &[f64], run: &[f64], at: usize) -> [f64; 1
 }
 
 // Four answers of a run, that at `at` first.
-fn answer_four(table: &[f64], store: &[f64], run: &[f64], answers: &mut [f64], at: usize)
-    requires table_len { length table.now ≡ tap_count }
-    requires store_len { length store.now ≡ remembered }
+fn answer_four(table: &[f64; 48], store: &[f64; 12], run: &[f64], answers: &mut [f64], at: usize)
     requires at_in_bounds { at + 3 < length run.now }
     requires run_in_bounds { length run.now ≤ length answers.old }
     requires at_a_fourth { at % 4 ≡ 0 }
@@ -238,16 +213,13 @@ fn answer_four(table: &[f64], store: &[f64], run: &[f64], answers: &mut [f64], a
         → take (at + 4) answers.new ≡ take (at + 4) (answers_of (sums_by table.now) store.now run.now) }
 {
     let sums = sums_of_four(table, store, run, at);
-    answers[at] = largest_of(&sums[0..4]);
-    answers[at + 1] = largest_of(&sums[4..8]);
-    answers[at + 2] = largest_of(&sums[8..12]);
-    answers[at + 3] = largest_of(&sums[12..16]);
+    for r in 0..4 {
+        answers[at + r] = largest_of(&sums[4 * r..4 * r + 4]);
+    }
 }
 
 // The answers of a run of a multiple of four samples, into the first places.
-fn answer_fours(table: &[f64], store: &[f64], run: &[f64], answers: &mut [f64])
-    requires table_len { length table.now ≡ tap_count }
-    requires store_len { length store.now ≡ remembered }
+fn answer_fours(table: &[f64; 48], store: &[f64; 12], run: &[f64], answers: &mut [f64])
     requires run_len { length run.now % 4 ≡ 0 }
     requires run_in_bounds { length run.now ≤ length answers.old }
     ensures { take (length run.now) answers.new
@@ -260,9 +232,7 @@ fn answer_fours(table: &[f64], store: &[f64], run: &[f64], answers: &mut [f64])
 }
 
 // The answers of a run: by fours, and the up to three left over one by one.
-pub fn answer_all(table: &[f64], store: &[f64], run: &[f64], answers: &mut [f64])
-    requires table_len { length table.now ≡ tap_count }
-    requires store_len { length store.now ≡ remembered }
+pub fn answer_all(table: &[f64; 48], store: &[f64; 12], run: &[f64], answers: &mut [f64])
     requires answers_len { length answers.old ≡ length run.now }
     ensures { answers.new ≡ answers_of (sums_by table.now) store.now run.now }
 {

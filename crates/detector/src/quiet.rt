@@ -37,15 +37,14 @@ fn all_within(m: f64, samples: &[f64]) -> bool
     ensures { result ≡ all_within m samples.now }
 {
     let mut ok = true;
-    let n = samples.len();
-    for i in 0..n {
-        ok = ok & lies(m, samples[i]);
+    for x in samples {
+        ok = ok & lies(m, *x);
     }
     ok
 }
 
 // Whether the store has its twelve samples and they and the run's all lie within the level. A NaN lies
-// within nothing.
+// within nothing. The store is any slice, as `peak_abs` takes one.
 pub fn lies_within(store: &[f64], samples: &[f64], level: f64) -> bool
     ensures { result ≡ lies_within store.now samples.now level }
 {

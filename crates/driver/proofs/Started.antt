@@ -1,26 +1,28 @@
 -- Setup: what the callees' promises add up to, by the first refusal that arises.
-use mathlib.Core.Path.{◌≡◌, refl, sym, ap}
+use mathlib.Core.Path.{◌≡◌, refl, sym, ap, ◌∙◌}
 use mathlib.Core.Bool.{Bool, true, false, cond}
-use Prim.Native.Nat.{ℕ}
+use mathlib.Core.List.{[]}
 use lib.Dec.{eqb}
 use lib.ListN.{replicate}
+use Rattle.std.proofs.Common.{Result, Ok, Err}
 use borrow.Author.Tests.{ne_eqb}
-use Rattle.arithmetic.specs.Reply.{Reply, and_then}
+use Rattle.arithmetic.proofs.Order.{clash}
+use Rattle.arithmetic.specs.Reply.{Reply, finished, and_then}
 use Rattle.settings.specs.Memory.{cap_judged, cap_reply}
 use Rattle.settings.specs.declared.LimiterSettings.{LimiterSettings}
-use Rattle.settings.specs.declared.memory.CapJudged.{CapJudged}
+use Rattle.settings.specs.declared.memory.OverCap.{OverCap}
 use Rattle.settings.specs.declared.ProcessSpec.{ProcessSpec}
 use Rattle.limiter.specs.State.{not_set_up, started}
 use Rattle.limiter.specs.Stores.{Stores, lengths_of}
 use Rattle.limiter.specs.Prepare
-use Rattle.limiter.specs.Prepare.{prepare_refusal, limiter_left, filled_for, prepare_of}
+use Rattle.limiter.specs.Prepare.{prepare_refusal, limiter_left, prepared_at, filled_for, prepare_of}
+use Rattle.limiter.specs.declared.prepare.PrepareRefusal.{PrepareRefusal}
 use Rattle.limiter.specs.declared.state.Limiter.{Limiter}
+use Rattle.limiter.proofs.Judge.{refused_case}
 use Rattle.bank.specs.Answers.{refusal_reply}
 use Rattle.bank.specs.Bank
 use Rattle.bank.specs.Bank.{unset, set_up_of}
 use Rattle.bank.specs.declared.param.BankRefusal.{BankRefusal}
-use Rattle.bank.specs.declared.param.BankAnswer.{BankAnswer}
-use Rattle.bank.specs.declared.smoother_bank.BankSetUp.{BankSetUp}
 use Rattle.bank.specs.declared.smoother_bank.SmootherBank.{SmootherBank}
 use Rattle.bank.proofs.Slots.{above_zero}
 use Rattle.turns.specs.Machine.{Machine, machine_of, threshold_param}
@@ -29,17 +31,19 @@ use Rattle.driver.specs.Calls.{Left, left, settled, bank_bytes, budget_reply, wi
 stopped : (r : Reply) (new old : Machine) → eqb r.number 0 ≡ false → left r old ≡ settled r new old
 stopped r new old h = rw h refl
 
--- the limiter's outcome, with the bank where it is finished: a machine that changes by the reply
-carried : (r : Reply) (l : Limiter) (filled stores : Stores) (b : SmootherBank) → (let o = cond (eqb r.number 0) (limiter_left r l filled) (limiter_left r not_set_up stores) in
-    left o.reply (machine_of o.limiter (cond (eqb o.reply.number 0) b unset) o.stores) ≡ settled o.reply (machine_of o.limiter b o.stores) (machine_of not_set_up unset stores))
-carried r l filled stores b = go (eqb r.number 0) refl
+-- the limiter's share, refused, leaves the stores alone
+stores_stay : (s : LimiterSettings) (spec : ProcessSpec) (stores : Stores) → eqb (prepare_of s spec stores).reply.number 0 ≡ false → (prepare_of s spec stores).stores ≡ stores
+unfolding prepare_of
+stores_stay s spec stores h = go (eqb r.number 0) refl h
   where
-    go : (t : Bool) → eqb r.number 0 ≡ t → (let o = cond t (limiter_left r l filled) (limiter_left r not_set_up stores) in
-        left o.reply (machine_of o.limiter (cond (eqb o.reply.number 0) b unset) o.stores) ≡ settled o.reply (machine_of o.limiter b o.stores) (machine_of not_set_up unset stores))
-    go true e = rw e refl
-    go false e = rw e refl
+    r : Reply
+    r = prepare_refusal s spec (lengths_of stores) stores.weights
 
-module _ (s : LimiterSettings) (spec : ProcessSpec) (stores : Stores) (set : BankSetUp) (E : Bank.set_up_at set ≡ set_up_of (replicate 8 (threshold_param s)) 1 spec.rate) where
+    go : (b : Bool) → eqb r.number 0 ≡ b → (let o = cond b (limiter_left r (started s spec) (filled_for s spec stores)) (limiter_left r not_set_up stores) in eqb o.reply.number 0 ≡ false → o.stores ≡ stores)
+    go true e h = clash (eqb r.number 0) e h
+    go false e h = refl
+
+module _ (s : LimiterSettings) (spec : ProcessSpec) (stores : Stores) (set : Result SmootherBank BankRefusal) (E : Bank.set_up_at set ≡ set_up_of (replicate 8 (threshold_param s)) 1 spec.rate) where
   abbrev joined : Bank.BankLeft → Prepare.LimiterLeft → Left
   joined b l = settled (and_then b.reply (and_then (budget_reply spec.cap) l.reply)) (machine_of l.limiter b.bank l.stores) (machine_of not_set_up unset stores)
 
@@ -50,18 +54,24 @@ module _ (s : LimiterSettings) (spec : ProcessSpec) (stores : Stores) (set : Ban
   unfolding setup_of
   whole = ap (λ (b : Bank.BankLeft). joined b share) (sym E)
 
-  pub bank_refused : (why : BankRefusal) → set.answer ≡ BankAnswer.Refused why → (r : Left) → r ≡ left (refusal_reply why) (machine_of not_set_up unset stores) → r ≡ setup_of s spec stores
-  bank_refused why k r e =
+  pub bank_refused : (why : BankRefusal) → set ≡ Err why → left (refusal_reply why) (machine_of not_set_up unset stores) ≡ setup_of s spec stores
+  bank_refused why k =
       let n = ne_eqb (refusal_reply why).number 0 (above_zero why) in
-      rw (e, whole, k, n) (stopped (refusal_reply why) (machine_of share.limiter set.bank share.stores) (machine_of not_set_up unset stores) n)
+      rw (whole, k, n) (stopped (refusal_reply why) (machine_of share.limiter unset share.stores) (machine_of not_set_up unset stores) n)
 
-  module _ (k : set.answer ≡ BankAnswer.Finished) where
-    pub over_budget : (need cap : ℕ) → cap_judged bank_bytes spec.cap ≡ CapJudged.Over need cap → (r : Left) → r ≡ left (cap_reply 7 (CapJudged.Over need cap)) (machine_of not_set_up unset stores) → r ≡ setup_of s spec stores
-    over_budget need cap h r e = rw (e, whole, k, h) (stopped (cap_reply 7 (CapJudged.Over need cap)) (machine_of share.limiter set.bank share.stores) (machine_of not_set_up unset stores) refl)
+  module _ (bank : SmootherBank) (k : set ≡ Ok bank) where
+    pub over_budget : (over : OverCap) → cap_judged bank_bytes spec.cap ≡ Err over → left (cap_reply 7 (Err over)) (machine_of not_set_up unset stores) ≡ setup_of s spec stores
+    over_budget over h = rw (whole, k, h) refl
 
-    pub limiter_told : cap_judged bank_bytes spec.cap ≡ CapJudged.Passed → (rest : ProcessSpec) → rest ≡ with_rest spec → (o : Prepare.LimiterLeft) → o ≡ prepare_of s rest stores → (b : SmootherBank) → b ≡ cond (eqb o.reply.number 0) set.bank unset
-        → left o.reply (machine_of o.limiter b o.stores) ≡ setup_of s spec stores
-    unfolding prepare_of
-    limiter_told h rest c o e b j =
-        rw (j, e, c, whole, k, h)
-        (carried (prepare_refusal s (with_rest spec) (lengths_of stores) stores.weights) (started s (with_rest spec)) (filled_for s (with_rest spec) stores) stores set.bank)
+    module _ (u : Unit {0}) (h : cap_judged bank_bytes spec.cap ≡ Ok u) (rest : ProcessSpec) (c : rest ≡ with_rest spec) (r : Result Limiter PrepareRefusal) (later : Stores) (P : prepared_at r later ≡ prepare_of s rest stores) where
+      share_is : prepared_at r later ≡ share
+      share_is = P ∙ ap (λ (x : ProcessSpec). prepare_of s x stores) c
+
+      pub limiter_refused : (why : PrepareRefusal) → r ≡ Err why → left (Prepare.refusal_reply why) (machine_of not_set_up unset later) ≡ setup_of s spec stores
+      limiter_refused why e =
+          let z : eqb share.reply.number 0 ≡ false = ap (λ (l : Prepare.LimiterLeft). eqb l.reply.number 0) (sym share_is) ∙ rw e (refused_case why) in
+          let stay : later ≡ stores = ap (λ (l : Prepare.LimiterLeft). l.stores) share_is ∙ stores_stay s (with_rest spec) stores z in
+          rw (whole, k, h, ← share_is, e, stay) (stopped (Prepare.refusal_reply why) (machine_of not_set_up bank stores) (machine_of not_set_up unset stores) (refused_case why))
+
+      pub limiter_told : (l : Limiter) → r ≡ Ok l → left (finished []) (machine_of l bank later) ≡ setup_of s spec stores
+      limiter_told l e = rw (whole, k, h, ← share_is, e) refl

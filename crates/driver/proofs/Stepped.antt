@@ -5,6 +5,7 @@ use Prim.Native.Nat.{ℕ, ◌+◌}
 use lib.Dec.{eqb}
 use lib.ListN.{length}
 use lib.Ieee.{Float}
+use Rattle.std.proofs.Common.{Result, Ok, Err}
 use borrow.Author.Tests.{eqb-true, leb-true}
 use Rattle.arithmetic.proofs.Order.{and-true}
 use Rattle.arithmetic.proofs.Passed.{passed_unless}
@@ -19,9 +20,7 @@ use Rattle.limiter.proofs.Frames.{order_is}
 use Rattle.turns.specs.Machine.{Machine, prepared, is_in_order, target_in_range}
 use Rattle.turns.specs.Block.{has_room}
 use Rattle.driver.specs.Calls.{left, gain_fits, gain_reply, gain_of, gain_done, gain_step}
-use Rattle.driver.specs.Answers.{answer_reply, gain_reply_of}
-use Rattle.driver.specs.declared.answers.Answer.{Answer}
-use Rattle.driver.specs.declared.answers.GainAnswer.{GainAnswer}
+use Rattle.driver.specs.Answers.{refused_by, answer_reply}
 use Rattle.driver.specs.declared.answers.Refusal.{Refusal}
 use Rattle.driver.proofs.Refusing.{refused_some}
 
@@ -74,19 +73,19 @@ module _ (m : Machine) where
       gain_room o false e = rw (h, ← F, z, ← K, ← T, o, e) refl
 
 -- ---- refused, or done
-module _ (m : Machine) (x : Float) (r : Answer) (R : answer_reply r ≡ numbered (gain_reply m)) where
+module _ (m : Machine) (x : Float) (r : Result (Unit {0}) Refusal) (R : answer_reply r ≡ numbered (gain_reply m)) where
   number_is : gain_reply m ≡ (answer_reply r).number
   number_is = ap (λ (y : Reply). y.number) (sym R)
 
-  pub gain_refused : (why : Refusal) → r ≡ Answer.Refused why → left (gain_reply_of (GainAnswer.Refused why)) m ≡ gain_step m x
+  pub gain_refused : (why : Refusal) → r ≡ Err why → left (refused_by why) m ≡ gain_step m x
   unfolding gain_step
   gain_refused why W =
-      let n : eqb (gain_reply m) 0 ≡ false = ap (λ (k : ℕ). eqb k 0) (number_is ∙ ap (λ (a : Answer). (answer_reply a).number) W) ∙ refused_some why in
-      ap (λ (a : Answer). left (answer_reply a) m) (sym W) ∙ ap (λ (y : Reply). left y m) R ∙ rw n refl
+      let n : eqb (gain_reply m) 0 ≡ false = ap (λ (k : ℕ). eqb k 0) (number_is ∙ ap (λ (a : Result (Unit {0}) Refusal). (answer_reply a).number) W) ∙ refused_some why in
+      ap (λ (a : Result (Unit {0}) Refusal). left (answer_reply a) m) (sym W) ∙ ap (λ (y : Reply). left y m) R ∙ rw n refl
 
-  module _ (F : r ≡ Answer.Finished) where
+  module _ (u : Unit {0}) (F : r ≡ Ok u) where
     none : gain_reply m ≡ 0
-    none = number_is ∙ ap (λ (a : Answer). (answer_reply a).number) F
+    none = number_is ∙ ap (λ (a : Result (Unit {0}) Refusal). (answer_reply a).number) F
 
     pub gain_ready : EnvReady m.stores.weights (enveloped_at m.limiter.env m.stores.marks m.stores.minima m.stores.row)
     unfolding gain_reply is_in_order

@@ -14,7 +14,7 @@ use Rattle.envelope.specs.Row.{row_in_order}
 use Rattle.envelope.specs.Step.{GainStepped}
 use Rattle.settings.specs.Target.{target_of}
 use Rattle.settings.specs.Weights.{accepted}
-use Rattle.settings.specs.declared.memory.Cap.{Cap}
+use Rattle.std.proofs.Common.{Some}
 use Rattle.limiter.specs.State.{not_set_up}
 use Rattle.limiter.specs.Prepare.{prepare_of}
 use Rattle.limiter.specs.Order
@@ -47,7 +47,7 @@ judging = ⊥
 
 -- ---- setup
 -- the bank's bytes left in the cap: of 855 bytes the limiter's 776 would fit, and 775 are left for it
-pub bank_bytes_first : (setup_of (settings11 Number.zero) (spec11 (Cap.Bytes 855)) (stores11 (one ∷ []) (one ∷ []))).reply ≡ refused 15 (count 776 ∷ count 775 ∷ [])
+pub bank_bytes_first : (setup_of (settings11 Number.zero) (spec11 (Some 855)) (stores11 (one ∷ []) (one ∷ []))).reply ≡ refused 15 (count 776 ∷ count 775 ∷ [])
 unfolding setup_of prepare_of accepted target_of set_up_of declared_reply first_fault slots_of judging
 bank_bytes_first = refl
 

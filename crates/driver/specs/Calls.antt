@@ -1,12 +1,11 @@
 -- The other calls: setup, parameter call, reset, the lone gain step, reading a value.
-use Rattle.std.specs.Prelude.{ℕ, ◌+◌, Bool, cond, not, ◌&&◌, [], ◌∷◌, eqb, leb, length, replicate, Float}
+use Rattle.std.specs.Prelude.{ℕ, ◌+◌, Bool, cond, not, ◌&&◌, [], ◌∷◌, eqb, leb, length, replicate, Float, Option}
 use Rattle.std.specs.Float.Ieee.Scale.{finite}
 use Rattle.arithmetic.specs.Reply.{Reply, finished, refused, numbered, count, float, unless, and_then, must}
 use Rattle.envelope.specs.Step.{GainStepped, gain_step_of, enveloped_at}
 use Rattle.settings.specs.Derived.{row_of}
 use Rattle.settings.specs.Memory.{cap_judged, cap_reply, left_of}
 use Rattle.settings.specs.declared.LimiterSettings.{LimiterSettings}
-use Rattle.settings.specs.declared.memory.Cap.{Cap}
 use Rattle.settings.specs.declared.ProcessSpec.{ProcessSpec}
 use Rattle.limiter.specs.State.{not_set_up}
 use Rattle.limiter.specs.Stores.{Stores, stores_at}
@@ -38,7 +37,7 @@ abbrev pub bank_bytes : ℕ
 bank_bytes = 80
 
 -- 7: the bank over the cap, with needed and cap
-abbrev pub budget_reply : Cap → Reply
+abbrev pub budget_reply : Option ℕ → Reply
 budget_reply cap = cap_reply 7 (cap_judged bank_bytes cap)
 
 -- "The bank's bytes are taken first; the limiter's cap is the rest"

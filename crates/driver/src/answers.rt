@@ -1,29 +1,46 @@
 // What the calls answer: finished work, or one refusal of document 01's table.
-ghost use Rattle.std.specs.Prelude.{◌≡◌, eqb};
-ghost use Rattle.driver.specs.Answers.{answer_reply};
+ghost use Rattle.std.specs.Prelude.{◌≡◌};
+ghost use Rattle.driver.specs.declared.answers.SetupRefusal.TheVariants.{Bank, OverBudget, Limiter};
 
-use crate::state::KernelProcessor;
 use bank::param::BankRefusal;
-use bank::smoother_bank::ParamSet;
 use frame::highest::Seat;
-use limiter::prepare::PrepareAnswer;
+use limiter::prepare::PrepareRefusal;
+use settings::memory::OverCap;
 
-// Setup: the bank's refusal (1 to 6), the bank over the cap (7), or what the limiter answers (0, 8 to 17, 29).
-#[derive(Clone, Copy)]
-pub enum SetupAnswer {
+// Why a setup is refused: the bank's own (1 to 6), the bank over the cap (7), the limiter's own (8 to 17, 29).
+#[derive(Clone, Copy, Debug, PartialEq, Eq)]
+pub enum SetupRefusal {
     Bank(BankRefusal),
-    OverBudget { needed: u64, cap: u64 },
-    Limiter(PrepareAnswer),
+    OverBudget(OverCap),
+    Limiter(PrepareRefusal),
 }
 
-#[derive(Clone, Copy)]
-pub struct SetUp {
-    pub answer: SetupAnswer,
-    pub processor: KernelProcessor,
+impl From<BankRefusal> for SetupRefusal {
+    ghost from_gives = { λ why r. r ≡ Bank why };
+
+    fn from(why: BankRefusal) -> SetupRefusal {
+        SetupRefusal::Bank(why)
+    }
+}
+
+impl From<OverCap> for SetupRefusal {
+    ghost from_gives = { λ over r. r ≡ OverBudget over };
+
+    fn from(over: OverCap) -> SetupRefusal {
+        SetupRefusal::OverBudget(over)
+    }
+}
+
+impl From<PrepareRefusal> for SetupRefusal {
+    ghost from_gives = { λ why r. r ≡ Limiter why };
+
+    fn from(why: PrepareRefusal) -> SetupRefusal {
+        SetupRefusal::Limiter(why)
+    }
 }
 
 // Why a call on a limiter is refused: 18, 16, 19, 20, 21 with the event's index, 22.
-#[derive(Clone, Copy)]
+#[derive(Clone, Copy, Debug, PartialEq, Eq)]
 pub enum Refusal {
     NotSetUp,
     StoreLength,
@@ -33,80 +50,28 @@ pub enum Refusal {
     TooFar,
 }
 
-// A reset, and what judges a call: nothing is refused, or the first refusal that arises.
-#[derive(Clone, Copy)]
-pub enum Answer {
-    Finished,
-    Refused(Refusal),
-}
-
-impl Answer {
-    pub fn is_finished(self) -> bool
-        ensures { result ≡ eqb (answer_reply self).number 0 }
-    {
-        match self {
-            Answer::Finished => true,
-            Answer::Refused(_) => false,
-        }
-    }
-}
-
-#[derive(Clone, Copy)]
-pub struct Called {
-    pub answer: Answer,
-    pub processor: KernelProcessor,
-}
-
-// A block: finished work tells the first frame with the highest linked peak, and where that sat; of a frame
-// nothing is said where it sat nowhere.
-#[derive(Clone, Copy)]
-pub enum BlockAnswer {
-    Finished { frame: usize, seat: Seat },
-    Refused(Refusal),
-}
-
+// A finished block: the first frame with the highest linked peak, and where that sat; where it sat nowhere,
+// nothing is said of a frame.
 #[derive(Clone, Copy)]
 pub struct Processed {
-    pub answer: BlockAnswer,
-    pub processor: KernelProcessor,
+    pub frame: usize,
+    pub seat: Option<Seat>,
 }
 
-// A drain: finished work tells the frames written, and whether the tail is done.
-#[derive(Clone, Copy)]
-pub enum FlushAnswer {
-    Finished { written: usize, done: bool },
-    Refused(Refusal),
-}
-
-#[derive(Clone, Copy)]
+// A finished drain: the frames written, and whether the tail is done.
+#[derive(Clone, Copy, Debug, PartialEq, Eq)]
 pub struct Flushed {
-    pub answer: FlushAnswer,
-    pub processor: KernelProcessor,
+    pub written: usize,
+    pub done: bool,
 }
 
-// A gain step: a finished one tells the floor, the entries dropped and kept, the tally, the mean and the gain.
-#[derive(Clone, Copy)]
-pub enum GainAnswer {
-    Finished {
-        floor: f64,
-        dropped: usize,
-        kept: usize,
-        tally: usize,
-        mean: f64,
-        gain: f64,
-    },
-    Refused(Refusal),
-}
-
-#[derive(Clone, Copy)]
+// A finished gain step: the floor, the entries dropped and kept, the tally, the mean and the gain.
+#[derive(Clone, Copy, Debug, PartialEq)]
 pub struct GainStepped {
-    pub answer: GainAnswer,
-    pub processor: KernelProcessor,
-}
-
-// A parameter call: 18, 23 with the parameter's id and the offending value, 24.
-#[derive(Clone, Copy)]
-pub struct ParamCalled {
-    pub answer: ParamSet,
-    pub processor: KernelProcessor,
+    pub floor: f64,
+    pub dropped: usize,
+    pub kept: usize,
+    pub tally: usize,
+    pub mean: f64,
+    pub gain: f64,
 }

@@ -5,37 +5,24 @@ ghost use Rattle.bank.specs.Answers.{bank_value_reply};
 ghost use Rattle.driver.specs.Calls.{parameter_of, read_of};
 ghost use Rattle.driver.specs.Answers.{machine_at, param_called_at};
 
-use crate::answers::ParamCalled;
 use crate::state::KernelProcessor;
-use bank::smoother_bank::{BankValue, ParamSet};
+use bank::smoother_bank::ParamRefusal;
 
 impl KernelProcessor {
-    // Sets a parameter's value and target at once, with no ramp.
-    pub fn set_parameter_immediate(self, id: u32, value: f64) -> ParamCalled
-        ensures { (stores : Stores) → param_called_at result stores ≡ parameter_of (machine_at self stores) id value }
+    // Sets a parameter's value and target at once, with no ramp. A refused call changes nothing.
+    pub fn set_parameter_immediate(&mut self, id: u32, value: f64) -> Result<(), ParamRefusal>
+        ensures { (stores : Stores) → param_called_at result self.new stores ≡ parameter_of (machine_at self.old stores) id value }
     {
         if !self.is_prepared() {
-            return ParamCalled {
-                answer: ParamSet::NotSetUp,
-                processor: self,
-            };
+            return Err(ParamRefusal::NotSetUp);
         }
-        let l = self.limiter;
-        let b = self.bank;
-        let set = b.set_immediate(id, value);
-        let answer = set.answer;
-        let bank = set.bank;
-        ParamCalled {
-            answer,
-            processor: KernelProcessor { limiter: l, bank },
-        }
+        self.bank.set_immediate(id, value)
     }
 
     // The present value of a parameter.
-    pub fn value(self, id: u32) -> BankValue
-        ensures { bank_value_reply result ≡ read_of self.bank id }
+    pub fn value(&self, id: u32) -> Result<f64, ParamRefusal>
+        ensures { bank_value_reply result ≡ read_of self.now.bank id }
     {
-        let b = self.bank;
-        b.value(id)
+        self.bank.value(id)
     }
 }

@@ -5,39 +5,29 @@ ghost use Rattle.arithmetic.specs.Reply.{numbered};
 ghost use Rattle.limiter.specs.Stores.{stores_at};
 ghost use Rattle.bank.specs.Bank.{slot_at};
 ghost use Rattle.bank.specs.declared.smoother_bank.SmootherBank.{SmootherBank};
-ghost use Rattle.turns.specs.Machine.{machine_of, is_linear, declares, prepared, ready_refusal, reset_refusal};
+ghost use Rattle.turns.specs.Machine.{machine_of, declares, prepared, ready_refusal, reset_refusal};
 ghost use Rattle.driver.specs.Answers.{machine_at, answer_reply};
 ghost use Rattle.driver.specs.Parts.{shown_of};
 
-use crate::answers::{Answer, Refusal};
+use crate::answers::Refusal;
 use crate::state::{KernelProcessor, Threshold};
 use arithmetic::pattern::same_value;
 use bank::param::Smoothing;
 use bank::smoother::Smoother;
 use bank::smoother_bank::SmootherBank;
 use limiter::state::Limiter;
+use limiter::stores::lengths_of;
 use settings::LimiterSettings;
-
-fn is_linear(shape: Smoothing) -> bool
-    ensures { result ≡ is_linear shape }
-{
-    match shape {
-        Smoothing::Step => false,
-        Smoothing::Linear => true,
-        Smoothing::OnePole => false,
-    }
-}
 
 // Whether a smoother declares the threshold of these settings.
 fn declares(s: LimiterSettings, p: Smoother) -> bool
     ensures { result ≡ declares s p }
 {
-    let shape = p.shape;
     let low = same_value(p.low, -30.0);
     let high = same_value(p.high, 0.0);
     let default = same_value(p.default, s.threshold_db);
     let time = same_value(p.smoothing_ms, 5.0);
-    low & (high & (default & (time & is_linear(shape))))
+    low & (high & (default & (time & (p.shape == Smoothing::Linear))))
 }
 
 // The threshold's smoother: the first slot.
@@ -91,55 +81,55 @@ pub fn judge(
     weights: &[f64],
     row: &[f64],
     detector: &[f64],
-) -> Answer
+) -> Result<(), Refusal>
     ensures { (b : SmootherBank) → shown_of b ≡ t
         → answer_reply result ≡ numbered (ready_refusal (machine_of l b (stores_at delay.now marks.now minima.now weights.now row.now detector.now))) }
 {
     if !is_set_up(l, t) {
-        return Answer::Refused(Refusal::NotSetUp);
+        return Err(Refusal::NotSetUp);
     }
-    if !l.stores_fit(delay, marks, minima, weights, row, detector) {
-        return Answer::Refused(Refusal::StoreLength);
+    let lengths = lengths_of(delay, marks, minima, weights, row, detector);
+    if !l.stores_fit(lengths) {
+        return Err(Refusal::StoreLength);
     }
     let p = t.smoother;
     let kernel = l.in_order(marks, minima, row);
     if kernel & target_in_range(p) {
-        Answer::Finished
+        Ok(())
     } else {
-        Answer::Refused(Refusal::OutOfOrder)
+        Err(Refusal::OutOfOrder)
     }
 }
 
 impl KernelProcessor {
     // 18.
-    pub fn is_prepared(self) -> bool
-        ensures { result ≡ prepared self.limiter self.bank }
+    pub fn is_prepared(&self) -> bool
+        ensures { result ≡ prepared self.now.limiter self.now.bank }
     {
-        let l = self.limiter;
-        let b = self.bank;
-        is_set_up(l, shown(b))
+        is_set_up(self.limiter, shown(self.bank))
     }
 
     // 18, then 16.
     pub fn judge_reset(
-        self,
+        &self,
         delay: &[f64],
         marks: &[u64],
         minima: &[f64],
         weights: &[f64],
         row: &[f64],
         detector: &[f64],
-    ) -> Answer
-        ensures { answer_reply result ≡ numbered (reset_refusal (machine_at self (stores_at delay.now marks.now minima.now weights.now row.now detector.now))) }
+    ) -> Result<(), Refusal>
+        ensures { answer_reply result ≡ numbered (reset_refusal (machine_at self.now (stores_at delay.now marks.now minima.now weights.now row.now detector.now))) }
     {
         if !self.is_prepared() {
-            return Answer::Refused(Refusal::NotSetUp);
+            return Err(Refusal::NotSetUp);
         }
         let l = self.limiter;
-        if l.stores_fit(delay, marks, minima, weights, row, detector) {
-            Answer::Finished
+        let lengths = lengths_of(delay, marks, minima, weights, row, detector);
+        if l.stores_fit(lengths) {
+            Ok(())
         } else {
-            Answer::Refused(Refusal::StoreLength)
+            Err(Refusal::StoreLength)
         }
     }
 }

@@ -1,21 +1,19 @@
 // Setup: the bank of the one parameter, its bytes, then the limiter with the rest of the cap.
-ghost use Rattle.std.specs.Prelude.{◌≡◌, cond, eqb, replicate};
+ghost use Rattle.std.specs.Prelude.{◌≡◌, replicate};
 ghost use Rattle.limiter.specs.State.{not_set_up};
 ghost use Rattle.limiter.specs.Stores.{Stores, stores_at};
-ghost use Rattle.limiter.specs.Prepare.{prepare_reply};
 ghost use Rattle.bank.specs.Bank;
 ghost use Rattle.bank.specs.Bank.{unset, set_up_of};
 ghost use Rattle.turns.specs.Machine.{machine_of, threshold_param};
-ghost use Rattle.driver.specs.Calls.{left, with_rest, setup_of};
-ghost use Rattle.driver.specs.Answers.{machine_at, setup_reply, set_up_at};
+ghost use Rattle.driver.specs.Calls.{with_rest, setup_of};
+ghost use Rattle.driver.specs.Answers.{machine_at, set_up_at};
 
-use crate::answers::{SetUp, SetupAnswer};
+use crate::answers::SetupRefusal;
 use crate::state::KernelProcessor;
-use bank::param::{BankAnswer, ParamInfo, Smoothing};
-use bank::smoother_bank::{BankSetUp, SmootherBank};
-use limiter::prepare::PrepareAnswer;
+use bank::param::{BankRefusal, ParamInfo, Smoothing};
+use bank::smoother_bank::SmootherBank;
 use limiter::state::Limiter;
-use settings::memory::{CapJudged, judge_cap, left_of};
+use settings::memory::{judge_cap, left_of};
 use settings::{LimiterSettings, ProcessSpec};
 
 // The limiter's threshold: Linear, 5 ms, −30 to 0, by default the settings' own.
@@ -33,43 +31,20 @@ fn threshold_param(s: LimiterSettings) -> ParamInfo
 }
 
 // The bank: of eight declarations it takes the first.
-fn bank_of(s: LimiterSettings, rate: u32) -> BankSetUp
+fn bank_of(s: LimiterSettings, rate: u32) -> Result<SmootherBank, BankRefusal>
     ensures { Bank.set_up_at result ≡ set_up_of (replicate 8 (threshold_param s)) 1 rate }
 {
     let p = threshold_param(s);
     SmootherBank::try_new([p; 8], 1, rate)
 }
 
-// The bank of a finished setup; a refused one leaves none.
-fn kept(answer: PrepareAnswer, bank: SmootherBank) -> SmootherBank
-    ensures { result ≡ cond (eqb (prepare_reply answer).number 0) bank unset }
-{
-    match answer {
-        PrepareAnswer::Finished => bank,
-        _ => SmootherBank::unset(),
-    }
-}
-
-// A refused setup.
-fn refused(answer: SetupAnswer) -> SetUp
-    ensures { (stores : Stores) → set_up_at result stores
-        ≡ left (setup_reply answer) (machine_of not_set_up unset stores) }
-{
-    let processor = KernelProcessor::not_set_up();
-    SetUp { answer, processor }
-}
-
 // "The bank's bytes are taken first; the limiter's cap is the rest."
 fn with_rest(spec: ProcessSpec) -> ProcessSpec
     ensures { result ≡ with_rest spec }
 {
-    let cap = spec.cap;
     ProcessSpec {
-        rate: spec.rate,
-        channels: spec.channels,
-        max_block: spec.max_block,
-        cap: left_of(80, cap),
-        house: spec.house,
+        cap: left_of(80, spec.cap),
+        ..spec
     }
 }
 
@@ -83,7 +58,8 @@ impl KernelProcessor {
         KernelProcessor { limiter, bank }
     }
 
-    // Sets a limiter up on lent stores: nothing is written unless nothing is refused.
+    // Sets a limiter up on lent stores: nothing is written unless nothing is refused. They are not handed on as one
+    // (`Lent`): the weights, which a block only reads, may be written here.
     pub fn prepare(
         s: LimiterSettings,
         spec: ProcessSpec,
@@ -93,22 +69,13 @@ impl KernelProcessor {
         weights: &mut [f64],
         row: &mut [f64],
         detector: &mut [f64],
-    ) -> SetUp
+    ) -> Result<KernelProcessor, SetupRefusal>
         ensures { set_up_at result (stores_at delay.new marks.new minima.new weights.new row.new detector.new)
             ≡ setup_of s spec (stores_at delay.old marks.old minima.old weights.old row.old detector.old) }
     {
-        let cap = spec.cap;
-        let set = bank_of(s, spec.rate);
-        let first = set.answer;
-        let whole = set.bank;
-        if let BankAnswer::Refused(why) = first {
-            return refused(SetupAnswer::Bank(why));
-        }
-        let budget = judge_cap(80, cap);
-        if let CapJudged::Over { needed, cap } = budget {
-            return refused(SetupAnswer::OverBudget { needed, cap });
-        }
-        let p = Limiter::prepare(
+        let bank = bank_of(s, spec.rate)?;
+        judge_cap(80, spec.cap)?;
+        let limiter = Limiter::prepare(
             s,
             with_rest(spec),
             delay,
@@ -117,13 +84,7 @@ impl KernelProcessor {
             weights,
             row,
             detector,
-        );
-        let answer = p.answer;
-        let limiter = p.limiter;
-        let bank = kept(answer, whole);
-        SetUp {
-            answer: SetupAnswer::Limiter(answer),
-            processor: KernelProcessor { limiter, bank },
-        }
+        )?;
+        Ok(KernelProcessor { limiter, bank })
     }
 }

@@ -10,7 +10,7 @@ pub struct KernelProcessor {
 }
 
 // What 18 and 19 read of a bank, and all that a state's bytes keep of it: the threshold's smoother and
-// the bank's own fields.
+// the bank's own fields. It goes beside the limiter, and in no struct with it: that would be copied once more a call.
 #[derive(Clone, Copy)]
 pub struct Threshold {
     pub smoother: Smoother,

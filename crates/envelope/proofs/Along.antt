@@ -2,29 +2,19 @@
 use mathlib.Core.Path.{◌≡◌, refl, sym, ap, ◌∙◌}
 use mathlib.Core.List.{List, ◌∷◌, ◌++◌, append_assoc}
 use Prim.Native.Nat.{ℕ, zero, suc, ◌+◌, ◌-◌, ◌≤◌, ◌<◌}
-use native.Mathlib.Numerals.{add-one}
 use native.Mathlib.Omega.{arith}
 use native.Mathlib.Nat.{eq-or-lt_of_le}
 use mathlib.Core.Logic.{⊎_elim}
-use lib.ListN.{length, get_or, set, take, drop, replicate, length-set, length-drop, get_or-replicate}
-use lib.Seq.{paste, paste-suc, take-paste, length-paste, take-take, take_all, take-length, get_or-drop, get_or-set_same, get_or-set_other, ext_get_or}
+use lib.ListN.{length, get_or, set, take, drop, replicate, length-set, length-take, length-drop, length-append, get_or-replicate}
+use lib.Seq.{take-take, take_all, take-append-le, length-take-le, get_or-set_same, get_or-set_other, ext_get_or}
+use borrow.Rule.Slice.PartMut.{put_mid}
+use Rattle.std.proofs.lemmas.Slice.{take-put_mid}
 use lib.Ieee.{Float, nan, binary64, add, mul}
 use Rattle.arithmetic.specs.Number
 use Rattle.envelope.specs.Row.{down}
 use Rattle.envelope.specs.Mean.{weighted_from}
 use Rattle.envelope.specs.Run.{line_of, sums_along, AddedTo}
 use Rattle.envelope.proofs.Weighted.{next}
-
--- ---- a straight copy
-module _ (from : List Float) (at : ℕ) (to : List Float) (place : ℕ) where
-  pub copy_more : (i : ℕ) (l : List Float) → at + i < length from → place + i < length to → l ≡ paste to place (drop at from) i
-      → set l (place + i) (get_or from (at + i) nan) ≡ paste to place (drop at from) (i + 1)
-  copy_more i l h k e =
-      let inside : i < length (drop at from) = simp length-drop (omega arith) in
-      rw (e, add-one i, ← get_or-drop at from i nan) (paste-suc to place (drop at from) i nan k inside)
-
-  pub copy_done : (n i : ℕ) (l : List Float) → i ≡ n → l ≡ paste to place (drop at from) i → l ≡ paste to place (drop at from) n
-  copy_done n i l e h = rw (← e) h
 
 -- ---- a weight's products added to sixteen sums in turn
 module _ (w : Float) (line : List Float) (at : ℕ) (old : List Float) where
@@ -113,47 +103,47 @@ module _ (ws line : List Float) where
             let k : i < 16 = omega (arith, s.as_many) in
             rw z at (s.rest i k) ∙ sym (along_at first 16 i k)
 
-  -- ---- a run's sums, in stretches of sixteen
-  module _ (n : ℕ) (old early one : List Float) (short : n ≤ 32) (o : length old ≡ 32) (E : early ≡ sums_along ws line 0 16) (one-is : one ≡ paste old 0 early 16) where
-    first_sixteen : take 16 one ≡ sums_along ws line 0 16
-    first_sixteen =
+  -- ---- a run's sums, in stretches of sixteen, each laid over the room for them
+  module _ (room early : List Float) (E : early ≡ sums_along ws line 0 16) where
+    pub sums_early : (n : ℕ) → n ≤ 16 → take n (early ++ drop 16 room) ≡ sums_along ws line 0 n
+    sums_early n h =
         let l = along_length 0 16 in
-        rw (one-is, E) (take-paste old 0 (sums_along ws line 0 16) 16 (omega arith) (omega arith) ∙ take_all 16 (sums_along ws line 0 16) (omega arith))
+        rw E (take-append-le n (sums_along ws line 0 16) (drop 16 room) (omega arith) ∙ along_take n 16 0 h)
 
-    pub sums_early : n ≤ 16 → take n one ≡ sums_along ws line 0 n
-    sums_early h = sym (take-take n 16 one h) ∙ ap (λ (l : List Float). take n l) first_sixteen ∙ along_take n 16 0 h
+    pub sums_late : (n : ℕ) → n ≤ 32 → length room ≡ 32 → (late : List Float) (k : ℕ) → late ≡ sums_along ws line 16 16 → take n (put_mid 16 k (early ++ drop 16 room) late) ≡ sums_along ws line 0 n
+    sums_late n short o late k L = sym (take-take n 32 both short) ∙ ap (λ (x : List Float). take n x) all ∙ along_take n 32 0 short
+      where
+        both : List Float
+        both = put_mid 16 k (early ++ drop 16 room) late
 
-    joins : (two whole late : List Float) → take 32 two ≡ take 16 one ++ take 16 late → take 16 late ≡ late → sums_along ws line 0 16 ++ late ≡ whole → take 32 two ≡ whole
-    joins two whole late t l w = t ∙ rw (first_sixteen, l) w
-
-    pub sums_late : (late two : List Float) → late ≡ sums_along ws line 16 16 → two ≡ paste one 16 late 16 → take n two ≡ sums_along ws line 0 n
-    sums_late late two L two_is =
-        let l = along_length 16 16 in
-        let k = along_length 0 16 in
-        let m : length one ≡ 32 = rw (one-is, E) (length-paste old 0 (sums_along ws line 0 16) 16 (omega arith) (omega arith) ∙ o) in
-        let all : take 32 two ≡ sums_along ws line 0 32 =
-        joins two (sums_along ws line 0 32) (sums_along ws line 16 16) (rw (two_is, L) (take-paste one 16 (sums_along ws line 16 16) 16 (omega arith) (omega arith))) (take_all 16 (sums_along ws line 16 16) (omega arith)) (sym (along_add 16 16 0))
-        in
-        sym (take-take n 32 two short) ∙ ap (λ (x : List Float). take n x) all ∙ along_take n 32 0 short
+        all : take 32 both ≡ sums_along ws line 0 32
+        all =
+            let l = ap length E ∙ along_length 0 16 in
+            let m = ap length L ∙ along_length 16 16 in
+            let first : take 16 (early ++ drop 16 room) ≡ sums_along ws line 0 16 = sums_early 16 (omega arith) in
+            let inside : 16 ≤ length (early ++ drop 16 room) = simp length-append (omega arith) in
+            let thirty_two : 32 ≡ 16 + length late = omega arith in
+            take-put_mid 16 k (early ++ drop 16 room) late 32 thirty_two inside ∙ rw (first, L) (sym (along_add 16 16 0))
 
 -- ---- the line is laid by three straight copies
-pub laid : (row : List Float) (pos : ℕ) (floors line a b c : List Float) → pos < length row → length row + length floors ≤ length line
-    → a ≡ paste line 0 (drop pos row) (length row - pos) → b ≡ paste a (length row - pos) row pos → c ≡ paste b (length row) floors (length floors)
-    → take (length row + length floors) c ≡ line_of pos row floors
-laid row pos floors line a b c h k A B C =
+pub laid : (row : List Float) (pos : ℕ) (floors line older newer behind : List Float) → pos < length row → length row + length floors ≤ length line
+    → older ≡ take (length row - pos) (drop pos row) → newer ≡ take pos row → behind ≡ floors
+    → take (length row + length floors) (put_mid (length row) (length row + length floors - length row) (put_mid (length row - pos) (length row - (length row - pos)) (older ++ drop (length row - pos) line) newer) behind)
+    ≡ line_of pos row floors
+laid row pos floors line older newer behind h k A B C =
     let l = length row in
-    let d : length (drop pos row) ≡ l - pos = length-drop pos row in
-    let la : length a ≡ length line = rw A (length-paste line 0 (drop pos row) (l - pos) (omega arith) (omega arith)) in
-    let lb : length b ≡ length a = rw B (length-paste a (l - pos) row pos (omega arith) (omega arith)) in
-    let z : 0 + (l - pos) ≡ l - pos = omega arith in
-    let ta : take (l - pos) a ≡ drop pos row =
-    let t : take (0 + (l - pos)) a ≡ take (l - pos) (drop pos row) = rw A (take-paste line 0 (drop pos row) (l - pos) (omega arith) (omega arith)) in
-    ap (λ (n : ℕ). take n a) (sym z) ∙ t ∙ take_all (l - pos) (drop pos row) (omega arith)
+    let d = length-drop pos row in
+    let a : older ≡ drop pos row = A ∙ take_all (l - pos) (drop pos row) (omega arith) in
+    let la : length older ≡ l - pos = ap length a ∙ d in
+    let lb : length newer ≡ pos = ap length B ∙ length-take-le pos row (omega arith) in
+    let lc : length behind ≡ length floors = ap length C in
+    let first = older ++ drop (l - pos) line in
+    let second = put_mid (l - pos) (l - (l - pos)) first newer in
+    let lf : length first ≡ length line = simp (length-append, length-drop) (omega arith) in
+    let two : take l second ≡ older ++ newer =
+    take-put_mid (l - pos) (l - (l - pos)) first newer l (omega arith) (omega arith) ∙ ap (λ (x : List Float). x ++ newer) (take-append-le (l - pos) older (drop (l - pos) line) (omega arith) ∙ take_all (l - pos) older (omega arith))
     in
-    let e : l - pos + pos ≡ l = omega arith in
-    let tb : take l b ≡ drop pos row ++ take pos row =
-    let t : take (l - pos + pos) b ≡ take (l - pos) a ++ take pos row = rw B (take-paste a (l - pos) row pos (omega arith) (omega arith)) in
-    ap (λ (n : ℕ). take n b) (sym e) ∙ t ∙ ap (λ (x : List Float). x ++ take pos row) ta
-    in
-    let tc : take (l + length floors) c ≡ take l b ++ take (length floors) floors = rw C (take-paste b l floors (length floors) (omega arith) (omega arith)) in
-    tc ∙ rw (tb, take-length floors) (append_assoc (drop pos row) (take pos row) floors)
+    let ls : l ≤ length second = omega (arith, length-take l second, ap length two, length-append older newer) in
+    take-put_mid l (l + length floors - l) second behind (l + length floors) (omega arith) ls
+    ∙ ap (λ (x : List Float). x ++ behind) two
+    ∙ rw (a, B, C) (append_assoc (drop pos row) (take pos row) floors)

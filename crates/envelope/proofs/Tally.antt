@@ -63,6 +63,9 @@ ordered s row h =
     let b = and-true (eqb s.tally (tally_of row)) (ltb s.pos (length row)) a.1 in
     record { unit = a.0; true_tally = eqb-true s.tally (tally_of row) b.0; place = ltb-true s.pos (length row) b.1 }
 
+pub placed : (s : AttackRow) (row : List Float) → row_in_order s row ≡ true → s.pos < length row
+placed s row h = (ordered s row h).place
+
 -- a row's own floor is counted in its tally, which its length bounds
 pub counted : (row : List Float) (i : ℕ) → i < length row → other_than_one (get_or row i nan) ≤ tally_of row
 counted [] i h = absurd (omega arith)

@@ -1,10 +1,10 @@
 -- Gain steps over a run, in passes: the means of a run of floors, and the gains that follow a run of means. That floors, means and gains in passes are the gain steps in turn is `in_passes_lem` of crate frame.
-use Rattle.std.specs.Prelude.{ℕ, zero, suc, ◌+◌, ◌<◌, ◌≡◌, cond, List, [], ◌∷◌, ◌++◌, eqb, length, get_or, take, drop, Float}
+use Rattle.std.specs.Prelude.{ℕ, zero, suc, ◌+◌, ◌<◌, ◌≡◌, true, cond, List, [], ◌∷◌, ◌++◌, eqb, length, get_or, take, drop, Float}
 use Rattle.std.specs.Float.{nan, binary64}
 use Rattle.std.specs.Float.Ieee.{add, mul}
 use Rattle.arithmetic.specs.Number
 use Rattle.arithmetic.specs.Number.{one}
-use Rattle.envelope.specs.Row.{Rowed, rowed_at, pushed, newest_first, down}
+use Rattle.envelope.specs.Row.{Rowed, rowed_at, pushed, newest_first, down, all_unit, row_in_order}
 use Rattle.envelope.specs.Mean.{weighted_from, mean_of}
 use Rattle.envelope.specs.Follow.{followed}
 use Rattle.envelope.specs.declared.row.AttackRow.{AttackRow}
@@ -17,6 +17,12 @@ pub record Means : Type 0 where
 
 abbrev pub means_at : AttackRow → List Float → List Float → Means
 means_at s row means = record { means = means; rowed = rowed_at s row }
+
+-- what the means of a run ask: a row in order, a weight for each place of it, floors within 0 and 1
+pub record MeansAsked (weights : List Float) (r : Rowed) (floors : List Float) : Type 0 where
+  pub row_ordered : row_in_order r.state r.row ≡ true
+  pub weights_len : length weights ≡ length r.row
+  pub floors_unit : all_unit floors ≡ true
 
 -- the mean of the row after each of these floors
 unfoldable pub means_of : List Float → Rowed → List Float → Means

@@ -36,15 +36,14 @@ pub fn follow(gain: f64, mean: f64, coeff: f64) -> f64
 pub fn follow_all(gain: f64, coeff: f64, means: &mut [f64]) -> f64
     ensures { follows_at means.new result ≡ followed_all coeff gain means.old }
 {
-    let n = means.len();
     let mut g = gain;
-    for i in 0..n {
-        let m = means[i];
+    for mean in means.iter_mut() {
+        let m = *mean;
         if attacks(g, m) {
             g = m;
         } else {
             g = follow(g, m, coeff);
-            means[i] = g;
+            *mean = g;
         }
     }
     g

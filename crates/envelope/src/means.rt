@@ -1,10 +1,9 @@
 // The attack row over a run of floors: each floor gives way to the mean of the row that it was
 // pushed into.
-ghost use Rattle.std.specs.Prelude.{◌≡◌, true, List, ◌+◌, ◌≤◌, ◌<◌, length, take, drop, Float};
-ghost use Rattle.std.proofs.Math.Seq.{paste};
+ghost use Rattle.std.specs.Prelude.{◌≡◌, true, List, ◌+◌, ◌≤◌, ◌<◌, length, take, Float};
 ghost use Rattle.envelope.specs.Row.{rowed_at, pos_after, all_unit, row_in_order};
 ghost use Rattle.envelope.specs.Mean.{is_all_one};
-ghost use Rattle.envelope.specs.Run.{means_at, means_of, sums_of, line_of, sums_along, given, AddedTo};
+ghost use Rattle.envelope.specs.Run.{means_at, means_of, sums_of, line_of, sums_along, given, AddedTo, MeansAsked};
 
 use crate::row::AttackRow;
 
@@ -15,6 +14,7 @@ fn pos_after(l: usize, pos: usize, n: usize) -> usize
     ensures { result ≡ pos_after l pos n }
 {
     let mut p = pos + n;
+    // a remainder takes longer: 10 ns a run where this takes 2 to 4
     while l <= p {
         p -= l;
     }
@@ -25,24 +25,7 @@ fn pos_after(l: usize, pos: usize, n: usize) -> usize
 fn all_one(floors: &[f64]) -> bool
     ensures { result ≡ is_all_one floors.now }
 {
-    let mut ok = true;
-    let mut i: usize = 0;
-    while i < floors.len() {
-        ok = ok & (floors[i] == 1.0);
-        i += 1;
-    }
-    ok
-}
-
-// n values from one place on to another place on.
-fn copy_to(from: &[f64], at: usize, to: &mut [f64], place: usize, n: usize)
-    requires from_inside { at + n ≤ length from.now }
-    requires to_inside { place + n ≤ length to.old }
-    ensures { to.new ≡ paste to.old place (drop at from.now) n }
-{
-    for i in 0..n {
-        to[place + i] = from[at + i];
-    }
+    floors.iter().all(|floor| *floor == 1.0)
 }
 
 // The row oldest first, and the floors behind it: straight copies, so that the sums of several
@@ -54,9 +37,9 @@ fn lay_line(row: &[f64], pos: usize, floors: &[f64], line: &mut [f64])
         ≡ line_of pos row.now floors.now }
 {
     let l = row.len();
-    copy_to(row, pos, line, 0, l - pos);
-    copy_to(row, 0, line, l - pos, pos);
-    copy_to(floors, 0, line, l, floors.len());
+    line[..l - pos].copy_from_slice(&row[pos..]);
+    line[l - pos..l].copy_from_slice(&row[..pos]);
+    line[l..l + floors.len()].copy_from_slice(floors);
 }
 
 // A weight times sixteen floors, from a place of the line on, added to sixteen sums.
@@ -92,12 +75,12 @@ fn sums_along(weights: &[f64], line: &[f64], n: usize, sums: &mut [f64])
     ensures { take n sums.new ≡ sums_along weights.now line.now 0 n }
 {
     let early = sums_from(weights, line, 0);
-    copy_to(&early, 0, sums, 0, 16);
+    sums[..16].copy_from_slice(&early);
     if n <= 16 {
         return;
     }
     let late = sums_from(weights, line, 16);
-    copy_to(&late, 0, sums, 16, 16);
+    sums[16..].copy_from_slice(&late);
 }
 
 // The mean of a row with this tally and this weighted sum.
@@ -107,41 +90,24 @@ fn given(tally: usize, sum: f64) -> f64
     if tally == 0 { 1.0 } else { sum }
 }
 
-// Room for the sums of a run.
-fn sums_room() -> [f64; 32]
-    ensures { length result ≡ 32 }
+// Room for N floats: only its length is promised, so that no goal has them all in it.
+fn room<const N: usize>() -> [f64; N]
+    ensures { length result ≡ N }
 {
-    [0.0; 32]
-}
-
-// A line for rows of up to 96 floors.
-fn short_line() -> [f64; 128]
-    ensures { length result ≡ 128 }
-{
-    [0.0; 128]
-}
-
-// A line for the longest row.
-fn long_line() -> [f64; 4128]
-    ensures { length result ≡ 4128 }
-{
-    [0.0; 4128]
+    [0.0; N]
 }
 
 impl AttackRow {
     // Frame by frame, each mean by a walk of the ring.
     fn means_in_turn(self, weights: &[f64], row: &mut [f64], floors: &mut [f64]) -> AttackRow
-        requires row_ordered { row_in_order self row.old ≡ true }
-        requires weights_len { length weights.now ≡ length row.old }
-        requires floors_unit { all_unit floors.old ≡ true }
+        requires { MeansAsked weights.now (rowed_at self row.old) floors.old }
         ensures { means_at result row.new floors.new
             ≡ means_of weights.now (rowed_at self row.old) floors.old }
     {
-        let n = floors.len();
         let mut a = self;
-        for i in 0..n {
-            a = a.push(row, floors[i]);
-            floors[i] = a.mean(weights, row);
+        for floor in floors.iter_mut() {
+            a = a.push(row, *floor);
+            *floor = a.mean(weights, row);
         }
         a
     }
@@ -165,6 +131,7 @@ impl AttackRow {
     }
 
     // The sums of all frames first, over a line.
+    #[tactic(auto, using(crate::proofs::Tally::placed))]
     fn means_along(
         self,
         weights: &[f64],
@@ -172,9 +139,7 @@ impl AttackRow {
         floors: &mut [f64],
         line: &mut [f64],
     ) -> AttackRow
-        requires row_ordered { row_in_order self row.old ≡ true }
-        requires weights_len { length weights.now ≡ length row.old }
-        requires floors_unit { all_unit floors.old ≡ true }
+        requires asked { MeansAsked weights.now (rowed_at self row.old) floors.old }
         requires floors_len_bound { length floors.old ≤ 32 }
         requires row_in_bounds { length row.old + 32 ≤ length line.old }
         ensures { means_at result row.new floors.new
@@ -182,52 +147,43 @@ impl AttackRow {
     {
         let pos = self.pos;
         lay_line(row, pos, floors, line);
-        let mut sums = sums_room();
+        let mut sums = room::<32>();
         sums_along(weights, line, floors.len(), &mut sums);
         self.means_given(row, floors, &sums)
     }
 
-    fn means_short(self, weights: &[f64], row: &mut [f64], floors: &mut [f64]) -> AttackRow
-        requires row_ordered { row_in_order self row.old ≡ true }
-        requires weights_len { length weights.now ≡ length row.old }
-        requires floors_unit { all_unit floors.old ≡ true }
+    // The same with a line of N places of its own.
+    fn means_in<const N: usize>(
+        self,
+        weights: &[f64],
+        row: &mut [f64],
+        floors: &mut [f64],
+    ) -> AttackRow
+        requires asked { MeansAsked weights.now (rowed_at self row.old) floors.old }
         requires floors_len_bound { length floors.old ≤ 32 }
-        requires row_len_bound { length row.old ≤ 96 }
+        requires row_in_bounds { length row.old + 32 ≤ N }
+        requires places_bound { N ≤ 4128 }
         ensures { means_at result row.new floors.new
             ≡ means_of weights.now (rowed_at self row.old) floors.old }
     {
-        let mut line = short_line();
-        self.means_along(weights, row, floors, &mut line)
-    }
-
-    fn means_long(self, weights: &[f64], row: &mut [f64], floors: &mut [f64]) -> AttackRow
-        requires row_ordered { row_in_order self row.old ≡ true }
-        requires weights_len { length weights.now ≡ length row.old }
-        requires floors_unit { all_unit floors.old ≡ true }
-        requires floors_len_bound { length floors.old ≤ 32 }
-        requires row_len_bound { length row.old ≤ 4096 }
-        ensures { means_at result row.new floors.new
-            ≡ means_of weights.now (rowed_at self row.old) floors.old }
-    {
-        let mut line = long_line();
+        let mut line = room::<N>();
         self.means_along(weights, row, floors, &mut line)
     }
 
     // Each floor of a run gives way to its mean. Where row and floors are nothing but 1, so are the
     // means, and only the position goes on. A short run goes frame by frame.
+    #[tactic(auto, using(crate::proofs::Tally::placed))]
     pub fn means(self, weights: &[f64], row: &mut [f64], floors: &mut [f64]) -> AttackRow
-        requires row_ordered { row_in_order self row.old ≡ true }
-        requires weights_len { length weights.now ≡ length row.old }
-        requires floors_unit { all_unit floors.old ≡ true }
+        requires { MeansAsked weights.now (rowed_at self row.old) floors.old }
         ensures { means_at result row.new floors.new
             ≡ means_of weights.now (rowed_at self row.old) floors.old }
     {
         let l = row.len();
         let n = floors.len();
-        if (n > 32) | (l > 4096) {
+        if n > 32 || l > 4096 {
             return self.means_in_turn(weights, row, floors);
         }
-        if (self.tally == 0) & all_one(floors) {
+        if self.tally == 0 && all_one(floors) {
             return AttackRow {
                 pos: pos_after(l, self.pos, n),
                 tally: 0,
@@ -237,8 +193,8 @@ impl AttackRow {
             return self.means_in_turn(weights, row, floors);
         }
         if l <= 96 {
-            return self.means_short(weights, row, floors);
+            return self.means_in::<128>(weights, row, floors);
         }
-        self.means_long(weights, row, floors)
+        self.means_in::<4128>(weights, row, floors)
     }
 }

@@ -1,5 +1,5 @@
 // The attack row: the latest L floors, in a lent ring.
-ghost use Rattle.std.specs.Prelude.{◌≡◌, true, ◌+◌, ◌≤◌, ◌<◌, length, drop};
+ghost use Rattle.std.specs.Prelude.{◌≡◌, true, ◌<◌, length};
 ghost use Rattle.envelope.specs.Row.{down, newest_first, other_than_one, tally_of, next_pos, rowed_at, pushed, all_unit, row_in_order};
 ghost use Rattle.envelope.specs.Mean.{weighted_from, mean_of};
 
@@ -18,10 +18,11 @@ pub struct AttackRow {
 fn other_than_one(floor: f64) -> usize
     ensures { result ≡ other_than_one floor }
 {
-    if floor != 1.0 { 1 } else { 0 }
+    usize::from(floor != 1.0)
 }
 
-// The position after this one, round at the end of l places: the attack row's, and a delay line's.
+// The position after this one, round at the end of l places: the attack row's, and a delay line's. One place on needs a test
+// alone, and the keeper's `wrap` goes round at most once: neither is `pos_after`, which goes n places on.
 pub fn next_pos(l: usize, pos: usize) -> usize
     requires { pos < l }
     ensures value { result ≡ next_pos l pos }
@@ -31,45 +32,33 @@ pub fn next_pos(l: usize, pos: usize) -> usize
     if next == l { 0 } else { next }
 }
 
-// The products of n floors from `from` on, read downward, and the weights from j on, added to acc.
-fn weighted(acc: f64, weights: &[f64], j: usize, row: &[f64], from: usize, n: usize) -> f64
-    requires row_inside { from + n ≤ length row.now }
-    requires weights_inside { j + n ≤ length weights.now }
-    ensures { result ≡ weighted_from acc (drop j weights.now) (down row.now from n) }
+// The products of these weights and floors, the floors read downward, added to acc.
+fn weighted(acc: f64, weights: &[f64], floors: &[f64]) -> f64
+    requires { length weights.now ≡ length floors.now }
+    ensures { result ≡ weighted_from acc weights.now (down floors.now 0 (length floors.now)) }
 {
+    let n = floors.len();
     let mut sum = acc;
-    let mut at = j;
-    let mut left = n;
-    while 0 < left {
-        left -= 1;
-        sum = sum + weights[at] * row[from + left];
-        at += 1;
+    for i in 0..n {
+        sum = sum + weights[i] * floors[n - 1 - i];
     }
     sum
 }
 
-// Whether every floor lies within 0 and 1. It reads the whole row, without a way out: several floors in one instruction.
+// Whether every floor lies within 0 and 1.
 fn all_unit(row: &[f64]) -> bool
     ensures { result ≡ all_unit row.now }
 {
-    let mut ok = true;
-    let mut i: usize = 0;
-    while i < row.len() {
-        ok = ok & unit(row[i]);
-        i += 1;
-    }
-    ok
+    row.iter().all(|floor| unit(*floor))
 }
 
 // How many floors are other than 1.
 fn tally_of(row: &[f64]) -> usize
     ensures { result ≡ tally_of row.now }
 {
-    let mut n: usize = 0;
-    let mut i: usize = 0;
-    while i < row.len() {
-        n += other_than_one(row[i]);
-        i += 1;
+    let mut n = 0;
+    for floor in row {
+        n += other_than_one(*floor);
     }
     n
 }
@@ -89,6 +78,7 @@ impl AttackRow {
     }
 
     // The floor replaces the oldest.
+    #[tactic(auto, using(crate::proofs::Tally::placed))]
     pub fn push(self, row: &mut [f64], floor: f64) -> AttackRow
         requires { row_in_order self row.old ≡ true }
         ensures { rowed_at result row.new ≡ pushed self row.old floor }
@@ -103,6 +93,7 @@ impl AttackRow {
     }
 
     // The weighted mean of the row, newest floor first; exactly 1.0 where every floor is 1.0.
+    #[tactic(auto, using(crate::proofs::Tally::placed))]
     pub fn mean(self, weights: &[f64], row: &[f64]) -> f64
         requires row_ordered { row_in_order self row.now ≡ true }
         requires weights_len { length weights.now ≡ length row.now }
@@ -112,7 +103,7 @@ impl AttackRow {
             return 1.0;
         }
         let pos = self.pos;
-        let newer = weighted(0.0, weights, 0, row, 0, pos);
-        weighted(newer, weights, pos, row, pos, row.len() - pos)
+        let newer = weighted(0.0, &weights[..pos], &row[..pos]);
+        weighted(newer, &weights[pos..], &row[pos..])
     }
 }

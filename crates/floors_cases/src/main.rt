@@ -2,186 +2,87 @@
 // named in data/names): each is run through the library's function, and what differs is told.
 #![tactic(auto)]
 
-ghost use Rattle.std.specs.Prelude.{◌≡◌, ◌+◌, ◌≤◌, ◌<◌, length, IfOk};
-ghost use Rattle.std.specs.Str.{IsAscii};
-
+use records::rooms::room;
+use records::tally::Tally;
 use records::words::read_full;
+use std::fmt::InlineText;
 use std::rt::Files;
-use std::{fs, io, str};
+use std::{fs, io};
 
-// Room for one byte more than the most input.
-fn input_room() -> [u8; 60001]
-    ensures { 60001 ≡ length result }
-{
-    [0; 60001]
-}
-
-// Room for one byte more than the longest text, so that a record that is too long shows.
-fn text_room() -> [u8; 160001]
-    ensures { 160001 ≡ length result }
-{
-    [0; 160001]
-}
-
-// The bytes of a file at the start of buf, and how many they are.
-#[derive(Clone, Copy)]
-enum File {
-    Missing,
-    Bytes(usize),
-}
-
-fn read_file(rt: &impl Files, path: &str, buf: &mut [u8]) -> io::Result<File> {
+// What a file has, read into buf; none where there is no such file.
+fn read_file<'a>(rt: &impl Files, path: &str, buf: &'a mut [u8]) -> io::Result<Option<&'a [u8]>> {
     let Ok(mut file) = fs::open(rt, path) else {
-        return Ok(File::Missing);
+        return Ok(None);
     };
     let count = read_full(&mut file, buf)?;
-    Ok(File::Bytes(count))
+    Ok(Some(&buf[..count]))
 }
 
-// A case's two digits.
-fn digit(n: usize) -> u8
-    ensures { result < 128 }
-{
-    48 + (n % 10) as u8
+// The name of a case's file.
+fn name(number: usize, end: &str) -> InlineText<6> {
+    InlineText::of(format_args!("{number:02}.{end}"))
 }
 
-// A name as text.
-fn text_of(name: &[u8]) -> &str
-    requires { IsAscii name.now }
-{
-    match str::from_utf8(name) {
-        Ok(text) => text,
-        Err(_) => unreachable!(),
+// Whether two texts are the same, or the first place at which they are not, past the end of the shorter one too.
+fn same(a: &[u8], b: &[u8]) -> Result<(), usize> {
+    if a == b {
+        return Ok(());
     }
+    let place = a.iter().zip(b).position(|(x, y)| x != y);
+    Err(place.unwrap_or(a.len().min(b.len())))
 }
 
-// The first of two texts' bytes that differs, or the length of the shorter one.
-fn first_difference(a: &[u8], b: &[u8]) -> usize {
-    let mut i = 0;
-    while i < a.len() {
-        if i >= b.len() {
-            return i;
-        }
-        if a[i] != b[i] {
-            return i;
-        }
-        i += 1;
-    }
-    i
-}
-
-// How a case ended.
-#[derive(Clone, Copy)]
-enum Case {
-    Missing,
-    Same,
-    Differs(usize),
-}
-
-// The texts of a case, one of count bytes at the start of a room, the other as recorded.
-fn judge(text: &[u8], count: usize, recorded: &[u8], size: usize) -> Case {
+// The same of a text of so many bytes, of which `text` has those that there was room for, and the recorded one.
+fn judge(text: &[u8], count: usize, recorded: &[u8]) -> Result<(), usize> {
     if count > text.len() {
-        return Case::Differs(text.len());
+        return Err(text.len());
     }
-    if size > recorded.len() {
-        return Case::Missing;
-    }
-    let place = first_difference(&text[..count], &recorded[..size]);
-    if place < count {
-        return Case::Differs(place);
-    }
-    if place < size {
-        return Case::Differs(place);
-    }
-    Case::Same
+    same(&text[..count], recorded)
 }
 
+// How a case ended; none where one of its files is missing.
 fn run(
     rt: &impl Files,
     number: usize,
     input: &mut [u8],
     text: &mut [u8],
     recorded: &mut [u8],
-) -> io::Result<Case> {
-    let tens = digit(number / 10);
-    let ones = digit(number);
-    let from = [tens, ones, b'.', b'i', b'n'];
-    let File::Bytes(read) = read_file(rt, text_of(&from), input)? else {
-        return Ok(Case::Missing);
+) -> io::Result<Option<Result<(), usize>>> {
+    let Some(given) = read_file(rt, name(number, "in").as_str(), input)? else {
+        return Ok(None);
     };
-    let to = [tens, ones, b'.', b'o', b'u', b't'];
-    let File::Bytes(size) = read_file(rt, text_of(&to), recorded)? else {
-        return Ok(Case::Missing);
+    let Some(due) = read_file(rt, name(number, "out").as_str(), recorded)? else {
+        return Ok(None);
     };
-    if read > input.len() {
-        return Ok(Case::Missing);
-    }
-    let count = floors_text::floors(&input[..read], text);
-    Ok(judge(text, count, recorded, size))
+    let count = floors_text::floors(given, text);
+    Ok(Some(judge(text, count, due)))
 }
 
-fn tell(rt: &impl Print, word: &str, number: usize) -> io::Result<()> {
-    print!(rt; "{word}{number}")
-}
-
-fn tell_difference(rt: &impl Print, number: usize, place: usize) -> io::Result<()> {
-    tell(rt, "case=", number)?;
-    tell(rt, " byte=", place)?;
-    println!(rt)
-}
-
-// How many cases there are, and how many of them differ.
-#[derive(Clone, Copy)]
-struct Tally {
-    cases: usize,
-    differ: usize,
-}
-
-impl Tally {
-    // With a case more; one that differs is told.
-    fn with(self, rt: &impl Print, number: usize, case: Case) -> io::Result<Tally>
-        requires { (self.cases < 100) × (self.differ < 100) }
-        ensures { IfOk result (λ t. (t.cases ≤ self.cases + 1) × (t.differ ≤ self.differ + 1)) }
-    {
-        match case {
-            Case::Missing => Ok(self),
-            Case::Same => Ok(Tally {
-                cases: self.cases + 1,
-                differ: self.differ,
-            }),
-            Case::Differs(place) => {
-                tell_difference(rt, number, place)?;
-                Ok(Tally {
-                    cases: self.cases + 1,
-                    differ: self.differ + 1,
-                })
-            }
-        }
-    }
-}
-
+// All cases; one that differs is told.
 fn run_all(
     rt: &(impl Files + Print),
     input: &mut [u8],
     text: &mut [u8],
     recorded: &mut [u8],
 ) -> io::Result<Tally> {
-    let mut tally = Tally {
-        cases: 0,
-        differ: 0,
-    };
-    for number in 1..100usize {
-        tally = tally.with(rt, number, run(rt, number, input, text, recorded)?)?;
+    let mut tally = Tally::new();
+    for number in 1..100 {
+        let Some(ended) = run(rt, number, input, text, recorded)? else {
+            continue;
+        };
+        if let Err(place) = ended {
+            println!(rt; "case={number} byte={place}")?;
+        }
+        tally.count(ended.is_ok());
     }
     Ok(tally)
 }
 
 fn main(rt: HostRuntime) -> io::Result<()> {
-    let mut input = input_room();
-    let mut text = text_room();
-    let mut recorded = text_room();
+    // One byte more than the most input, and than the longest text, so that what is too long shows.
+    let mut input = room::<u8, 60001>(0);
+    let mut text = room::<u8, 160001>(0);
+    let mut recorded = room::<u8, 160001>(0);
     let tally = run_all(&rt, &mut input, &mut text, &mut recorded)?;
-    tell(&rt, "cases=", tally.cases)?;
-    tell(&rt, " differ=", tally.differ)?;
-    println!(rt)
+    println!(rt; "cases={} differ={}", tally.count, tally.differ)
 }

@@ -1,14 +1,16 @@
 -- The input cut into lines: what its first line is, and what the others are.
-use mathlib.Core.Path.{◌≡◌, refl, ap}
-use mathlib.Core.Bool.{Bool, true, false}
+use mathlib.Core.Path.{◌≡◌, refl, sym, ap, ◌∙◌}
+use mathlib.Core.Bool.{Bool, true, false, cond, ◌&&◌}
 use mathlib.Core.List.{List, [], ◌∷◌}
-use Prim.Native.Nat.{ℕ, suc, ◌+◌, ◌≤◌, ◌<◌}
+use Prim.Native.Nat.{ℕ, ◌+◌, ◌≤◌, ◌<◌}
 use native.Mathlib.Omega.{arith}
-use lib.Dec.{eqb}
-use native.Mathlib.Numerals.{add-one}
-use borrow.Author.Tests.{eq-eqb, ne_eqb}
-use lib.ListN.{length, take, drop, get_or, drop_of_length-le}
-use lib.Seq.{drop-cons}
+use lib.Dec.{eqb, ltb}
+use borrow.Author.Tests.{eq-eqb, eqb-true, ltb-true, ltb-false}
+use Rattle.std.specs.Prelude.{Option, Some, None}
+use Rattle.std.specs.List
+use Rattle.std.specs.List.{position_or_len}
+use Rattle.arithmetic.proofs.Order.{same_test}
+use lib.ListN.{length, take, drop}
 use Rattle.floors_text.specs.Lines.{in_front, lines_of, first_of, starts_with}
 
 pub first_front : (b : ℕ) (ls : List (List ℕ)) → first_of (in_front b ls) ≡ b ∷ first_of ls
@@ -19,13 +21,33 @@ first_front b (l ∷ ls) = refl
 abbrev pub first_length : List ℕ → ℕ
 first_length s = length (first_of (lines_of s))
 
--- how the first line of the input from a place on grows, byte by byte
-module _ (s : List ℕ) (i : ℕ) (more : i < length s) where
-  pub first_newline : get_or s i 0 ≡ 10 → first_length (drop i s) ≡ 1
-  first_newline e = rw (drop-cons s i 0 more, eq-eqb (get_or s i 0) 10 e) refl
+-- by the place of the first newline
+abbrev newline_at : List ℕ → ℕ
+newline_at s = position_or_len (λ (b : ℕ). eqb b 10) s
 
-  pub first_byte : (get_or s i 0 ≡ 10 → ⊥) → first_length (drop i s) ≡ suc (first_length (drop (i + 1) s))
-  first_byte e = rw (add-one i, drop-cons s i 0 more, ne_eqb (get_or s i 0) 10 e, first_front (get_or s i 0) (lines_of (drop (suc i) s))) refl
+first_at : (s : List ℕ) → (newline_at s < length s → newline_at s + 1 ≡ first_length s) × (length s ≤ newline_at s → length s ≡ first_length s)
+first_at [] = (λ h. absurd (omega arith), λ h. refl)
+first_at (b ∷ bs) = go (eqb b 10) refl (first_at bs)
+  where
+    go : (t : Bool) → eqb b 10 ≡ t → (newline_at bs < length bs → newline_at bs + 1 ≡ first_length bs) × (length bs ≤ newline_at bs → length bs ≡ first_length bs)
+        → (newline_at (b ∷ bs) < length (b ∷ bs) → newline_at (b ∷ bs) + 1 ≡ first_length (b ∷ bs)) × (length (b ∷ bs) ≤ newline_at (b ∷ bs) → length (b ∷ bs) ≡ first_length (b ∷ bs))
+    go true e h = rw e (λ k. omega arith, λ k. absurd (omega arith))
+    go false e h = rw (e, first_front b (lines_of bs)) (λ k. omega (arith, h.0 (omega arith)), λ k. omega (arith, h.1 (omega arith)))
+
+module _ (s : List ℕ) (r : Option ℕ) (found : r ≡ cond (ltb (newline_at s) (length s)) (Some (newline_at s)) None) where
+  pub first_found : (i : ℕ) → r ≡ Some i → i + 1 ≡ first_length s
+  first_found i e = go (ltb (newline_at s) (length s)) refl (sym found ∙ e)
+    where
+      go : (t : Bool) → ltb (newline_at s) (length s) ≡ t → cond t (Some (newline_at s)) None ≡ Some i → i + 1 ≡ first_length s
+      go true k h = let n : newline_at s ≡ i = cc in omega (arith, (first_at s).0 (ltb-true (newline_at s) (length s) k))
+      go false k h = absurd (cc)
+
+  pub first_missing : r ≡ None → length s ≡ first_length s
+  first_missing e = go (ltb (newline_at s) (length s)) refl (sym found ∙ e)
+    where
+      go : (t : Bool) → ltb (newline_at s) (length s) ≡ t → cond t (Some (newline_at s)) None ≡ None → length s ≡ first_length s
+      go true k h = absurd (cc)
+      go false k h = (first_at s).1 (ltb-false (newline_at s) (length s) k)
 
 -- the first line is the input's first bytes
 pub first_take : (s : List ℕ) → first_of (lines_of s) ≡ take (first_length s) s
@@ -67,16 +89,11 @@ lines_cut (b ∷ c ∷ bs) h = go (eqb b 10) refl (lines_cut (c ∷ bs) (omega a
     go true e k = rw e refl
     go false e k = rw (e, first_front b (lines_of (c ∷ bs))) (ap {B = List (List ℕ)} (in_front b) k)
 
--- ---- a word at the start of a line, letter by letter
-module _ (word line : List ℕ) (i : ℕ) where
-  pub word_done : length word ≤ i → starts_with (drop i word) (drop i line) ≡ true
-  word_done h = rw (drop_of_length-le word {i = i} h) refl
+-- ---- a word at the start of a line
+same_byte : (a b : ℕ) → eqb a b ≡ eqb b a
+same_byte a b = same_test (eqb a b) (eqb b a) (λ h. eq-eqb b a (sym (eqb-true a b h))) (λ h. eq-eqb a b (sym (eqb-true b a h)))
 
-  pub word_short : i < length word → length line ≤ i → starts_with (drop i word) (drop i line) ≡ false
-  word_short h k = rw (drop-cons word i 0 h, drop_of_length-le line {i = i} k) refl
-
-  pub word_other : i < length word → i < length line → (get_or line i 0 ≡ get_or word i 0 → ⊥) → starts_with (drop i word) (drop i line) ≡ false
-  word_other h k e = rw (drop-cons word i 0 h, drop-cons line i 0 k, ne_eqb (get_or line i 0) (get_or word i 0) e) refl
-
-  pub word_letter : i < length word → i < length line → get_or line i 0 ≡ get_or word i 0 → starts_with (drop i word) (drop i line) ≡ starts_with (drop (i + 1) word) (drop (i + 1) line)
-  word_letter h k e = rw (add-one i, drop-cons word i 0 h, drop-cons line i 0 k, eq-eqb (get_or line i 0) (get_or word i 0) e) refl
+pub starts_is : (word line : List ℕ) → List.starts_with eqb line word ≡ starts_with word line
+starts_is [] line = refl
+starts_is (w ∷ ws) [] = refl
+starts_is (w ∷ ws) (b ∷ bs) = rw (same_byte w b) (ap (λ (t : Bool). eqb b w && t) (starts_is ws bs))

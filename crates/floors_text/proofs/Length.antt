@@ -5,7 +5,7 @@ use mathlib.Core.List.{List, [], ◌∷◌, ◌++◌}
 use Prim.Native.Nat.{ℕ, suc, ◌+◌, ◌*◌, ◌≤◌, ◌<◌}
 use native.Mathlib.Omega.{arith}
 use lib.Dec.{leb, eqb}
-use lib.ListN.{length, get_or, drop, replicate, length-append, length-drop, length-replicate}
+use lib.ListN.{length, get_or, replicate, length-append, length-replicate}
 use lib.Ieee.{Float}
 use borrow.Author.Tests.{leb-true}
 use Rattle.arithmetic.specs.Number
@@ -16,8 +16,7 @@ use Rattle.keeper.proofs.Floor.{empty_order}
 use Rattle.floors_text.specs.Print.{ascii, refusal_line}
 use Rattle.floors_text.specs.Lines.{in_front, lines_of, shaped, number_from, field_of, look_within, look_of, gain_of}
 use Rattle.floors_text.specs.Text.{opened, frame_text, or_else, gain_text, lines_text, text_of}
-use Rattle.floors_text.specs.declared.lines.Field.{Field}
-use Rattle.floors_text.specs.declared.lines.Field.TheVariants.{Malformed, Number}
+use Rattle.std.specs.Prelude.{Option, Some, None}
 use Rattle.floors_text.proofs.Puts.{refusal_length, frame_length}
 use Rattle.floors_text.proofs.Numbers.{four_digits}
 use Rattle.floors_text.proofs.Forms.{shape_length, gain_none}
@@ -98,7 +97,7 @@ pub refusal_most : (n : ℕ) → n < 10000 → length (refusal_line n) ≤ 21
 refusal_most n h = omega (arith, refusal_length n, four_digits n h)
 
 -- a gain line has 22 bytes
-pub gain_sized : (line : List ℕ) (b : ℕ) → gain_of line ≡ Number b → length line ≡ 22
+pub gain_sized : (line : List ℕ) (b : ℕ) → gain_of line ≡ Some b → length line ≡ 22
 gain_sized line b e = go (shaped (ascii "gain=") 16 16 line) refl
   where
     go : (t : Bool) → shaped (ascii "gain=") 16 16 line ≡ t → length line ≡ 22
@@ -115,39 +114,38 @@ gain_most (line ∷ lines) k number s n h = go (gain_of line) refl (gain_most li
     few : k.keeper.frame < 10000
     few = omega arith
 
-    go : (f : Field) → gain_of line ≡ f
+    go : (f : Option ℕ) → gain_of line ≡ f
         → ((k : Keeping) (number : ℕ) → Steady k → number ≡ k.keeper.frame + 2 → 22 * k.keeper.frame + bytes_of lines ≤ 60000 → 22 * length (gain_text k number lines) ≤ 57 * bytes_of lines + 462)
         → 22 * length (or_else (gain_of line) (refusal_line number) (λ b. frame_text k (bits b) ++ gain_text (stepped_of k (bits b)).keeping (number + 1) lines)) ≤ 57 * (length line + bytes_of lines) + 462
-    go Malformed e rest = rw e (omega (arith, refusal_most number (omega arith)))
-    go (Number b) e rest =
+    go None e rest = rw e (omega (arith, refusal_most number (omega arith)))
+    go (Some b) e rest =
         let f = stepped_frame k s few (bits b) in
         let l = gain_sized line b e in
         let r = rest (stepped_of k (bits b)).keeping (number + 1) (steady_step k s few (bits b)) (omega arith) (omega arith) in
         rw (e, length-append (frame_text k (bits b)) (gain_text (stepped_of k (bits b)).keeping (number + 1) lines)) (omega (arith, frame_most k s few (bits b)))
 
 -- what the lines after the first can give
-pub gains_fit : (look from : ℕ) (input : List ℕ) → look ≤ 4096 → length input ≤ 60000 → length (gain_text (opened look) 2 (lines_of (drop from input))) ≤ 160000
-gains_fit look from input h few =
-    let b = lines_bytes (drop from input) in
-    let d = length-drop from input in
-    omega (arith, gain_most (lines_of (drop from input)) (opened look) 2 (opened_steady look h) refl (omega arith))
+pub gains_fit : (look : ℕ) (text : List ℕ) → look ≤ 4096 → length text ≤ 60000 → length (gain_text (opened look) 2 (lines_of text)) ≤ 160000
+gains_fit look text h few =
+    let b = lines_bytes text in
+    omega (arith, gain_most (lines_of text) (opened look) 2 (opened_steady look h) refl (omega arith))
 
 -- a look is within its range
-pub look_range : (line : List ℕ) (look : ℕ) → look_of line ≡ Number look → (11 ≤ look) × (look ≤ 4096)
+pub look_range : (line : List ℕ) (look : ℕ) → look_of line ≡ Some look → (11 ≤ look) × (look ≤ 4096)
 unfolding look_of
 look_range line look e = go (shaped (ascii "look=") 2 4 line && not (eqb (get_or line 5 0) 48)) e
   where
-    within : (n : ℕ) (f g : Bool) → leb 11 n ≡ f → leb n 4096 ≡ g → cond (f && g) (Number n) Malformed ≡ Number look → (11 ≤ look) × (look ≤ 4096)
+    within : (n : ℕ) (f g : Bool) → leb 11 n ≡ f → leb n 4096 ≡ g → cond (f && g) (Some n) None ≡ Some look → (11 ≤ look) × (look ≤ 4096)
     within n true true p q h = let s : n ≡ look = cc in (omega (arith, leb-true 11 n p), omega (arith, leb-true n 4096 q))
     within n true false p q h = absurd (let z : ◌≡◌ {A = ℕ} 0 1 = cc in omega arith)
     within n false true p q h = absurd (let z : ◌≡◌ {A = ℕ} 0 1 = cc in omega arith)
     within n false false p q h = absurd (let z : ◌≡◌ {A = ℕ} 0 1 = cc in omega arith)
 
-    field : (f : Field) → look_within f ≡ Number look → (11 ≤ look) × (look ≤ 4096)
-    field Malformed h = absurd (let z : ◌≡◌ {A = ℕ} 0 1 = cc in omega arith)
-    field (Number n) h = within n (leb 11 n) (leb n 4096) refl refl h
+    field : (f : Option ℕ) → look_within f ≡ Some look → (11 ≤ look) × (look ≤ 4096)
+    field None h = absurd (let z : ◌≡◌ {A = ℕ} 0 1 = cc in omega arith)
+    field (Some n) h = within n (leb 11 n) (leb n 4096) refl refl h
 
-    go : (t : Bool) → cond t (look_within (number_from 10 0 (field_of line))) Malformed ≡ Number look → (11 ≤ look) × (look ≤ 4096)
+    go : (t : Bool) → cond t (look_within (number_from 10 0 (field_of line))) None ≡ Some look → (11 ≤ look) × (look ≤ 4096)
     go true h = field (number_from 10 0 (field_of line)) h
     go false h = absurd (let z : ◌≡◌ {A = ℕ} 0 1 = cc in omega arith)
 
@@ -160,9 +158,9 @@ text_fits input = go (leb (length input) 60000) refl
     first [] h = omega (arith, refusal_most 1 (omega arith))
     first (line ∷ lines) h = look (look_of line) refl
       where
-        look : (f : Field) → look_of line ≡ f → length (or_else (look_of line) (refusal_line 1) (λ l. gain_text (opened l) 2 lines)) ≤ 160000
-        look Malformed e = rw e (omega (arith, refusal_most 1 (omega arith)))
-        look (Number l) e = rw e (omega (arith, gain_most lines (opened l) 2 (opened_steady l (look_range line l e).1) refl (omega arith)))
+        look : (f : Option ℕ) → look_of line ≡ f → length (or_else (look_of line) (refusal_line 1) (λ l. gain_text (opened l) 2 lines)) ≤ 160000
+        look None e = rw e (omega (arith, refusal_most 1 (omega arith)))
+        look (Some l) e = rw e (omega (arith, gain_most lines (opened l) 2 (opened_steady l (look_range line l e).1) refl (omega arith)))
 
     go : (t : Bool) → leb (length input) 60000 ≡ t → length (cond t (lines_text (lines_of input)) (refusal_line 0)) ≤ 160000
     go true e = first (lines_of input) (omega (arith, lines_bytes input, leb-true (length input) 60000 e))

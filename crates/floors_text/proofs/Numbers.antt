@@ -7,11 +7,11 @@ use native.Mathlib.Nat.{zero-add, pow-suc, pow-le-pow_right, mul-le-mul_left}
 use native.Mathlib.Numerals.{add-one}
 use native.Mathlib.Omega.{arith}
 use lib.Dec.{ltb}
-use lib.ListN.{length, length-append, get_or, drop, drop_of_length-le}
+use lib.ListN.{length, length-append, get_or, drop}
 use lib.Seq.{drop-cons}
-use borrow.Author.Tests.{lt-ltb, le-ltb}
-use Rattle.floors_text.specs.declared.lines.Field.TheVariants.{Malformed, Number}
-use Rattle.floors_text.specs.Lines.{digit_of, number_from}
+use borrow.Author.Tests.{lt-ltb, le-ltb, ltb-true}
+use Rattle.std.specs.Prelude.{Some, None}
+use Rattle.floors_text.specs.Lines.{digit_of, digit_in, number_from}
 use Rattle.floors_text.specs.Print.{glyph_of, hex_of, decimal_from, decimal_of}
 
 -- ---- decimal digits: the turns that are granted do not matter, once they are enough
@@ -64,27 +64,25 @@ hex_length zero n = refl
 hex_length (suc k) n = length-append (hex_of k (n / 16)) (glyph_of (n % 16) ∷ []) ∙ rw (hex_length k (n / 16)) (add-one k)
 
 -- ---- a digit more of a number that is read
-module _ (v base d i : ℕ) (small : v < 16 ^ i) (few : i < 16) (below : d < base) (most : base ≤ 16) where
-  product : v * base ≤ v * 16
-  product = mul-le-mul_left v most
-
+-- sixteen digits fit
+module _ (v base i : ℕ) (small : v < 16 ^ i) (few : i < 16) (most : base ≤ 16) where
   power : 16 ^ (i + 1) ≡ 16 ^ i * 16
   power = rw (add-one i) (pow-suc 16 i)
 
-  pub digit_more : v * base + d < 16 ^ (i + 1)
-  digit_more = let p = product in let e = power in omega arith
+  pub digit_more : (d : ℕ) → d < base → v * base + d < 16 ^ (i + 1)
+  digit_more d below = let p = mul-le-mul_left v most in let e = power in omega arith
 
-  pub digit_fits : v * base + d < 2 ^ 64
-  digit_fits = let h = digit_more in let p = pow-le-pow_right {n = 16} (omega arith) {i = i + 1} {j = 16} (omega arith) in omega arith
+  pub digit_fits : (d : ℕ) → d < base → v * base + d < 2 ^ 64
+  digit_fits d below = let h = digit_more d below in let p = pow-le-pow_right {n = 16} (omega arith) {i = i + 1} {j = 16} (omega arith) in omega arith
 
--- the number that is read, digit by digit
-module _ (digits : List ℕ) (base v i : ℕ) where
-  pub number_done : length digits ≤ i → number_from base v (drop i digits) ≡ Number v
-  number_done h = rw (drop_of_length-le digits {i = i} h) refl
+  pub value_fits : v * base < 2 ^ 64
+  value_fits = let p = mul-le-mul_left v most in let e = power in let q = pow-le-pow_right {n = 16} (omega arith) {i = i + 1} {j = 16} (omega arith) in omega arith
 
-  module _ (more : i < length digits) (d : ℕ) (e : d ≡ digit_of (get_or digits i 0)) where
-    pub number_other : base ≤ d → number_from base v (drop i digits) ≡ Malformed
-    number_other h = rw (drop-cons digits i 0 more, ← e, le-ltb d base h) refl
-
-    pub number_digit : d < base → number_from base v (drop i digits) ≡ number_from base (v * base + d) (drop (i + 1) digits)
-    number_digit h = rw (add-one i, drop-cons digits i 0 more, ← e, lt-ltb d base h) refl
+-- what a digit that was read, or was none, makes of the number
+module _ (digits : List ℕ) (base v i : ℕ) (more : i < length digits) where
+  pub digit_below : (d : ℕ) → digit_in base (get_or digits i 0) ≡ Some d → (d < base) × (number_from base (v * base + d) (drop (i + 1) digits) ≡ number_from base v (drop i digits))
+  digit_below d e = go (ltb (digit_of (get_or digits i 0)) base) refl e
+    where
+      go : (t : Bool) → ltb (digit_of (get_or digits i 0)) base ≡ t → cond t (Some (digit_of (get_or digits i 0))) None ≡ Some d → (d < base) × (number_from base (v * base + d) (drop (i + 1) digits) ≡ number_from base v (drop i digits))
+      go true h k = let s : digit_of (get_or digits i 0) ≡ d = cc in (rw s at (ltb-true (digit_of (get_or digits i 0)) base h), rw (add-one i, drop-cons digits i 0 more, h, s) refl)
+      go false h k = absurd (cc)

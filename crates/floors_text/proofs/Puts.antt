@@ -6,7 +6,7 @@ use native.Mathlib.Nat.{add-zero}
 use native.Mathlib.Omega.{arith}
 use native.Mathlib.Numerals.{add-one}
 use lib.ListN.{length, set, get_or, take, length-append}
-use lib.Seq.{sets, length-sets, set_out, take-suc, take_all}
+use lib.Seq.{sets, length-sets, set_out, take-suc}
 use lib.Ieee.{Float}
 use Rattle.floors_text.specs.Print.{Put, decimal_of, frame_line, refusal_line}
 
@@ -36,13 +36,10 @@ put_last e f p q = rw (e, ← f) (put_then p q)
 pub put_length : {l m a : List ℕ} {at next : ℕ} → Put l at a m next → length m ≡ length l
 put_length {l} {m} {a} {at} p = ap length p.bytes ∙ length-sets l at a
 
--- a byte more of a word, and the whole word
+-- a byte more of a word
 module _ (word : List ℕ) (i : ℕ) where
   pub put_more : {l m n : List ℕ} {at next end : ℕ} → i < length word → Put l at (take i word) m next → Put m next (get_or word i 0 ∷ []) n end → Put l at (take (i + 1) word) n end
   put_more h p q = rw (add-one i, take-suc word i 0 h) (put_then p q)
-
-  pub put_all : {l m : List ℕ} {at next : ℕ} → length word ≤ i → Put l at (take i word) m next → Put l at word m next
-  put_all h p = rw (take_all i word h) at p
 
 -- ---- how long the two kinds of line are
 pub refusal_length : (line : ℕ) → length (refusal_line line) ≡ 17 + length (decimal_of line)

@@ -20,8 +20,7 @@ use Rattle.floors_text.specs.Print.{refusal_line}
 use Rattle.floors_text.specs.Lines.{in_front, lines_of, look_of, gain_of}
 use Rattle.floors_text.specs.Text.{opened, frame_text, or_else, gain_text, gains_in, kept_after, gains_left, text_of}
 use Rattle.floors_text.specs.TrueText.{floor_at, reply_at, kept_told, true_line, true_lines, refusal_in, TrueText}
-use Rattle.floors_text.specs.declared.lines.Field.{Field}
-use Rattle.floors_text.specs.declared.lines.Field.TheVariants.{Malformed, Number}
+use Rattle.std.specs.Prelude.{Option, Some, None}
 use Rattle.floors_text.proofs.Length.{look_range}
 use Rattle.floors_text.proofs.Going.{setup_opened}
 
@@ -77,11 +76,11 @@ module _ (look : ℕ) (least : 11 ≤ look) (most : look ≤ 4096) where
   lines_are [] before number h = refl
   lines_are (line ∷ lines) before number h = go (gain_of line) (λ b. lines_are lines (bits b ∷ before) (number + 1) (omega arith))
     where
-      go : (f : Field) → ((b : ℕ) → gain_text (kept (bits b ∷ before)) (number + 1) lines ≡ true_lines look (bits b ∷ before) (gains_in lines) ++ refusal_in (number + 1) lines)
+      go : (f : Option ℕ) → ((b : ℕ) → gain_text (kept (bits b ∷ before)) (number + 1) lines ≡ true_lines look (bits b ∷ before) (gains_in lines) ++ refusal_in (number + 1) lines)
           → or_else f (refusal_line number) (λ b. frame_text (kept before) (bits b) ++ gain_text (stepped_of (kept before) (bits b)).keeping (number + 1) lines)
           ≡ true_lines look before (or_else f [] (λ b. bits b ∷ gains_in lines)) ++ or_else f (refusal_line number) (λ b. refusal_in (number + 1) lines)
-      go Malformed rest = refl
-      go (Number b) rest =
+      go None rest = refl
+      go (Some b) rest =
           let x = bits b in
           ap (λ (t : List ℕ). t ++ gain_text (stepped_of (kept before) x).keeping (number + 1) lines) (line-is before x (omega arith))
           ∙ ap (λ (k : Keeping). true_line look before x ++ gain_text k (number + 1) lines) (goes_on before x (omega arith))
@@ -97,9 +96,9 @@ gains_few : (lines : List (List ℕ)) → length (gains_in lines) ≤ length lin
 gains_few [] = omega arith
 gains_few (line ∷ lines) = go (gain_of line) (gains_few lines)
   where
-    go : (f : Field) → length (gains_in lines) ≤ length lines → length (or_else f [] (λ b. bits b ∷ gains_in lines)) ≤ length (line ∷ lines)
-    go Malformed h = omega arith
-    go (Number b) h = omega arith
+    go : (f : Option ℕ) → length (gains_in lines) ≤ length lines → length (or_else f [] (λ b. bits b ∷ gains_in lines)) ≤ length (line ∷ lines)
+    go None h = omega arith
+    go (Some b) h = omega arith
 
 left_is : (look : ℕ) → 11 ≤ look → look ≤ 4096 → (lines : List (List ℕ)) → length lines ≤ most_frames → gains_left (opened look) lines ≡ keeping_after (opened look) (reverse (gains_in lines))
 unfolding gains_left
@@ -118,7 +117,7 @@ lines_few (b ∷ bs) = go (eqb b 10) (lines_few bs)
     go true h = omega arith
     go false h = omega (arith, front_few b (lines_of bs) (length bs) h)
 
-text_is : (input line : List ℕ) (lines : List (List ℕ)) (look : ℕ) → length input ≤ 60000 → lines_of input ≡ line ∷ lines → look_of line ≡ Number look → text_of input ≡ true_lines look [] (gains_in lines) ++ refusal_in 2 lines
+text_is : (input line : List ℕ) (lines : List (List ℕ)) (look : ℕ) → length input ≤ 60000 → lines_of input ≡ line ∷ lines → look_of line ≡ Some look → text_of input ≡ true_lines look [] (gains_in lines) ++ refusal_in 2 lines
 unfolding text_of
 text_is input line lines look few e l =
     let r = look_range line look l in

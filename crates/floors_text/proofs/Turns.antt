@@ -1,79 +1,74 @@
 -- The text, line by line: what a turn of the loop adds to it, and the keeper with its stores.
 use mathlib.Core.Path.{◌≡◌, refl, sym, ap, ◌∙◌}
 use mathlib.Core.List.{List, [], ◌∷◌, ◌++◌}
-use Prim.Native.Nat.{ℕ, ◌+◌, ◌-◌, ◌≤◌, ◌<◌}
+use mathlib.Core.Bool.{true, false}
+use lib.Dec.{eqb}
+use borrow.Author.Tests.{eqb-true}
+use Prim.Native.Nat.{ℕ, zero, suc, ◌+◌, ◌≤◌, ◌<◌}
 use native.Mathlib.Omega.{arith}
-use lib.ListN.{length, take, drop, drop_of_length-le, length-drop}
-use lib.Seq.{drop-drop}
-use lib.Ieee.{Float}
+use lib.ListN.{length, take, drop}
+use lib.Seq.{length-take-le}
 use Rattle.arithmetic.specs.Number.{bits}
-use Rattle.keeper.specs.Keeper.{Keeping, Stepped, stepped_of}
-use Rattle.floors_text.specs.Print.{frame_line, refusal_line}
+use Rattle.keeper.specs.Keeper.{Keeping, stepped_of}
+use Rattle.floors_text.specs.Print.{refusal_line}
 use Rattle.floors_text.specs.Lines.{lines_of, first_of, gain_of}
 use Rattle.floors_text.specs.Text.{frame_text, gain_text, gains_left}
-use Rattle.floors_text.specs.declared.lines.Field.TheVariants.{Malformed, Number}
+use Rattle.std.specs.Prelude.{Some, None}
 use Rattle.floors_text.proofs.Cuts.{first_length, first_take, first_within, first_some, lines_cut}
 
--- the line of a step, from the step that was made
-pub step_told : (k : Keeping) (x y : Float) (s : Stepped) → y ≡ x → s ≡ stepped_of k y → frame_line k.keeper.frame s.floor s.dropped s.keeping.keeper.len ≡ frame_text k x
-step_told k x y s e h = ap (λ (t : Stepped). frame_line k.keeper.frame t.floor t.dropped t.keeping.keeper.len) (h ∙ ap (stepped_of k) e)
+-- ---- whether a text is empty, as the code asks
+pub text_some : (n : ℕ) → false ≡ eqb n 0 → 0 < n
+text_some zero h = absurd (cc)
+text_some (suc n) h = omega arith
 
-pub step_kept : (k : Keeping) (x y : Float) (s : Stepped) → y ≡ x → s ≡ stepped_of k y → s.keeping ≡ (stepped_of k x).keeping
-step_kept k x y s e h = ap (λ (t : Stepped). t.keeping) (h ∙ ap (stepped_of k) e)
+pub text_none : (n : ℕ) → true ≡ eqb n 0 → n ≡ 0
+text_none n h = eqb-true n 0 (sym h)
 
--- ---- the lines of the input from a place on
-module _ (input : List ℕ) (at : ℕ) where
-  abbrev pub line_length : ℕ
-  line_length = first_length (drop at input)
+-- ---- the lines of a text
+-- none is left
+pub text_done : (text : List ℕ) (k : Keeping) (number : ℕ) → length text ≡ 0 → gain_text k number (lines_of text) ≡ []
+unfolding gain_text
+text_done [] k number h = refl
+text_done (b ∷ bs) k number h = absurd (omega arith)
 
-  -- the line as the code cuts it out
-  pub line-is : (end : ℕ) → end ≡ at + line_length → take (end - at) (drop at input) ≡ first_of (lines_of (drop at input))
-  line-is end e =
-      let n : end - at ≡ line_length = omega arith in
-      ap (λ (m : ℕ). take m (drop at input)) n ∙ sym (first_take (drop at input))
+pub left_done : (text : List ℕ) (k : Keeping) → length text ≡ 0 → gains_left k (lines_of text) ≡ k
+unfolding gains_left
+left_done [] k h = refl
+left_done (b ∷ bs) k h = absurd (omega arith)
 
-  -- it ends within the input, and past its start
-  pub line_ends : at < length input → (at < at + line_length) × (at + line_length ≤ length input)
-  line_ends h =
-      let d = length-drop at input in
-      let w = first_within (drop at input) in
-      (omega (arith, first_some (drop at input) (omega arith)), omega arith)
+-- the first one, and the text behind it, as the code cuts it off
+module _ (text : List ℕ) (n : ℕ) (line later : List ℕ) (cut : n ≡ first_length text) (front : line ≡ take n text) (back : later ≡ drop n text) where
+  pub first_is : line ≡ first_of (lines_of text)
+  first_is = front ∙ ap (λ (m : ℕ). take m text) cut ∙ sym (first_take text)
 
-  pub lines_on : at < length input → lines_of (drop at input) ≡ first_of (lines_of (drop at input)) ∷ lines_of (drop (at + line_length) input)
-  lines_on h =
-      lines_cut (drop at input) (omega (arith, length-drop at input))
-      ∙ ap {B = List (List ℕ)} (λ s. first_of (lines_of (drop at input)) ∷ lines_of s) (drop-drop line_length at input)
+  pub line_within : n ≤ length text
+  line_within = omega (arith, first_within text)
 
-  -- no line is left
-  pub text_done : (k : Keeping) (number : ℕ) → length input ≤ at → gain_text k number (lines_of (drop at input)) ≡ []
-  unfolding gain_text
-  text_done k number h = rw (drop_of_length-le input {i = at} h) refl
+  pub line_sized : length line ≡ n
+  line_sized = ap length front ∙ length-take-le n text line_within
 
-  pub left_done : (k : Keeping) → length input ≤ at → gains_left k (lines_of (drop at input)) ≡ k
-  unfolding gains_left
-  left_done k h = rw (drop_of_length-le input {i = at} h) refl
+  module _ (some : 0 < length text) where
+    pub line_some : 0 < n
+    line_some = omega (arith, first_some text some)
 
-  module _ (more : at < length input) (k : Keeping) (number : ℕ) (line : List ℕ) (cut : line ≡ first_of (lines_of (drop at input))) where
-    text_cut : gain_text k number (lines_of (drop at input)) ≡ gain_text k number (line ∷ lines_of (drop (at + line_length) input))
-    text_cut = rw (lines_on more, cut) refl
+    lines_on : lines_of text ≡ line ∷ lines_of later
+    lines_on = lines_cut text some ∙ rw (first_is, back, cut) refl
 
-    left_cut : gains_left k (lines_of (drop at input)) ≡ gains_left k (line ∷ lines_of (drop (at + line_length) input))
-    left_cut = rw (lines_on more, cut) refl
+    module _ (k : Keeping) (number : ℕ) where
+      -- a malformed line
+      pub text_stops : gain_of line ≡ None → gain_text k number (lines_of text) ≡ refusal_line number
+      unfolding gain_text
+      text_stops e = rw (lines_on, e) refl
 
-    -- a malformed line
-    pub text_stops : gain_of line ≡ Malformed → gain_text k number (lines_of (drop at input)) ≡ refusal_line number
-    unfolding gain_text
-    text_stops e = text_cut ∙ rw e refl
+      pub left_stops : gain_of line ≡ None → gains_left k (lines_of text) ≡ k
+      unfolding gains_left
+      left_stops e = rw (lines_on, e) refl
 
-    pub left_stops : gain_of line ≡ Malformed → gains_left k (lines_of (drop at input)) ≡ k
-    unfolding gains_left
-    left_stops e = left_cut ∙ rw e refl
+      -- a gain
+      pub left_more : (b : ℕ) → gain_of line ≡ Some b → gains_left k (lines_of text) ≡ gains_left (stepped_of k (bits b)).keeping (lines_of later)
+      unfolding gains_left
+      left_more b e = rw (lines_on, e) refl
 
-    -- a gain
-    pub left_more : (b : ℕ) → gain_of line ≡ Number b → gains_left k (lines_of (drop at input)) ≡ gains_left (stepped_of k (bits b)).keeping (lines_of (drop (at + line_length) input))
-    unfolding gains_left
-    left_more b e = left_cut ∙ rw e refl
-
-    pub text-more : (b : ℕ) → gain_of line ≡ Number b → gain_text k number (lines_of (drop at input)) ≡ frame_text k (bits b) ++ gain_text (stepped_of k (bits b)).keeping (number + 1) (lines_of (drop (at + line_length) input))
-    unfolding gain_text
-    text-more b e = text_cut ∙ rw e refl
+      pub text-more : (b : ℕ) → gain_of line ≡ Some b → gain_text k number (lines_of text) ≡ frame_text k (bits b) ++ gain_text (stepped_of k (bits b)).keeping (number + 1) (lines_of later)
+      unfolding gain_text
+      text-more b e = rw (lines_on, e) refl

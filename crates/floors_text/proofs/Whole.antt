@@ -1,7 +1,7 @@
 -- The whole text, and the output with the text over it.
 use mathlib.Core.Path.{◌≡◌, refl, sym, ap, ◌∙◌}
 use mathlib.Core.List.{List, [], ◌∷◌, ◌++◌, append-nil}
-use Prim.Native.Nat.{ℕ, suc, ◌+◌, ◌≤◌, ◌<◌}
+use Prim.Native.Nat.{ℕ, suc, ◌≤◌, ◌<◌}
 use native.Mathlib.Nat.{zero-add}
 use native.Mathlib.Omega.{arith}
 use lib.ListN.{length, take, drop, length-append}
@@ -10,8 +10,9 @@ use borrow.Author.Tests.{le-leb, lt-leb}
 use Rattle.floors_text.specs.Print.{refusal_line, Put}
 use Rattle.floors_text.specs.Lines.{lines_of, first_of, look_of}
 use Rattle.floors_text.specs.Text.{opened, or_else, gain_text, lines_text, text_of, over, Written, written_at, floors_of}
-use Rattle.floors_text.specs.declared.lines.Field.TheVariants.{Malformed, Number}
-use Rattle.floors_text.proofs.Cuts.{first_length, first_take, first_within, lines_cut}
+use Rattle.std.specs.Prelude.{Some, None}
+use Rattle.floors_text.proofs.Cuts.{first_length, lines_cut}
+use Rattle.floors_text.proofs.Turns.{first_is}
 use Rattle.floors_text.proofs.Length.{text_fits}
 
 -- ---- stores one after the other lay the text over the output
@@ -53,24 +54,18 @@ pub text_long : (input : List ℕ) → 60000 < length input → refusal_line 0 �
 unfolding text_of
 text_long input h = rw (lt-leb (length input) 60000 h) refl
 
-module _ (input : List ℕ) (few : length input ≤ 60000) (end : ℕ) (e : end ≡ 0 + first_length input) where
-  pub first_end : end ≤ length input
-  first_end = omega (arith, first_within input)
-
-  first-is : take end input ≡ first_of (lines_of input)
-  first-is = ap (λ (n : ℕ). take n input) (e ∙ zero-add (first_length input)) ∙ sym (first_take input)
-
+module _ (input : List ℕ) (few : length input ≤ 60000) (end : ℕ) (line rest : List ℕ) (e : end ≡ first_length input) (front : line ≡ take end input) (back : rest ≡ drop end input) where
   by_first : (s : List ℕ) → lines_text (lines_of s) ≡ or_else (look_of (first_of (lines_of s))) (refusal_line 1) (λ look. gain_text (opened look) 2 (lines_of (drop (first_length s) s)))
   unfolding look_of
   by_first [] = refl
   by_first (b ∷ bs) = ap lines_text (lines_cut (b ∷ bs) (omega arith))
 
-  text_first : text_of input ≡ or_else (look_of (take end input)) (refusal_line 1) (λ look. gain_text (opened look) 2 (lines_of (drop end input)))
+  text_first : text_of input ≡ or_else (look_of line) (refusal_line 1) (λ look. gain_text (opened look) 2 (lines_of rest))
   unfolding text_of
-  text_first = rw (le-leb (length input) 60000 few, first-is, e, zero-add (first_length input)) (by_first input)
+  text_first = rw (le-leb (length input) 60000 few, first_is input end line rest e front back, back, e) (by_first input)
 
-  pub text_none : look_of (take end input) ≡ Malformed → refusal_line 1 ≡ text_of input
+  pub text_none : look_of line ≡ None → refusal_line 1 ≡ text_of input
   text_none h = sym (text_first ∙ rw h refl)
 
-  pub text_look : (look : ℕ) → look_of (take end input) ≡ Number look → gain_text (opened look) 2 (lines_of (drop end input)) ≡ text_of input
+  pub text_look : (look : ℕ) → look_of line ≡ Some look → gain_text (opened look) 2 (lines_of rest) ≡ text_of input
   text_look look h = sym (text_first ∙ rw h refl)

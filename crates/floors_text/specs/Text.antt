@@ -1,12 +1,10 @@
 -- The whole text of `floors`, from the bytes of its input.
-use Rattle.std.specs.Prelude.{ℕ, ◌+◌, cond, List, [], ◌∷◌, ◌++◌, leb, length, replicate, Float}
+use Rattle.std.specs.Prelude.{ℕ, Option, Some, None, ◌+◌, cond, List, [], ◌∷◌, ◌++◌, leb, length, replicate, Float}
 use Rattle.arithmetic.specs.Number
 use Rattle.arithmetic.specs.Number.{bits}
 use Rattle.keeper.specs.Keeper.{Keeping, keeping_at, fresh_keeper, stepped_of}
 use Rattle.floors_text.specs.Print.{frame_line, refusal_line}
 use Rattle.floors_text.specs.Lines.{lines_of, look_of, gain_of}
-use Rattle.floors_text.specs.declared.lines.Field.{Field}
-use Rattle.floors_text.specs.declared.lines.Field.TheVariants.{Malformed, Number}
 
 -- the floor keeper as a setup at a look leaves it
 abbrev pub opened : ℕ → Keeping
@@ -17,9 +15,9 @@ abbrev pub frame_text : Keeping → Float → List ℕ
 frame_text k gain = let s = stepped_of k gain in frame_line k.keeper.frame s.floor s.dropped s.keeping.keeper.len
 
 -- what the number of a line gives; a malformed line stops there (the text with its refusal)
-abbrev pub or_else : {A : Type 0} → Field → A → (ℕ → A) → A
-or_else Malformed stop more = stop
-or_else (Number n) stop more = more n
+abbrev pub or_else : {A : Type 0} → Option ℕ → A → (ℕ → A) → A
+or_else None stop more = stop
+or_else (Some n) stop more = more n
 
 -- the lines from a number on: each a gain, which the keeper takes
 unfoldable pub gain_text : Keeping → ℕ → List (List ℕ) → List ℕ

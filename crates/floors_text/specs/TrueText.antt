@@ -1,6 +1,6 @@
 -- What `floors` has to tell, with no ring in it: the floor as a plain scan of the gains so far, and drops and entries kept as the public step replies them.
 -- `TrueText` says that the text of every input is that (proved: `true_text`, proofs/TrueText.antt).
-use Rattle.std.specs.Prelude.{◌≡◌, ℕ, ◌+◌, ◌≤◌, ◌<◌, List, [], ◌∷◌, ◌++◌, map, reverse, length, get_or, Float}
+use Rattle.std.specs.Prelude.{◌≡◌, ℕ, Some, ◌+◌, ◌≤◌, ◌<◌, List, [], ◌∷◌, ◌++◌, map, reverse, length, get_or, Float}
 use Rattle.arithmetic.specs.Sanitize.{unit_gain}
 use Rattle.arithmetic.specs.Reply.{Reply, Value, finished, count, float}
 use Rattle.keeper.specs.InOrder.{most_frames}
@@ -10,7 +10,6 @@ use Rattle.keeper.specs.History.{keeping_after, drops_in, drops_since}
 use Rattle.floors_text.specs.Print.{frame_line, refusal_line}
 use Rattle.floors_text.specs.Lines.{lines_of, look_of, gain_of}
 use Rattle.floors_text.specs.Text.{opened, or_else, gains_in, gains_left, text_of}
-use Rattle.floors_text.specs.declared.lines.Field.TheVariants.{Number}
 
 -- Of a frame: `before` are the gains before it, NEWEST FIRST, and x is its own.
 -- the floor: the least of the latest look + 1 gains, each brought within 0 and 1 as a step does
@@ -45,7 +44,7 @@ refusal_in number (line ∷ lines) = or_else (gain_of line) (refusal_line number
 
 pub record TrueText : Type 0 where
   -- a first line with a look, and any lines after it: a true line for each gain before the first malformed one, and then its refusal
-  pub text : (input line : List ℕ) (lines : List (List ℕ)) (look : ℕ) → length input ≤ 60000 → lines_of input ≡ line ∷ lines → look_of line ≡ Number look
+  pub text : (input line : List ℕ) (lines : List (List ℕ)) (look : ℕ) → length input ≤ 60000 → lines_of input ≡ line ∷ lines → look_of line ≡ Some look
       → text_of input ≡ true_lines look [] (gains_in lines) ++ refusal_in 2 lines
   -- at every look, and after any gains: the step is finished, and replies the three numbers of the line
   pub replied : (look : ℕ) → 11 ≤ look → look ≤ 4096 → (before : List Float) (x : Float) → length before < most_frames

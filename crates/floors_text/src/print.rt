@@ -1,5 +1,7 @@
 // Writing: each function puts one piece of text into the output at a place, and answers the place
-// after it. What would stand past the output's end is left out, so that a place may lie there.
+// after it: place and output stay apart, since a struct of both would hold the loan. What would stand past the output's end is left out, so that a place may lie there: the
+// answer of `floors` counts such bytes too. Nor is it `write!` that writes: that it succeeds is promised
+// of no writer, and `floors` answers the whole text.
 ghost use Rattle.std.specs.Prelude.{◌≡◌, ◌∷◌, [], ◌++◌, ◌+◌, ◌≤◌, ◌<◌, ◌^◌, length};
 ghost use Rattle.floors_text.specs.Print.{glyph_of, hex_of, decimal_of, frame_line, refusal_line, Put};
 
@@ -20,10 +22,8 @@ fn put_word(output: &mut [u8], at: usize, word: &[u8]) -> usize
     ensures { Put output.old at word.now output.new result }
 {
     let mut next = at;
-    let mut i = 0;
-    while i < word.len() {
-        next = put(output, next, word[i]);
-        i += 1;
+    for byte in word {
+        next = put(output, next, *byte);
     }
     next
 }

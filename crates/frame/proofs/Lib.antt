@@ -2,6 +2,7 @@
 pub mod Heard
 pub mod Turns
 pub mod Steps
+pub mod Lent
 pub mod Channels
 pub mod Alike
 pub mod Risen

@@ -5,10 +5,8 @@ use mathlib.Core.Bool.{Bool, true, false, cond, ◌||◌}
 use mathlib.Core.List.{List, [], ◌∷◌}
 use Prim.Native.Nat.{ℕ, ◌+◌, ◌≤◌, ◌<◌}
 use native.Mathlib.Omega.{arith}
-use lib.Dec.{leb}
 use lib.ListN.{length, get_or, drop}
 use lib.Ieee.{Float, nan, lt, le}
-use borrow.Author.Tests.{le-leb, lt-leb}
 use Rattle.arithmetic.proofs.Order.{clash, lt→le}
 use Rattle.arithmetic.proofs.Heights.{lt_below, le_not_lt}
 use Rattle.arithmetic.proofs.InTurn.{split, none_left}
@@ -17,6 +15,7 @@ use Rattle.frame.specs.Seat.{seat_of, PeakAt, peak_among}
 use Rattle.frame.specs.Place.{higher, highest_from}
 use Rattle.frame.specs.Passes.{voices_pass, places_from, any_above, Risen, risen_to, risen_from}
 use Rattle.frame.specs.Alike.{ceiling_of, Alike, AllAlike, none, some}
+use Rattle.std.specs.Prelude.{Option, Some, None}
 use Rattle.frame.specs.declared.highest.Seat.{Seat}
 use Rattle.frame.specs.declared.highest.Highest.{Highest}
 use Rattle.frame.proofs.Alike.{alike_lengths}
@@ -52,13 +51,13 @@ above_alike ceiling top p q n k = ⊎_elim (λ e. (ap (lt top) e, λ h. e)) (λ 
 
 -- a frame is picked, or passed
 module _ (i : ℕ) (r : Risen) (q : Float) (qs : List Float) where
-  picked : lt r.peak q ≡ true → risen_from i r (q ∷ qs) ≡ risen_from (i + 1) (risen_to q i) qs
+  picked : lt r.peak q ≡ true → risen_from i r (q ∷ qs) ≡ risen_from (i + 1) (risen_to q (Some i)) qs
   unfolding risen_from
-  picked e = ap (λ (b : Bool). risen_from (i + 1) (cond b (risen_to q i) r) qs) e
+  picked e = ap (λ (b : Bool). risen_from (i + 1) (cond b (risen_to q (Some i)) r) qs) e
 
   passed : lt r.peak q ≡ false → risen_from i r (q ∷ qs) ≡ risen_from (i + 1) r qs
   unfolding risen_from
-  passed e = ap (λ (b : Bool). risen_from (i + 1) (cond b (risen_to q i) r) qs) e
+  passed e = ap (λ (b : Bool). risen_from (i + 1) (cond b (risen_to q (Some i)) r) qs) e
 
 risen_alike : (ceiling : Float) (i : ℕ) (r : Risen) (ps qs : List Float) → NotAbove ceiling r.peak → AllAlike ceiling ps qs → risen_from i r ps ≡ risen_from i r qs
 unfolding risen_from
@@ -66,14 +65,14 @@ risen_alike ceiling i r [] [] n none = refl
 risen_alike ceiling i r [] (q ∷ qs) n none_here = elim none_here [ ]
 risen_alike ceiling i r (p ∷ ps) [] n none_here = elim none_here [ ]
 risen_alike ceiling i r (p ∷ ps) (q ∷ qs) n (some k ks) =
-    go (lt r.peak q) refl (λ e. risen_alike ceiling (i + 1) (risen_to q i) ps qs (rises ceiling r.peak q e n) ks) (risen_alike ceiling (i + 1) r ps qs n ks)
+    go (lt r.peak q) refl (λ e. risen_alike ceiling (i + 1) (risen_to q (Some i)) ps qs (rises ceiling r.peak q e n) ks) (risen_alike ceiling (i + 1) r ps qs n ks)
   where
     a : (lt r.peak p ≡ lt r.peak q) × (lt r.peak q ≡ true → p ≡ q)
     a = above_alike ceiling r.peak p q n k
 
-    go : (b : Bool) → lt r.peak q ≡ b → (lt r.peak q ≡ true → risen_from (i + 1) (risen_to q i) ps ≡ risen_from (i + 1) (risen_to q i) qs) → risen_from (i + 1) r ps ≡ risen_from (i + 1) r qs
+    go : (b : Bool) → lt r.peak q ≡ b → (lt r.peak q ≡ true → risen_from (i + 1) (risen_to q (Some i)) ps ≡ risen_from (i + 1) (risen_to q (Some i)) qs) → risen_from (i + 1) r ps ≡ risen_from (i + 1) r qs
         → risen_from i r (p ∷ ps) ≡ risen_from i r (q ∷ qs)
-    go true e up on = picked i r p ps (a.0 ∙ e) ∙ ap (λ (z : Float). risen_from (i + 1) (risen_to z i) ps) (a.1 e) ∙ up e ∙ sym (picked i r q qs e)
+    go true e up on = picked i r p ps (a.0 ∙ e) ∙ ap (λ (z : Float). risen_from (i + 1) (risen_to z (Some i)) ps) (a.1 e) ∙ up e ∙ sym (picked i r q qs e)
     go false e up on = passed i r p ps (a.0 ∙ e) ∙ on ∙ sym (passed i r q qs e)
 
 -- ---- where none is above the height, nothing rises
@@ -88,8 +87,12 @@ none_rises i r (p ∷ ps) h = go (lt r.peak p) refl h (λ k. none_rises (i + 1) 
 
 -- ---- what a risen peak tells of a run of n frames, the first of which is frame `first` of its block
 module _ (linking : Linking) (channels n first : ℕ) (detector audio : List Float) (h : Highest) where
+  abbrev told_at : Float → Option ℕ → Highest
+  told_at peak None = h
+  told_at peak (Some i) = record { peak = peak; frame = first + i; seat = seat_of peak (voices_pass linking 0 channels i detector audio) }
+
   abbrev told : Risen → Highest
-  told r = cond (leb n r.at) h (record { peak = r.peak; frame = first + r.at; seat = seat_of r.peak (voices_pass linking 0 channels r.at detector audio) })
+  told r = told_at r.peak r.at
 
   rises_so : (i j : ℕ) (r : Risen) (g : Highest) (qs : List Float) → i + length qs ≡ n → j ≡ first + i → g ≡ told r → g.peak ≡ r.peak
       → highest_from j g (places_from linking channels i qs detector audio) ≡ told (risen_from i r qs)
@@ -97,7 +100,7 @@ module _ (linking : Linking) (channels n first : ℕ) (detector audio : List Flo
   rises_so i j r g [] m f e p = e
   rises_so i j r g (q ∷ qs) m f e p =
       go (lt r.peak q) refl
-      (rises_so (i + 1) (j + 1) (risen_to q i) (taking j (at_frame i q)) qs (omega arith) (omega arith) (rw (lt-leb n i (omega arith), f) refl) refl)
+      (rises_so (i + 1) (j + 1) (risen_to q (Some i)) (taking j (at_frame i q)) qs (omega arith) (omega arith) (rw f refl) refl)
       (rises_so (i + 1) (j + 1) r g qs (omega arith) (omega arith) e p)
     where
       at_frame : ℕ → Float → PeakAt
@@ -109,7 +112,7 @@ module _ (linking : Linking) (channels n first : ℕ) (detector audio : List Flo
       rest : List PeakAt
       rest = places_from linking channels (i + 1) qs detector audio
 
-      go : (b : Bool) → lt r.peak q ≡ b → highest_from (j + 1) (taking j (at_frame i q)) rest ≡ told (risen_from (i + 1) (risen_to q i) qs) → highest_from (j + 1) g rest ≡ told (risen_from (i + 1) r qs)
+      go : (b : Bool) → lt r.peak q ≡ b → highest_from (j + 1) (taking j (at_frame i q)) rest ≡ told (risen_from (i + 1) (risen_to q (Some i)) qs) → highest_from (j + 1) g rest ≡ told (risen_from (i + 1) r qs)
           → highest_from (j + 1) (higher j g (at_frame i q)) rest ≡ told (risen_from i r (q ∷ qs))
       go true k up on = ap (λ (b : Bool). highest_from (j + 1) (cond b (taking j (at_frame i q)) g) rest) (ap (λ (z : Float). lt z q) p ∙ k) ∙ up ∙ ap told (sym (picked i r q qs k))
       go false k up on = ap (λ (b : Bool). highest_from (j + 1) (cond b (taking j (at_frame i q)) g) rest) (ap (λ (z : Float). lt z q) p ∙ k) ∙ on ∙ ap told (sym (passed i r q qs k))
@@ -118,22 +121,20 @@ module _ (linking : Linking) (channels n first : ℕ) (detector audio : List Flo
   abbrev Tells : Highest → List Float → Type 0
   Tells g ps = (target : Float) (whole : List Float) → AllAlike (ceiling_of target h.peak) ps whole → g ≡ highest_from first h (places_from linking channels 0 whole detector audio)
 
-  pub risen_tells : (ps : List Float) (r : Risen) (g : Highest) → length ps ≡ n → r ≡ risen_from 0 (risen_to h.peak (length ps)) ps → g ≡ told r → Tells g ps
+  pub risen_tells : (ps : List Float) (r : Risen) (g : Highest) → length ps ≡ n → r ≡ risen_from 0 (risen_to h.peak None) ps → g ≡ told r → Tells g ps
   risen_tells ps r g m e f target whole k =
-      f ∙ ap told (e ∙ ap (λ (j : ℕ). risen_from 0 (risen_to h.peak j) ps) m ∙ risen_alike (ceiling_of target h.peak) 0 (risen_to h.peak n) ps whole (ceiling_not_above target h.peak) k)
-      ∙ sym (rises_so 0 first (risen_to h.peak n) h whole (omega (arith, alike_lengths (ceiling_of target h.peak) ps whole k)) (omega arith) (rw (le-leb n n (omega arith)) refl) refl)
+      f ∙ ap told (e ∙ risen_alike (ceiling_of target h.peak) 0 (risen_to h.peak None) ps whole (ceiling_not_above target h.peak) k)
+      ∙ sym (rises_so 0 first (risen_to h.peak None) h whole (omega (arith, alike_lengths (ceiling_of target h.peak) ps whole k)) (omega arith) refl refl)
 
   -- it has not risen, or it has
-  pub told_before : (r : Risen) → n ≤ r.at → h ≡ told r
-  told_before r k = ap (λ (b : Bool). cond b h (record { peak = r.peak; frame = first + r.at; seat = seat_of r.peak (voices_pass linking 0 channels r.at detector audio) })) (sym (le-leb n r.at k))
+  pub told_before : (peak : Float) (at : Option ℕ) → at ≡ None → h ≡ told (risen_to peak at)
+  told_before peak at e = rw e refl
 
-  pub told_here : (r : Risen) (seat : Seat) → r.at < n → seat ≡ seat_of r.peak (voices_pass linking 0 channels r.at detector audio) → record { peak = r.peak; frame = first + r.at; seat = seat } ≡ told r
-  told_here r seat k e =
-      ap (λ (z : Seat). record { peak = r.peak; frame = first + r.at; seat = z }) e
-      ∙ ap (λ (b : Bool). cond b h (record { peak = r.peak; frame = first + r.at; seat = seat_of r.peak (voices_pass linking 0 channels r.at detector audio) })) (sym (lt-leb n r.at k))
+  pub told_here : (peak : Float) (at : Option ℕ) (i : ℕ) (seat : Option Seat) → at ≡ Some i → seat ≡ seat_of peak (voices_pass linking 0 channels i detector audio) → record { peak = peak; frame = first + i; seat = seat } ≡ told (risen_to peak at)
+  told_here peak at i seat f e = rw (f, e) refl
 
   pub nothing_above : (ps : List Float) → length ps ≡ n → any_above h.peak ps ≡ false → Tells h ps
-  nothing_above ps m e = risen_tells ps (risen_to h.peak (length ps)) h m (sym (none_rises 0 (risen_to h.peak (length ps)) ps e)) (told_before (risen_to h.peak (length ps)) (omega arith))
+  nothing_above ps m e = risen_tells ps (risen_to h.peak None) h m (sym (none_rises 0 (risen_to h.peak None) ps e)) refl
 
 -- ---- the loops
 module _ (l : List Float) (i : ℕ) where
@@ -153,7 +154,7 @@ module _ (l : List Float) (i : ℕ) where
       go true e = e
       go false e = e
 
-  pub risen_up : (r total : Risen) → i < length l → lt r.peak (get_or l i nan) ≡ true → risen_from i r (drop i l) ≡ total → risen_from (i + 1) (risen_to (get_or l i nan) i) (drop (i + 1) l) ≡ total
+  pub risen_up : (r total : Risen) → i < length l → lt r.peak (get_or l i nan) ≡ true → risen_from i r (drop i l) ≡ total → risen_from (i + 1) (risen_to (get_or l i nan) (Some i)) (drop (i + 1) l) ≡ total
   risen_up r total h e k = sym (picked i r (get_or l i nan) (drop (i + 1) l) e) ∙ ap (risen_from i r) (sym (split l i h)) ∙ k
 
   pub risen_on : (r total : Risen) → i < length l → lt r.peak (get_or l i nan) ≡ false → risen_from i r (drop i l) ≡ total → risen_from (i + 1) r (drop (i + 1) l) ≡ total

@@ -13,7 +13,7 @@ use Rattle.arithmetic.specs.Sanitize.{finite_or_zero}
 use Rattle.detector.specs.Taps.{taps}
 use Rattle.detector.specs.Oversample.{Pushed, remembered, peak_abs_of}
 use Rattle.detector.specs.Run.{run_length, pushes_of}
-use Rattle.detector.specs.declared.answer.Phase.{Phase}
+use Rattle.std.specs.Prelude.{Option, Some, None}
 use Rattle.settings.specs.declared.LimiterSettings.{LimiterSettings}
 use Rattle.settings.specs.Counted.{counts_in}
 use Rattle.frame.specs.Rules.{taps_of, linking_of}
@@ -66,7 +66,7 @@ module _ (settings : LimiterSettings) (channels at : ℕ) (detector audio : List
 
   -- ---- a detector of that height
   module _ (peak : Float) (c : ℕ) where
-    pub between_found : (phase : Phase) (seat : Seat) → c < channels → (counts_in settings c && eq (answer_of c).peak peak) ≡ true → phase ≡ (answer_of c).phase → seat ≡ heard_by c phase → seat ≡ between_from peak c (voices_since c)
+    pub between_found : (phase : Option ℕ) (seat : Option Seat) → c < channels → (counts_in settings c && eq (answer_of c).peak peak) ≡ true → phase ≡ (answer_of c).phase → seat ≡ heard_by c phase → seat ≡ between_from peak c (voices_since c)
     unfolding between_from
     between_found phase seat h e f g = sym (ap (between_from peak c) (channel_then_lem c h) ∙ ap (λ (b : Bool). cond b (heard_by c (answer_of c).phase) (between_from peak (c + 1) (voices_since (c + 1)))) e ∙ ap (heard_by c) (sym f) ∙ sym g)
 
@@ -74,7 +74,7 @@ module _ (settings : LimiterSettings) (channels at : ℕ) (detector audio : List
     unfolding between_from
     between_passed h e = sym (ap (between_from peak c) (channel_then_lem c h) ∙ ap (λ (b : Bool). cond b (heard_by c (answer_of c).phase) (between_from peak (c + 1) (voices_since (c + 1)))) e)
 
-    pub between_none : channels ≤ c → Seat.Nowhere ≡ between_from peak c (voices_since c)
+    pub between_none : channels ≤ c → None ≡ between_from peak c (voices_since c)
     unfolding between_from
     between_none h = ap (between_from peak c) (sym (none_since c h))
 
@@ -89,26 +89,26 @@ module _ (settings : LimiterSettings) (channels at : ℕ) (detector audio : List
     same_sample : abs_of (finite_or_zero x) ≡ abs_of (finite_or_zero (sample_of c))
     same_sample = ap (λ (z : Float). abs_of (finite_or_zero z)) (e ∙ sym (get_or-drop (c * run_length) audio at nan))
 
-    pub sample_found : (other : Seat) → (counts_in settings c && eq (abs_of (finite_or_zero x)) peak) ≡ true → Seat.OnSample c ≡ sample_from other peak c (voices_since c)
+    pub sample_found : (other : Option Seat) → (counts_in settings c && eq (abs_of (finite_or_zero x)) peak) ≡ true → Some (Seat.OnSample c) ≡ sample_from other peak c (voices_since c)
     unfolding sample_from
     sample_found other f =
-        sym (ap (sample_from other peak c) (channel_then_lem c h) ∙ ap (λ (b : Bool). cond b (Seat.OnSample c) (sample_from other peak (c + 1) (voices_since (c + 1)))) (ap (λ (z : Float). counts_in settings c && eq z peak) (sym same_sample) ∙ f))
+        sym (ap (sample_from other peak c) (channel_then_lem c h) ∙ ap (λ (b : Bool). cond b (Some (Seat.OnSample c)) (sample_from other peak (c + 1) (voices_since (c + 1)))) (ap (λ (z : Float). counts_in settings c && eq z peak) (sym same_sample) ∙ f))
 
-    pub sample_passed : (other : Seat) → (counts_in settings c && eq (abs_of (finite_or_zero x)) peak) ≡ false → sample_from other peak (c + 1) (voices_since (c + 1)) ≡ sample_from other peak c (voices_since c)
+    pub sample_passed : (other : Option Seat) → (counts_in settings c && eq (abs_of (finite_or_zero x)) peak) ≡ false → sample_from other peak (c + 1) (voices_since (c + 1)) ≡ sample_from other peak c (voices_since c)
     unfolding sample_from
     sample_passed other f =
-        sym (ap (sample_from other peak c) (channel_then_lem c h) ∙ ap (λ (b : Bool). cond b (Seat.OnSample c) (sample_from other peak (c + 1) (voices_since (c + 1)))) (ap (λ (z : Float). counts_in settings c && eq z peak) (sym same_sample) ∙ f))
+        sym (ap (sample_from other peak c) (channel_then_lem c h) ∙ ap (λ (b : Bool). cond b (Some (Seat.OnSample c)) (sample_from other peak (c + 1) (voices_since (c + 1)))) (ap (λ (z : Float). counts_in settings c && eq z peak) (sym same_sample) ∙ f))
 
-  pub sample_none : (peak : Float) (c : ℕ) (other : Seat) → channels ≤ c → other ≡ sample_from other peak c (voices_since c)
+  pub sample_none : (peak : Float) (c : ℕ) (other : Option Seat) → channels ≤ c → other ≡ sample_from other peak c (voices_since c)
   unfolding sample_from
   sample_none peak c other h = ap (sample_from other peak c) (sym (none_since c h))
 
   -- ---- `seat_at`
   module _ (peak : Float) where
-    pub seat_none : eq peak Number.zero ≡ true → Seat.Nowhere ≡ seat_of peak voices
+    pub seat_none : eq peak Number.zero ≡ true → None ≡ seat_of peak voices
     unfolding seat_of
     seat_none e = rw e refl
 
-    pub seat_some : (seat : Seat) → eq peak Number.zero ≡ false → seat ≡ sample_from (between_from peak 0 voices) peak 0 (voices_since 0) → seat ≡ seat_of peak voices
+    pub seat_some : (seat : Option Seat) → eq peak Number.zero ≡ false → seat ≡ sample_from (between_from peak 0 voices) peak 0 (voices_since 0) → seat ≡ seat_of peak voices
     unfolding seat_of
     seat_some seat e f = rw e (f ∙ ap (sample_from (between_from peak 0 voices) peak 0) all_voices)

@@ -18,7 +18,7 @@ use Rattle.envelope.specs.Mean.{mean_of}
 use Rattle.envelope.specs.Follow.{followed}
 use Rattle.envelope.specs.Step.{Enveloped, enveloped, gain_step_of}
 use Rattle.frame.specs.Rules.{Rules, leaves_by}
-use Rattle.detector.specs.declared.answer.Phase.{Phase}
+use Rattle.std.specs.Prelude.{Some, None}
 use Rattle.frame.specs.Seat.{Voice, between_from, sample_from, seat_of, PeakAt}
 use Rattle.frame.specs.Place.{place_found_at, no_place, highest_of, first_with, place_of}
 use Rattle.frame.specs.declared.highest.Seat.{Seat}
@@ -102,35 +102,35 @@ frame_without = (refl, refl, refl, refl)
 -- ---- where the peak sat
 -- a channel's voice: its sample, its detector's answer and that one's phase
 abbrev voice : Float → Float → ℕ → Voice
-voice sample answer p = record { counts = true; sample = sample; answer = answer; phase = Phase.At p }
+voice sample answer p = record { counts = true; sample = sample; answer = answer; phase = Some p }
 
 -- a detector named where a sample is as high, or the highest of equal channels
-pub sample_first : seat_of one (voice half one 2 ∷ voice one half 1 ∷ voice one one 0 ∷ []) ≡ Seat.OnSample 1
+pub sample_first : seat_of one (voice half one 2 ∷ voice one half 1 ∷ voice one one 0 ∷ []) ≡ Some (Seat.OnSample 1)
 unfolding seat_of sample_from between_from eq of_bits
 sample_first = refl
 
 -- of equal detectors the one of the highest channel, or the phase of another
-pub lowest_detector : seat_of one (voice half half 3 ∷ voice half one 2 ∷ voice half one 1 ∷ []) ≡ Seat.Between 1 2
+pub lowest_detector : seat_of one (voice half half 3 ∷ voice half one 2 ∷ voice half one 1 ∷ []) ≡ Some (Seat.Between 1 2)
 unfolding seat_of sample_from between_from eq of_bits
 lowest_detector = refl
 
 -- a channel that does not count named, by its sample or by its detector
 pub counted_seats :
-    (seat_of one (record { counts = false; sample = one; answer = one; phase = Phase.At 0 } ∷ voice half one 1 ∷ voice one half 2 ∷ []) ≡ Seat.OnSample 2)
-    × (seat_of one (record { counts = false; sample = one; answer = one; phase = Phase.At 0 } ∷ voice half one 1 ∷ []) ≡ Seat.Between 1 1)
+    (seat_of one (record { counts = false; sample = one; answer = one; phase = Some 0 } ∷ voice half one 1 ∷ voice one half 2 ∷ []) ≡ Some (Seat.OnSample 2))
+    × (seat_of one (record { counts = false; sample = one; answer = one; phase = Some 0 } ∷ voice half one 1 ∷ []) ≡ Some (Seat.Between 1 1))
 unfolding seat_of sample_from between_from eq of_bits
 counted_seats = (refl, refl)
 
 -- a place for a peak of 0.0
-pub silent_nowhere : seat_of Number.zero (voice Number.zero Number.zero 0 ∷ []) ≡ Seat.Nowhere
+pub silent_nowhere : seat_of Number.zero (voice Number.zero Number.zero 0 ∷ []) ≡ None
 unfolding seat_of eq
 silent_nowhere = refl
 
 -- a frame's peak, on the sample of channel 0
 abbrev peak_of : Float → PeakAt
-peak_of p = record { peak = p; seat = Seat.OnSample 0 }
+peak_of p = record { peak = p; seat = Some (Seat.OnSample 0) }
 
 -- the last of equal frames, or frames counted from 1; a place where there is no frame, or only silence
-pub first_frame : (place_of (peak_of half ∷ peak_of one ∷ peak_of one ∷ []) ≡ place_found_at 1 (Seat.OnSample 0)) × (place_of [] ≡ no_place) × (place_of (peak_of Number.zero ∷ []) ≡ no_place)
+pub first_frame : (place_of (peak_of half ∷ peak_of one ∷ peak_of one ∷ []) ≡ place_found_at 1 (Some (Seat.OnSample 0))) × (place_of [] ≡ no_place) × (place_of (peak_of Number.zero ∷ []) ≡ no_place)
 unfolding place_of highest_of first_with lt eq of_bits
 first_frame = (refl, refl, refl)

@@ -6,3 +6,4 @@ pub mod Place
 pub mod Run
 pub mod Passes
 pub mod Alike
+pub mod Lent

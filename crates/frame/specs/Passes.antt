@@ -1,5 +1,5 @@
 -- How the code goes about a run: in passes over all its frames, each channel by itself. That the passes add up to the frames in turn is proved in proofs/.
-use Rattle.std.specs.Prelude.{ℕ, zero, suc, ◌+◌, Bool, true, false, cond, ◌&&◌, ◌||◌, List, [], ◌∷◌, ◌++◌, map, get_or, set, take, drop, Float}
+use Rattle.std.specs.Prelude.{ℕ, zero, suc, ◌+◌, Bool, true, false, cond, ◌&&◌, ◌||◌, List, [], ◌∷◌, Option, Some, ◌++◌, map, get_or, set, take, drop, Float}
 use Rattle.std.specs.Float.{nan}
 use Rattle.std.specs.Float.Ieee.{lt, le}
 use Rattle.arithmetic.specs.Number
@@ -65,17 +65,17 @@ unfoldable pub any_above : Float → List Float → Bool
 any_above top [] = false
 any_above top (p ∷ ps) = lt top p || any_above top ps
 
--- the highest peak so far, and its frame
+-- the highest peak so far, and its frame, if a frame of the run has it
 pub record Risen : Type 0 where
   pub peak : Float
-  pub at : ℕ
+  pub at : Option ℕ
 
-abbrev pub risen_to : Float → ℕ → Risen
+abbrev pub risen_to : Float → Option ℕ → Risen
 risen_to peak at = record { peak = peak; at = at }
 
 unfoldable pub risen_from : ℕ → Risen → List Float → Risen
 risen_from i r [] = r
-risen_from i r (p ∷ ps) = risen_from (i + 1) (cond (lt r.peak p) (risen_to p i) r) ps
+risen_from i r (p ∷ ps) = risen_from (i + 1) (cond (lt r.peak p) (risen_to p (Some i)) r) ps
 
 -- ---- gain steps
 -- the required gain of each frame

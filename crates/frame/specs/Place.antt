@@ -1,5 +1,5 @@
 -- Change 5: where a block's highest peak sat, by plain scan over its frames' linked peaks. Last, how the code finds it, which only inner contracts cite.
-use Rattle.std.specs.Prelude.{ℕ, ◌+◌, Bool, false, cond, List, [], ◌∷◌, Float}
+use Rattle.std.specs.Prelude.{ℕ, ◌+◌, Bool, false, cond, List, [], ◌∷◌, Option, None, Float}
 use Rattle.std.specs.Float.{inf}
 use Rattle.std.specs.Float.Ieee.{lt, eq}
 use Rattle.arithmetic.specs.Number.{zero}
@@ -10,14 +10,14 @@ use Rattle.frame.specs.declared.highest.Highest.{Highest}
 -- a frame, "counted from 0 in the block", and where its peak sat
 pub record Place : Type 0 where
   pub frame : ℕ
-  pub seat : Seat
+  pub seat : Option Seat
 
-abbrev pub place_found_at : ℕ → Seat → Place
+abbrev pub place_found_at : ℕ → Option Seat → Place
 place_found_at i seat = record { frame = i; seat = seat }
 
 -- "An empty block, or one whose linked peak is 0.0 throughout, says none"
 abbrev pub no_place : Place
-no_place = place_found_at 0 Seat.Nowhere
+no_place = place_found_at 0 None
 
 -- the highest of these linked peaks, and 0.0 of none
 unfoldable pub highest_of : List PeakAt → Float
@@ -40,7 +40,7 @@ place_told asked ps = cond asked (place_of ps) no_place
 
 -- at a block's start: 0.0, and where it is not asked an infinity, above which there is no peak
 abbrev pub start_of : Bool → Highest
-start_of asked = record { peak = cond asked zero (inf false); frame = 0; seat = Seat.Nowhere }
+start_of asked = record { peak = cond asked zero (inf false); frame = 0; seat = None }
 
 -- frame i takes its place where its peak is higher
 abbrev pub higher : ℕ → Highest → PeakAt → Highest

@@ -9,7 +9,6 @@ ghost use Rattle.frame.specs.Passes.{gains_at, gains_of};
 use arithmetic::number::min;
 use envelope::env::{Envelope, GainStep};
 use envelope::follow::follow_all;
-use keeper::fill;
 
 // Below the target the ratio exceeds one and becomes unity, so there is no case of its own for it.
 fn required_gain(target: f64, peak: f64) -> f64
@@ -25,7 +24,7 @@ pub fn required_gains(heard: bool, target: f64, peaks: &mut [f64])
     ensures { peaks.new ≡ map (λ (p : Float). required_gain target p) peaks.old }
 {
     if !heard & (0.0 <= target) {
-        fill(peaks, 1.0);
+        peaks.fill(1.0);
         return;
     }
     let n = peaks.len();
@@ -34,22 +33,18 @@ pub fn required_gains(heard: bool, target: f64, peaks: &mut [f64])
     }
 }
 
-// The value of a list that has but one.
+// The value of a list that has but one. A run's step tells no such value, and an Option of it would be tested in every run.
 fn lone(xs: &[f64]) -> f64
     ensures { (x : Float) → xs.now ≡ x ∷ [] → result ≡ x }
 {
-    if xs.len() == 1 { xs[0] } else { 1.0 }
+    if let [x] = xs { *x } else { 1.0 }
 }
 
 // How many entries a step dropped that found so many and left so many, its own among them.
 fn dropped_by(before: usize, after: usize) -> usize
     ensures { (d : ℕ) → 0 < after → d + after ≡ before + 1 → result ≡ d }
 {
-    if after == 0 {
-        return 0;
-    }
-    let left = after - 1;
-    if left <= before { before - left } else { 0 }
+    before.saturating_sub(after.saturating_sub(1))
 }
 
 // A gain step for each frame, in three passes: the floors of all frames, which need no gain; the means

@@ -2,6 +2,10 @@
 // gain step, delayed output.
 #![tactic(auto)]
 
+// The stores that a host lends.
+pub mod stores;
+// What the passes go over.
+mod span;
 // The linked peak over the counted channels.
 mod peaks;
 // The highest of them so far.

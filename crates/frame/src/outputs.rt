@@ -8,6 +8,7 @@ ghost use Rattle.frame.specs.Frame.{given_out};
 ghost use Rattle.frame.specs.Run.{Sanitized};
 ghost use Rattle.frame.specs.Passes.{exchanged_at, exchange_of, products_of, outputs_at, channel_outputs, written_at, outputs_pass};
 
+use crate::span::Span;
 use arithmetic::narrow::narrow_flushed;
 use arithmetic::sanitize::{finite_or_zero, flush_denormal};
 use audio::format::Format;
@@ -24,30 +25,10 @@ fn given_out(format: Format, d: f64, gain: f64) -> f64
     }
 }
 
-// A stretch of the line and as many samples change places.
-fn swap_stretch(line: &mut [f64], samples: &mut [f64])
-    requires { length line.old ≡ length samples.old }
-    ensures line_after { line.new ≡ samples.old }
-    ensures samples_after { samples.new ≡ line.old }
-{
-    let n = samples.len();
-    for i in 0..n {
-        let d = line[i];
-        line[i] = samples[i];
-        samples[i] = d;
-    }
-}
-
-// The smaller of two lengths.
-fn shorter(a: usize, b: usize) -> usize
-    ensures { result ≡ min a b }
-{
-    if a < b { a } else { b }
-}
-
 // A run's samples, which are sanitized, and what lies in the line from a position on change places, in
 // straight stretches: each ends where the line or the run does, so that no wrap stands in the loop over
 // it. The position that the next frame finds is handed back.
+// No iterator has these stretches: how long one is shows only where it begins.
 fn exchange(line: &mut [f64], pos: usize, samples: &mut [f64]) -> usize
     requires pos_in_bounds { pos < length line.old }
     requires sanitized { map finite_or_zero samples.old ≡ samples.old }
@@ -60,10 +41,10 @@ fn exchange(line: &mut [f64], pos: usize, samples: &mut [f64]) -> usize
     let mut p = pos;
     let mut i: usize = 0;
     while i < n {
-        let len = shorter(n - i, look - p);
+        let len = (n - i).min(look - p);
         let pe = p + len;
         let ie = i + len;
-        swap_stretch(&mut line[p..pe], &mut samples[i..ie]);
+        line[p..pe].swap_with_slice(&mut samples[i..ie]);
         i = ie;
         p = next_pos(look, pe - 1);
     }
@@ -102,31 +83,29 @@ fn channel_outputs(
     next
 }
 
-// All channels over a run of n frames. Each goes on from the same position to the same position.
+// All channels over a run. Each goes on from the same position to the same position.
 pub fn all_outputs(
     format: Format,
-    channels: usize,
+    span: Span,
     look: usize,
     pos: usize,
-    n: usize,
     gains: &[f64],
     delay: &mut [f64],
     audio: &mut [f64],
 ) -> usize
-    requires some_channel { 1 ≤ channels }
-    requires channels_bound { channels ≤ 8 }
-    requires n_le_run_length { n ≤ run_length }
+    requires some_channel { 1 ≤ span.channels }
     requires pos_lt_look { pos < look }
     requires audio_len { length audio.old ≡ 8 * run_length }
-    requires delay_len { length delay.old ≡ channels * look }
-    requires gains_len { length gains.now ≡ n }
-    requires sanitized { Sanitized channels n audio.old }
+    requires delay_len { length delay.old ≡ span.channels * look }
+    requires gains_len { length gains.now ≡ span.n }
+    requires sanitized { Sanitized span.channels span.n audio.old }
     ensures given_out { written_at audio.new delay.new
-        ≡ outputs_pass (leaves_by format) look pos gains.now channels n delay.old audio.old }
-    ensures value { result ≡ pos_after look pos n }
+        ≡ outputs_pass (leaves_by format) look pos gains.now span.channels span.n delay.old audio.old }
+    ensures value { result ≡ pos_after look pos span.n }
 {
     let mut next = pos;
-    for c in 0..channels {
+    // by places: line and samples are lent to be written
+    for c in 0..span.channels {
         let at = c * look;
         let first = c * 32;
         next = channel_outputs(
@@ -134,7 +113,7 @@ pub fn all_outputs(
             &mut delay[at..at + look],
             pos,
             gains,
-            &mut audio[first..first + n],
+            &mut audio[first..first + span.n],
         );
     }
     next

@@ -1,6 +1,6 @@
 // Where the highest linked peak of a block sat (Change 5), among the counted channels. A run that has none above the
 // highest so far is only looked through; the frame of a higher one is then heard once more, channel by channel.
-ghost use Rattle.std.specs.Prelude.{◌≡◌, List, ◌*◌, ◌≤◌, ◌<◌, length, Float};
+ghost use Rattle.std.specs.Prelude.{◌≡◌, None, IfSome, List, ◌*◌, ◌≤◌, ◌<◌, length, Float};
 ghost use Rattle.detector.specs.Oversample.{remembered};
 ghost use Rattle.detector.specs.Run.{run_length};
 ghost use Rattle.frame.specs.Rules.{linking_of};
@@ -10,18 +10,17 @@ ghost use Rattle.frame.specs.Passes.{voices_pass, places_from, any_above, risen_
 ghost use Rattle.frame.specs.Alike.{ceiling_of, AllAlike};
 
 use crate::highest::{Highest, Seat};
+use crate::span::Span;
 use arithmetic::number::abs;
 use arithmetic::sanitize::finite_or_zero;
-use detector::answer::Phase;
 use detector::oversample::answer_at;
-use settings::LimiterSettings;
 use settings::counted::counts_in;
 
-// A peak that is the first of the highest, and its frame of a run.
+// The highest of a run's peaks above a height, and the first frame that has it; the height itself where none is above it.
 #[derive(Clone, Copy)]
 struct Top {
     peak: f64,
-    at: usize,
+    at: Option<usize>,
 }
 
 // What stays unnoticed: peaks that are neither above the target nor above the highest so far.
@@ -36,121 +35,88 @@ fn any_above(peaks: &[f64], top: f64) -> bool
     ensures { result ≡ any_above top peaks.now }
 {
     let mut found = false;
-    let n = peaks.len();
-    for i in 0..n {
-        found = found | (peaks[i] > top);
+    for p in peaks {
+        found = found | (*p > top);
     }
     found
 }
 
-// The first of the highest peaks above a height; past the last where none is above it.
+// The first of the highest peaks above a height.
 fn top_of(peaks: &[f64], top: f64) -> Top
-    ensures { risen_to result.peak result.at ≡ risen_from 0 (risen_to top (length peaks.now)) peaks.now }
+    ensures risen { risen_to result.peak result.at ≡ risen_from 0 (risen_to top None) peaks.now }
+    ensures inside { IfSome result.at (λ i. i < length peaks.now) }
 {
-    let n = peaks.len();
     let mut peak = top;
-    let mut at = n;
-    for i in 0..n {
-        if peaks[i] > peak {
-            peak = peaks[i];
-            at = i;
+    let mut at = None;
+    for (i, p) in peaks.iter().enumerate() {
+        if *p > peak {
+            peak = *p;
+            at = Some(i);
         }
     }
     Top { peak, at }
 }
 
-fn heard_by(channel: usize, phase: Phase) -> Seat
+fn heard_by(channel: usize, phase: Option<usize>) -> Option<Seat>
     ensures { result ≡ heard_by channel phase }
 {
-    match phase {
-        Phase::Nowhere => Seat::Nowhere,
-        Phase::At(phase) => Seat::Between { channel, phase },
-    }
+    phase.map(|phase| Seat::Between { channel, phase })
 }
 
 // Of frame `at` of a run, the lowest counted channel whose detector answers the peak, and its phase.
-fn between(
-    settings: LimiterSettings,
-    channels: usize,
-    n: usize,
-    at: usize,
-    peak: f64,
-    audio: &[f64],
-    detector: &[f64],
-) -> Seat
-    requires channels_bound { channels ≤ 8 }
-    requires n_le_run_length { n ≤ run_length }
-    requires at_lt_n { at < n }
-    requires audio_len { length audio.now ≡ 8 * run_length }
-    requires detector_len { length detector.now ≡ channels * remembered }
-    ensures { result ≡ between_from peak 0 (voices_pass (linking_of settings) 0 channels at detector.now audio.now) }
+fn between(span: Span, at: usize, peak: f64, audio: &[f64; 256], detector: &[f64]) -> Option<Seat>
+    requires at_lt_n { at < span.n }
+    requires detector_len { length detector.now ≡ span.channels * remembered }
+    ensures { result ≡ between_from peak 0 (voices_pass (linking_of span.settings) 0 span.channels at detector.now audio.now) }
 {
-    for c in 0..channels {
-        let answer = answer_at(
-            &detector[c * 12..c * 12 + 12],
-            &audio[c * 32..c * 32 + n],
-            at,
-        );
-        if counts_in(settings, c) & (answer.peak == peak) {
+    // a turn knows that c is a channel, which a closure would not
+    for c in 0..span.channels {
+        let answer = answer_at(span.store(detector, c), span.samples(audio, c), at);
+        if counts_in(span.settings, c) & (answer.peak == peak) {
             let phase = answer.phase;
             return heard_by(c, phase);
         }
     }
-    Seat::Nowhere
+    None
 }
 
 // Where the peak of frame `at` of a run sat: a sample that is as high comes before a detector.
-fn seat_at(
-    settings: LimiterSettings,
-    channels: usize,
-    n: usize,
-    at: usize,
-    peak: f64,
-    audio: &[f64],
-    detector: &[f64],
-) -> Seat
-    requires channels_bound { channels ≤ 8 }
-    requires n_le_run_length { n ≤ run_length }
-    requires at_lt_n { at < n }
-    requires audio_len { length audio.now ≡ 8 * run_length }
-    requires detector_len { length detector.now ≡ channels * remembered }
-    ensures { result ≡ seat_of peak (voices_pass (linking_of settings) 0 channels at detector.now audio.now) }
+fn seat_at(span: Span, at: usize, peak: f64, audio: &[f64; 256], detector: &[f64]) -> Option<Seat>
+    requires at_lt_n { at < span.n }
+    requires detector_len { length detector.now ≡ span.channels * remembered }
+    ensures { result ≡ seat_of peak (voices_pass (linking_of span.settings) 0 span.channels at detector.now audio.now) }
 {
     if peak == 0.0 {
-        return Seat::Nowhere;
+        return None;
     }
-    for c in 0..channels {
+    // as in `between`
+    for c in 0..span.channels {
         let sample = abs(finite_or_zero(audio[c * 32 + at]));
-        if counts_in(settings, c) & (sample == peak) {
-            return Seat::OnSample(c);
+        if counts_in(span.settings, c) & (sample == peak) {
+            return Some(Seat::OnSample(c));
         }
     }
-    between(settings, channels, n, at, peak, audio, detector)
+    between(span, at, peak, audio, detector)
 }
 
-// The highest so far after a run of n frames, the first of which is frame `first` of its block. The peaks are the
+// The highest so far after a run, the first of which is frame `first` of its block. The peaks are the
 // definition's, or both are at most a ceiling that is not above the highest so far; the detector is as it was before the run.
 pub fn highest_in(
-    settings: LimiterSettings,
-    channels: usize,
-    n: usize,
+    span: Span,
     first: usize,
     best: Highest,
     peaks: &[f64],
-    audio: &[f64],
+    audio: &[f64; 256],
     detector: &[f64],
 ) -> Highest
-    requires channels_bound { channels ≤ 8 }
-    requires n_le_run_length { n ≤ run_length }
     requires first_bound { first ≤ 65536 }
-    requires peaks_len { length peaks.now ≡ n }
-    requires audio_len { length audio.now ≡ 8 * run_length }
-    requires detector_len { length detector.now ≡ channels * remembered }
+    requires peaks_len { length peaks.now ≡ span.n }
+    requires detector_len { length detector.now ≡ span.channels * remembered }
     ensures { (target : Float) (whole : List Float) → AllAlike (ceiling_of target best.peak) peaks.now whole
-        → result ≡ highest_from first best (places_from (linking_of settings) channels 0 whole detector.now audio.now) }
+        → result ≡ highest_from first best (places_from (linking_of span.settings) span.channels 0 whole detector.now audio.now) }
 {
     // nothing is above an infinity, where a block starts that is not asked: its peaks are not looked through
-    if best.peak == f64::from_bits(0x7ff0_0000_0000_0000) {
+    if best.peak == f64::INFINITY {
         return best;
     }
     if !any_above(peaks, best.peak) {
@@ -158,13 +124,13 @@ pub fn highest_in(
     }
     let top = top_of(peaks, best.peak);
     // never so, since a peak is above; asked again, it need not be shown
-    if top.at >= n {
+    let Some(at) = top.at else {
         return best;
-    }
-    let seat = seat_at(settings, channels, n, top.at, top.peak, audio, detector);
+    };
+    let seat = seat_at(span, at, top.peak, audio, detector);
     Highest {
         peak: top.peak,
-        frame: first + top.at,
+        frame: first + at,
         seat,
     }
 }

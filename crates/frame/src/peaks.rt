@@ -1,5 +1,5 @@
 // The peak of each frame of a run: the largest sanitized magnitude or detector answer over the counted channels. A
-// channel too quiet to be noticed is passed over.
+// channel too quiet to be noticed is passed over. The detector's store is lent, so its length is asked for by a clause.
 ghost use Rattle.std.specs.Prelude.{◌≡◌, true, false, List, ◌+◌, ◌*◌, ◌≤◌, ◌<◌, length, replicate, Float};
 ghost use Rattle.std.specs.Float.Ieee.{le};
 ghost use Rattle.arithmetic.specs.Number.{zero};
@@ -12,6 +12,7 @@ ghost use Rattle.frame.specs.Frame.{heard};
 ghost use Rattle.frame.specs.Passes.{all_from_zero, heard_all, channel_peaks, peaks_pass};
 ghost use Rattle.frame.specs.Alike.{AllAlike};
 
+use crate::span::Span;
 use arithmetic::sanitize::finite_or_zero;
 use detector::oversample::{answers_abs, remember};
 use detector::quiet::{level_below, lies_within};
@@ -40,6 +41,7 @@ fn heard_in(peak: f64, x: f64, answer: f64) -> f64
 }
 
 // A channel's share in the peak of each frame.
+// That peaks are 0 or more is asked in clauses: they are lent, and a struct of them would hold the loan.
 fn hear_run(peaks: &mut [f64], samples: &[f64], answers: &[f64])
     requires samples_len { length samples.now ≡ length peaks.old }
     requires answers_len { length answers.now ≡ length peaks.old }
@@ -53,40 +55,15 @@ fn hear_run(peaks: &mut [f64], samples: &[f64], answers: &[f64])
     }
 }
 
-// Channel c, which counts, over a run: the detector's answers for its samples are left in `answers`, and their share
-// goes into the peaks. The store stays as it is until `remember_all`.
-fn hear_channel(
-    settings: LimiterSettings,
-    c: usize,
-    store: &[f64],
-    samples: &[f64],
-    peaks: &mut [f64],
-    answers: &mut [f64],
-)
-    requires store_len { length store.now ≡ remembered }
-    requires samples_len { length samples.now ≡ length peaks.old }
-    requires answers_len { length answers.old ≡ length samples.now }
-    requires run_short { length samples.now ≤ run_length }
-    requires from_zero { all_from_zero peaks.old ≡ true }
-    requires counted { counts_in settings c ≡ true }
-    ensures peaks_after { peaks.new
-        ≡ (channel_peaks (linking_of settings) c peaks.old store.now samples.now).peaks }
-    ensures answers_after { answers.new ≡ (pushes_of (taps_of settings) store.now samples.now).peaks }
-    ensures still_from_zero { all_from_zero peaks.new ≡ true }
-{
-    answers_abs(store, samples, answers);
-    hear_run(peaks, samples, answers);
-}
-
-// The same with local answers.
+// Channel c, which counts, over a run: the share of its samples and of the detector's answers for them goes into the
+// peaks. The store stays as it is until `remember_all`.
 fn channel_peaks(
     settings: LimiterSettings,
     c: usize,
-    store: &[f64],
+    store: &[f64; 12],
     samples: &[f64],
     peaks: &mut [f64],
 )
-    requires store_len { length store.now ≡ remembered }
     requires samples_len { length samples.now ≡ length peaks.old }
     requires run_short { length samples.now ≤ run_length }
     requires from_zero { all_from_zero peaks.old ≡ true }
@@ -97,7 +74,8 @@ fn channel_peaks(
 {
     let n = samples.len();
     let mut answers = [0.0; 32];
-    hear_channel(settings, c, store, samples, peaks, &mut answers[0..n]);
+    answers_abs(store, samples, &mut answers[..n]);
+    hear_run(peaks, samples, &answers[..n]);
 }
 
 // Channel c over a run. One that does not count has no share. Where its samples lie within the level for a ceiling,
@@ -107,11 +85,10 @@ fn hear_or_pass(
     settings: LimiterSettings,
     c: usize,
     level: f64,
-    store: &[f64],
+    store: &[f64; 12],
     samples: &[f64],
     peaks: &mut [f64],
 ) -> bool
-    requires store_len { length store.now ≡ remembered }
     requires samples_len { length samples.now ≡ length peaks.old }
     requires run_short { length samples.now ≤ run_length }
     requires from_zero { all_from_zero peaks.old ≡ true }
@@ -133,34 +110,27 @@ fn hear_or_pass(
 // All channels over a run of n frames. The peaks left are the definition's, or both are at most the ceiling. Whether
 // any channel was heard: where none was, they are as they were.
 pub fn all_peaks(
-    settings: LimiterSettings,
+    span: Span,
     ceiling: f64,
-    channels: usize,
-    n: usize,
-    audio: &[f64],
+    audio: &[f64; 256],
     detector: &[f64],
     peaks: &mut [f64],
 ) -> bool
-    requires channels_bound { channels ≤ 8 }
-    requires n_le_run_length { n ≤ run_length }
-    requires audio_len { length audio.now ≡ 8 * run_length }
-    requires detector_len { length detector.now ≡ channels * remembered }
-    requires peaks_zero { peaks.old ≡ replicate n zero }
+    requires detector_len { length detector.now ≡ span.channels * remembered }
+    requires peaks_zero { peaks.old ≡ replicate span.n zero }
     ensures all_alike { AllAlike ceiling peaks.new
-        (peaks_pass (linking_of settings) 0 channels n peaks.old detector.now audio.now).peaks }
+        (peaks_pass (linking_of span.settings) 0 span.channels span.n peaks.old detector.now audio.now).peaks }
     ensures peaks_unchanged { result ≡ false → peaks.new ≡ peaks.old }
 {
     let level = level_below(ceiling);
     let mut heard = false;
-    for c in 0..channels {
-        let at = c * 12;
-        let first = c * 32;
+    for c in 0..span.channels {
         let some = hear_or_pass(
-            settings,
+            span.settings,
             c,
             level,
-            &detector[at..at + 12],
-            &audio[first..first + n],
+            span.store(detector, c),
+            span.samples(audio, c),
             peaks,
         );
         heard = heard | some;
@@ -169,23 +139,13 @@ pub fn all_peaks(
 }
 
 // What the detector remembers of a run of n frames, for every channel, counted or not.
-pub fn remember_all(
-    settings: LimiterSettings,
-    channels: usize,
-    n: usize,
-    audio: &[f64],
-    detector: &mut [f64],
-)
-    requires channels_bound { channels ≤ 8 }
-    requires n_le_run_length { n ≤ run_length }
-    requires audio_len { length audio.now ≡ 8 * run_length }
-    requires detector_len { length detector.old ≡ channels * remembered }
+pub fn remember_all(span: Span, audio: &[f64; 256], detector: &mut [f64])
+    requires detector_len { length detector.old ≡ span.channels * remembered }
     ensures { (peaks : List Float) → detector.new
-        ≡ (peaks_pass (linking_of settings) 0 channels n peaks detector.old audio.now).detector }
+        ≡ (peaks_pass (linking_of span.settings) 0 span.channels span.n peaks detector.old audio.now).detector }
 {
-    for c in 0..channels {
+    for c in 0..span.channels {
         let at = c * 12;
-        let first = c * 32;
-        remember(&mut detector[at..at + 12], &audio[first..first + n]);
+        remember(&mut detector[at..at + 12], span.samples(audio, c));
     }
 }

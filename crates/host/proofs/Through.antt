@@ -2,12 +2,14 @@
 use mathlib.Core.Path.{◌≡◌, refl, sym, ap, ◌∙◌}
 use mathlib.Core.Bool.{Bool, true, false, cond}
 use mathlib.Core.List.{List, [], ◌∷◌, ◌++◌, append-nil}
-use Prim.Native.Nat.{ℕ, ◌-◌, ◌≤◌}
+use Prim.Native.Nat.{ℕ}
 use native.Mathlib.Omega.{arith}
 use lib.Dec.{eqb}
 use lib.ListN.{length, take, drop}
 use lib.Seq.{take_all, drop-length}
 use lib.Ieee.{Float}
+use Rattle.std.specs.Result.{MatchResult}
+use Rattle.std.proofs.Common.{Result, Ok, Err}
 use Rattle.arithmetic.specs.Number.{bits}
 use Rattle.arithmetic.specs.Reply.{Reply, refused, count}
 use Rattle.settings.specs.declared.LimiterSettings.{LimiterSettings}
@@ -21,9 +23,14 @@ use Rattle.driver.specs.declared.state.KernelProcessor.{KernelProcessor}
 use Rattle.state_bytes.specs.State.{state_bytes, processor_of, processor_in, state_out}
 use Rattle.state_bytes.proofs.Finished.{parameter_set_up, set_up_long}
 use Rattle.host.specs.Answer.{reply_words, words_of, answered, answered_by}
-use Rattle.host.specs.Host.{Returned, returned_at, returned, called_by, returned_with, audio_by, parameter_by, read_at, value_by, left_in, setup_by}
+use Rattle.host.specs.Host.{Returned, returned_at, returned, called_by, returned_with, audio_by, given_back, parameter_by, read_at, value_by, left_in, setup_by}
 use Rattle.host.specs.declared.answer.ReplyWords.{ReplyWords}
 use Rattle.host.proofs.Buffers.{setup_none}
+
+-- what a call returns, in words
+pub told : {T E : Type 0} (reply : Result T E → Reply) (r : Result T E) (t : ReplyWords) → MatchResult r (λ x. t ≡ reply_words (reply (Ok x))) (λ why. t ≡ reply_words (reply (Err why))) → t ≡ reply_words (reply r)
+told reply (Ok x) t h = h
+told reply (Err why) t h = h
 
 module _ (answer state : List ℕ) (q : KernelProcessor) (e : q ≡ processor_in state) where
   -- a finished reply means set up, and that a state of 512 bytes
@@ -61,17 +68,9 @@ module _ (answer state : List ℕ) (q : KernelProcessor) (e : q ≡ processor_in
       whole = rw (v, u) refl
 
 -- ---- 23 gives back the value's own bits
-pub word_given : (reply other : Reply) (t given : ReplyWords) → t ≡ reply_words reply → given ≡ cond (eqb t.number 23) (reply_words other) t → given ≡ reply_words (cond (eqb reply.number 23) other reply)
-word_given reply other t given u v = v ∙ rw u (go (eqb reply.number 23))
-  where
-    go : (b : Bool) → cond b (reply_words other) (reply_words reply) ≡ reply_words (cond b other reply)
-    go true = refl
-    go false = refl
-
 pub parameter_word : (m : Machine) (id word : ℕ) (reply : Reply) (after : Machine) (x : Float) → x ≡ bits word → left reply after ≡ parameter_of m id x
-    → left (cond (eqb reply.number 23) (refused 23 (count id ∷ count word ∷ [])) reply) after ≡ parameter_by id word m
-parameter_word m id word reply after x e o =
-    ap (λ (l : Left). left (cond (eqb l.reply.number 23) (refused 23 (count id ∷ count word ∷ [])) l.reply) l.machine) (o ∙ ap (parameter_of m id) e)
+    → left (given_back id word reply) after ≡ parameter_by id word m
+parameter_word m id word reply after x e o = ap (λ (l : Left). left (given_back id word l.reply) l.machine) (o ∙ ap (parameter_of m id) e)
 
 pub parameter_by_lem : (m : Machine) (id word : ℕ) → (parameter_by id word m).reply.number ≡ 0 → prepared m.limiter m.bank ≡ true
 parameter_by_lem m id word z = parameter_set_up m id (bits word) (go (eqb (parameter_of m id (bits word)).reply.number 23) z)
@@ -81,12 +80,8 @@ parameter_by_lem m id word z = parameter_set_up m id (bits word) (go (eqb (param
     go false y = y
 
 -- ---- setup
-pub lent_within : (b : Bool) (n w : ℕ) → n ≡ cond b w 0 → n ≤ w
-lent_within true n w e = omega (arith, e)
-lent_within false n w e = omega (arith, e)
-
-pub lent_part : (b : Bool) (n : ℕ) (ws : List Float) → n ≡ cond b (length ws) 0 → take (n - 0) ws ≡ cond b ws []
-lent_part true n ws e = take_all (n - 0) ws (omega (arith, e))
+pub lent_part : (b : Bool) (n : ℕ) (ws : List Float) → n ≡ cond b (length ws) 0 → take n ws ≡ cond b ws []
+lent_part true n ws e = take_all n ws (omega (arith, e))
 lent_part false n ws e = rw e refl
 
 module _ (s : LimiterSettings) (spec : ProcessSpec) (answer state : List ℕ) (stores : Stores) where

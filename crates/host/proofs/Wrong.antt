@@ -3,11 +3,11 @@ use Prim.Native.Nat.{ℕ}
 use mathlib.Core.Path.{◌≡◌, refl}
 use mathlib.Core.Bool.{true, false}
 use mathlib.Core.List.{List, [], ◌∷◌, ◌++◌}
-use lib.ListN.{replicate}
+use lib.ListN.{get_or, replicate}
+use Rattle.std.proofs.Common.{Some, None}
 use lib.Ieee.{Float}
 use Rattle.arithmetic.specs.Number.{largest}
 use Rattle.arithmetic.specs.Reply.{Value, finished, refused, numbered, count}
-use Rattle.settings.specs.declared.memory.Cap.{Cap}
 use Rattle.limiter.specs.Stores.{Stores}
 use Rattle.turns.specs.Machine.{Machine}
 use Rattle.turns.specs.Block.{placed}
@@ -30,7 +30,7 @@ module _ (answer state : List ℕ) (m : Machine) where
 
 -- ---- the answer's words
 -- entries kept told as dropped, of every gain step
-pub dropped_then_kept : (m : Machine) (x : Float) → let g = gain_of m x in ((reply_words (gain_told g)).w1 ≡ g.dropped) × ((reply_words (gain_told g)).w2 ≡ g.env.keeping.keeper.len)
+pub dropped_then_kept : (m : Machine) (x : Float) → let g = gain_of m x in let ws = words_of (reply_words (gain_told g)) in (get_or ws 1 0 ≡ g.dropped) × (get_or ws 2 0 ≡ g.env.keeping.keeper.len)
 dropped_then_kept m x = (refl, refl)
 
 -- words past the eighth cleared, or a short buffer written past its end
@@ -41,7 +41,7 @@ unfolding answered
 eight_words = (refl, refl)
 
 -- a place that a block does not tell who lends it one word
-pub one_word_told : (i c : ℕ) → answered_by (7 ∷ []) (placed i (Seat.OnSample c)) ≡ 1 ∷ []
+pub one_word_told : (i c : ℕ) → answered_by (7 ∷ []) (placed i (Some (Seat.OnSample c))) ≡ 1 ∷ []
 unfolding answered
 one_word_told i c = refl
 
@@ -52,7 +52,7 @@ nan_given_back = refl
 
 -- ---- caps and bytes
 -- a cap of 0 read as no cap
-pub cap_of_nothing : (cap_of 1 0 ≡ Cap.Bytes 0) × (cap_of 0 5 ≡ Cap.Unlimited)
+pub cap_of_nothing : (cap_of 1 0 ≡ Some 0) × (cap_of 0 5 ≡ None)
 cap_of_nothing = (refl, refl)
 
 -- the bank's 80 bytes left out, and a sum that wraps where the bytes are not counted: 79

@@ -17,16 +17,11 @@ value_at vs k = get_or (map value_word vs) k 0
 abbrev pub reply_words : Reply → ReplyWords
 reply_words r = record {
   number = r.number;
-  w0 = value_at r.values 0;
-  w1 = value_at r.values 1;
-  w2 = value_at r.values 2;
-  w3 = value_at r.values 3;
-  w4 = value_at r.values 4;
-  w5 = value_at r.values 5;
+  words = value_at r.values 0 ∷ value_at r.values 1 ∷ value_at r.values 2 ∷ value_at r.values 3 ∷ value_at r.values 4 ∷ value_at r.values 5 ∷ 0 ∷ 0 ∷ [];
 }
 
 abbrev pub words_of : ReplyWords → List ℕ
-words_of t = t.w0 ∷ t.w1 ∷ t.w2 ∷ t.w3 ∷ t.w4 ∷ t.w5 ∷ 0 ∷ 0 ∷ []
+words_of t = t.words
 
 -- as many words as fit, in order; words past the eighth stay as they were
 unfoldable pub answered : List ℕ → List ℕ → List ℕ

@@ -1,12 +1,11 @@
 -- The C functions: each call of the driver through bytes. A buffer that is no state holds the limiter that was never set up, which every call but setup answers with 18.
-use Rattle.std.specs.Prelude.{ℕ, ◌+◌, Bool, cond, not, List, [], ◌∷◌, eqb, leb, length}
+use Rattle.std.specs.Prelude.{ℕ, ◌+◌, Bool, cond, not, List, [], ◌∷◌, eqb, leb, length, Option, Some, None}
 use Rattle.arithmetic.specs.Number.{bits, largest}
 use Rattle.arithmetic.specs.Reply.{Reply, refused, count}
 use Rattle.audio.specs.declared.format.Format.{Format}
 use Rattle.settings.specs.Memory.{needed}
 use Rattle.settings.specs.declared.LimiterSettings.{LimiterSettings}
 use Rattle.settings.specs.declared.ProcessSpec.{ProcessSpec}
-use Rattle.settings.specs.declared.memory.Cap.{Cap}
 use Rattle.limiter.specs.Stores.{Stores, with_weights}
 use Rattle.turns.specs.Machine.{Machine}
 use Rattle.driver.specs.Answers.{machine_at}
@@ -62,10 +61,13 @@ abbrev pub flush_by : Format → ℕ → List ℕ → List ℕ → Stores → Li
 flush_by format frames answer state stores bytes = audio_by (λ (m : Machine) (audio : List ℕ). drain_of format m frames audio) answer state stores bytes
 
 -- a parameter's value crosses as its bits, which 23 gives back
+abbrev pub given_back : ℕ → ℕ → Reply → Reply
+given_back id word r = cond (eqb r.number 23) (refused 23 (count id ∷ count word ∷ [])) r
+
 abbrev pub parameter_by : ℕ → ℕ → Machine → Left
 parameter_by id word m =
     let o = parameter_of m id (bits word) in
-    left (cond (eqb o.reply.number 23) (refused 23 (count id ∷ count word ∷ [])) o.reply) o.machine
+    left (given_back id word o.reply) o.machine
 
 -- ---- reading a value: nothing but the answer is written; 18 is the bank's own
 pub record Read : Type 0 where
@@ -82,8 +84,8 @@ value_by id answer state =
 
 -- ---- setup
 -- a flag, and the cap
-abbrev pub cap_of : ℕ → ℕ → Cap
-cap_of capped cap = cond (eqb capped 0) Cap.Unlimited (Cap.Bytes cap)
+abbrev pub cap_of : ℕ → ℕ → Option ℕ
+cap_of capped cap = cond (eqb capped 0) None (Some cap)
 
 -- a flag: any number but 0 asks for a house table
 abbrev pub asked_of : ℕ → Bool

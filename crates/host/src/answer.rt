@@ -1,37 +1,33 @@
 // A call's reply as its number and the words of its values (specs/Answer.antt).
-ghost use Rattle.std.specs.Prelude.{◌≡◌, [], ◌∷◌};
-ghost use Rattle.arithmetic.specs.Reply.{finished, refused, numbered, count};
-ghost use Rattle.limiter.specs.Prepare.{prepare_reply};
-ghost use Rattle.bank.specs.Answers.{refusal_reply, param_set_reply, bank_value_reply};
+ghost use Rattle.std.specs.Prelude.{◌≡◌, [], ◌∷◌, MatchResult};
+ghost use Rattle.arithmetic.specs.Reply.{finished, refused, numbered, count, float};
+ghost use Rattle.limiter.specs.Prepare;
+ghost use Rattle.bank.specs.Answers.{refusal_reply, param_refusal_reply};
 ghost use Rattle.turns.specs.Block.{placed};
-ghost use Rattle.driver.specs.Answers.{setup_reply, refused_by, answer_reply, flush_reply, gain_reply_of};
+ghost use Rattle.driver.specs.Answers.{setup_refused_by, refused_by, flushed_reply, stepped_reply};
 ghost use Rattle.host.specs.Answer.{reply_words, words_of, answered};
 
 use arithmetic::pattern::to_bits;
 use bank::param::BankRefusal;
-use bank::smoother_bank::{BankValue, ParamSet};
-use bank::words::flag;
-use driver::answers::{Answer, FlushAnswer, GainAnswer, Refusal, SetupAnswer};
+use bank::smoother_bank::ParamRefusal;
+use driver::answers::{Flushed, GainStepped, Refusal, SetupRefusal};
 use frame::highest::Seat;
-use limiter::prepare::PrepareAnswer;
-use settings::accepted::refusal_number;
+use limiter::prepare::PrepareRefusal;
 
 #[derive(Clone, Copy)]
 pub struct ReplyWords {
     pub number: u32,
-    pub w0: u64,
-    pub w1: u64,
-    pub w2: u64,
-    pub w3: u64,
-    pub w4: u64,
-    pub w5: u64,
+    pub words: [u64; 8],
 }
 
 // A number alone.
 fn bare(number: u32) -> ReplyWords
     ensures { result ≡ reply_words (numbered number) }
 {
-    pair(number, 0, 0)
+    ReplyWords {
+        number,
+        words: [0; 8],
+    }
 }
 
 // A number with up to two counts.
@@ -40,171 +36,158 @@ pub fn pair(number: u32, w0: u64, w1: u64) -> ReplyWords
 {
     ReplyWords {
         number,
-        w0,
-        w1,
-        w2: 0,
-        w3: 0,
-        w4: 0,
-        w5: 0,
+        words: [w0, w1, 0, 0, 0, 0, 0, 0],
     }
 }
 
-// Finished work with four counts.
+// Finished work with four counts. One function with `pair`, over a slice, would ask how many there are.
 fn four(w0: u64, w1: u64, w2: u64, w3: u64) -> ReplyWords
     ensures { result ≡ reply_words (finished (count w0 ∷ count w1 ∷ count w2 ∷ count w3 ∷ [])) }
 {
     ReplyWords {
         number: 0,
-        w0,
-        w1,
-        w2,
-        w3,
-        w4: 0,
-        w5: 0,
+        words: [w0, w1, w2, w3, 0, 0, 0, 0],
     }
 }
 
-fn of_bank(why: BankRefusal) -> ReplyWords
-    ensures { result ≡ reply_words (refusal_reply why) }
-{
-    match why {
-        BankRefusal::TooMany => pair(1, 0, 0),
-        BankRefusal::Id(i) => pair(2, i as u64, 0),
-        BankRefusal::Range(i) => pair(3, i as u64, 0),
-        BankRefusal::DefaultNotFinite(i) => pair(4, i as u64, 0),
-        BankRefusal::DefaultOutside(i) => pair(5, i as u64, 0),
-        BankRefusal::SmoothingTime(i) => pair(6, i as u64, 0),
+impl From<BankRefusal> for ReplyWords {
+    ghost from_gives = { λ why t. t ≡ reply_words (refusal_reply why) };
+
+    fn from(why: BankRefusal) -> ReplyWords {
+        pair(why.into(), why.index() as u64, 0)
     }
 }
 
-fn of_prepare(answer: PrepareAnswer) -> ReplyWords
-    ensures { result ≡ reply_words (prepare_reply answer) }
-{
-    match answer {
-        PrepareAnswer::Finished => bare(0),
-        PrepareAnswer::Settings(why) => bare(refusal_number(why)),
-        PrepareAnswer::OverCap { needed, cap } => pair(15, needed, cap),
-        PrepareAnswer::NoHouse => bare(29),
-        PrepareAnswer::StoreLength => bare(16),
-        PrepareAnswer::Weights => bare(17),
+impl From<PrepareRefusal> for ReplyWords {
+    ghost from_gives = { λ why t. t ≡ reply_words (Prepare.refusal_reply why) };
+
+    fn from(why: PrepareRefusal) -> ReplyWords {
+        match why {
+            PrepareRefusal::Settings(own) => bare(own.into()),
+            PrepareRefusal::OverCap(over) => pair(15, over.needed, over.cap),
+            PrepareRefusal::NoHouse => bare(29),
+            PrepareRefusal::StoreLength => bare(16),
+            PrepareRefusal::Weights => bare(17),
+        }
     }
 }
 
-pub fn of_setup(answer: SetupAnswer) -> ReplyWords
-    ensures { result ≡ reply_words (setup_reply answer) }
-{
-    match answer {
-        SetupAnswer::Bank(why) => of_bank(why),
-        SetupAnswer::OverBudget { needed, cap } => pair(7, needed, cap),
-        SetupAnswer::Limiter(own) => of_prepare(own),
+impl From<SetupRefusal> for ReplyWords {
+    ghost from_gives = { λ why t. t ≡ reply_words (setup_refused_by why) };
+
+    fn from(why: SetupRefusal) -> ReplyWords {
+        match why {
+            SetupRefusal::Bank(own) => own.into(),
+            SetupRefusal::OverBudget(over) => pair(7, over.needed, over.cap),
+            SetupRefusal::Limiter(own) => own.into(),
+        }
     }
 }
 
 // 21 with the event's index.
-fn of_refusal(why: Refusal) -> ReplyWords
-    ensures { result ≡ reply_words (refused_by why) }
-{
-    match why {
-        Refusal::NotSetUp => bare(18),
-        Refusal::StoreLength => bare(16),
-        Refusal::OutOfOrder => bare(19),
-        Refusal::Geometry => bare(20),
-        Refusal::Event { index } => pair(21, index as u64, 0),
-        Refusal::TooFar => bare(22),
+impl From<Refusal> for ReplyWords {
+    ghost from_gives = { λ why t. t ≡ reply_words (refused_by why) };
+
+    fn from(why: Refusal) -> ReplyWords {
+        match why {
+            Refusal::NotSetUp => bare(18),
+            Refusal::StoreLength => bare(16),
+            Refusal::OutOfOrder => bare(19),
+            Refusal::Geometry => bare(20),
+            Refusal::Event { index } => pair(21, index as u64, 0),
+            Refusal::TooFar => bare(22),
+        }
     }
 }
 
-pub fn of_answer(answer: Answer) -> ReplyWords
-    ensures { result ≡ reply_words (answer_reply answer) }
-{
-    match answer {
-        Answer::Finished => bare(0),
-        Answer::Refused(why) => of_refusal(why),
-    }
-}
+// Finished work that hands nothing back.
+impl From<()> for ReplyWords {
+    ghost from_gives = { λ _ t. t ≡ reply_words (finished []) };
 
-// Where a block's highest linked peak sat: 1 on a sample, 2 between two of them; the frame, the channel, the phase.
-pub fn of_place(frame: usize, seat: Seat) -> ReplyWords
-    ensures { result ≡ reply_words (placed frame seat) }
-{
-    match seat {
-        Seat::Nowhere => bare(0),
-        Seat::OnSample(channel) => four(1, frame as u64, channel as u64, 0),
-        Seat::Between { channel, phase } => { four(2, frame as u64, channel as u64, phase as u64) }
+    fn from(_told: ()) -> ReplyWords {
+        bare(0)
     }
 }
 
 // The frames written, and 1 where the tail is done.
-pub fn of_flush(answer: FlushAnswer) -> ReplyWords
-    ensures { result ≡ reply_words (flush_reply answer) }
-{
-    match answer {
-        FlushAnswer::Finished { written, done } => pair(0, written as u64, flag(done)),
-        FlushAnswer::Refused(why) => of_refusal(why),
+impl From<Flushed> for ReplyWords {
+    ghost from_gives = { λ told t. t ≡ reply_words (flushed_reply told) };
+
+    fn from(told: Flushed) -> ReplyWords {
+        pair(0, told.written as u64, u64::from(told.done))
     }
 }
 
-pub fn of_param(answer: ParamSet) -> ReplyWords
-    ensures { result ≡ reply_words (param_set_reply answer) }
-{
-    match answer {
-        ParamSet::Finished => bare(0),
-        ParamSet::NotSetUp => bare(18),
-        ParamSet::NonFiniteValue { param, value } => pair(23, param as u64, to_bits(value)),
-        ParamSet::UnknownParam => bare(24),
-    }
-}
+impl From<GainStepped> for ReplyWords {
+    ghost from_gives = { λ told t. t ≡ reply_words (stepped_reply told) };
 
-pub fn of_value(answer: BankValue) -> ReplyWords
-    ensures { result ≡ reply_words (bank_value_reply answer) }
-{
-    match answer {
-        BankValue::Value(x) => pair(0, to_bits(x), 0),
-        BankValue::NotSetUp => bare(18),
-        BankValue::UnknownParam => bare(24),
-    }
-}
-
-pub fn of_gain(answer: GainAnswer) -> ReplyWords
-    ensures { result ≡ reply_words (gain_reply_of answer) }
-{
-    match answer {
-        GainAnswer::Finished {
-            floor,
-            dropped,
-            kept,
-            tally,
-            mean,
-            gain,
-        } => ReplyWords {
+    fn from(told: GainStepped) -> ReplyWords {
+        ReplyWords {
             number: 0,
-            w0: to_bits(floor),
-            w1: dropped as u64,
-            w2: kept as u64,
-            w3: tally as u64,
-            w4: to_bits(mean),
-            w5: to_bits(gain),
-        },
-        GainAnswer::Refused(why) => of_refusal(why),
-    }
-}
-
-// Words in order, as many as fit.
-fn store(buffer: &mut [u64], words: &[u64])
-    ensures { buffer.new ≡ answered buffer.old words.now }
-{
-    let n = words.len();
-    for i in 0..n {
-        if i >= buffer.len() {
-            return;
+            words: [
+                to_bits(told.floor),
+                told.dropped as u64,
+                told.kept as u64,
+                told.tally as u64,
+                to_bits(told.mean),
+                to_bits(told.gain),
+                0,
+                0,
+            ],
         }
-        buffer[i] = words[i];
     }
 }
 
-// A reply's eight words into the buffer, as many as fit.
+// What a call returns: what it tells, or why it is refused.
+impl<T: Into<ReplyWords>, E: Into<ReplyWords>> From<Result<T, E>> for ReplyWords {
+    ghost from_gives = { λ r t. MatchResult r (λ told. T.converts told t) (λ why. E.converts why t) };
+
+    fn from(r: Result<T, E>) -> ReplyWords {
+        match r {
+            Ok(told) => told.into(),
+            Err(why) => why.into(),
+        }
+    }
+}
+
+// Where a block's highest linked peak sat: 1 on a sample, 2 between two of them; the frame, the channel, the phase.
+pub fn of_place(frame: usize, seat: Option<Seat>) -> ReplyWords
+    ensures { result ≡ reply_words (placed frame seat) }
+{
+    match seat {
+        None => bare(0),
+        Some(Seat::OnSample(channel)) => four(1, frame as u64, channel as u64, 0),
+        Some(Seat::Between { channel, phase }) => {
+            four(2, frame as u64, channel as u64, phase as u64)
+        }
+    }
+}
+
+impl From<ParamRefusal> for ReplyWords {
+    ghost from_gives = { λ why t. t ≡ reply_words (param_refusal_reply why) };
+
+    fn from(why: ParamRefusal) -> ReplyWords {
+        match why {
+            ParamRefusal::NotSetUp => bare(18),
+            ParamRefusal::NonFiniteValue { param, value } => pair(23, param as u64, to_bits(value)),
+            ParamRefusal::UnknownParam => bare(24),
+        }
+    }
+}
+
+// A parameter's value.
+impl From<f64> for ReplyWords {
+    ghost from_gives = { λ value t. t ≡ reply_words (finished (float value ∷ [])) };
+
+    fn from(value: f64) -> ReplyWords {
+        pair(0, to_bits(value), 0)
+    }
+}
+
+// A reply's words into the buffer, as many as fit.
 pub fn write_answer(buffer: &mut [u64], t: ReplyWords)
     ensures { buffer.new ≡ answered buffer.old (words_of t) }
 {
-    store(buffer, &[t.w0, t.w1, t.w2, t.w3, t.w4, t.w5, 0, 0]);
+    let n = buffer.len().min(8);
+    buffer[..n].copy_from_slice(&t.words[..n]);
 }

@@ -5,30 +5,30 @@ ghost use Rattle.arithmetic.specs.Reply.{refused, count};
 ghost use Rattle.settings.specs.Settings.{settings_of, process_spec};
 ghost use Rattle.settings.specs.Derived.{look_of};
 ghost use Rattle.settings.specs.House.{house_fits};
-ghost use Rattle.limiter.specs.Stores.{Stores, stores_at};
+ghost use Rattle.frame.specs.Lent.{Stays};
+ghost use Rattle.limiter.specs.Stores.{Stores, stores_at, stores_in};
 ghost use Rattle.turns.specs.Machine.{Machine};
 ghost use Rattle.turns.specs.Block.{placed};
 ghost use Rattle.bank.specs.declared.smoother_bank.SmootherBank.{SmootherBank};
-ghost use Rattle.driver.specs.Answers.{answer_reply};
+ghost use Rattle.bank.specs.Answers.{param_set_reply};
+ghost use Rattle.driver.specs.Answers.{setup_reply, refused_by};
 ghost use Rattle.driver.specs.Parts.{shown_of};
 ghost use Rattle.driver.specs.Calls.{reset_of, gain_step};
 ghost use Rattle.state_bytes.specs.State.{state_bytes, state_out};
 ghost use Rattle.host.specs.Answer.{reply_words, words_of, answered, answered_by};
-ghost use Rattle.host.specs.Host.{returned_at, called_by, returned_with, process_by, flush_by, parameter_by, read_at, value_by, cap_of, asked_of, setup_by, whole_needed};
+ghost use Rattle.host.specs.Host.{returned_at, called_by, returned_with, process_by, flush_by, given_back, parameter_by, read_at, value_by, cap_of, asked_of, setup_by, whole_needed};
 
-use crate::answer::{
-    ReplyWords, of_answer, of_flush, of_gain, of_param, of_place, of_setup, of_value, pair,
-    write_answer,
-};
+use crate::answer::{ReplyWords, of_place, pair, write_answer};
 use arithmetic::pattern::from_bits;
 use audio::format::{Format, size_of};
-use driver::answers::{Answer, Refusal};
-use driver::process::judge_block;
+use bank::smoother_bank::ParamRefusal;
+use driver::answers::{Refusal, SetupRefusal};
+use driver::process::judge_lent;
 use driver::state::KernelProcessor;
-use settings::memory::Cap;
+use frame::stores::Lent;
 use settings::{LimiterSettings, ProcessSpec};
 use state_bytes::block::{RenderedBlock, render_block};
-use state_bytes::read::{is_state, limiter_in, read_state, threshold_in};
+use state_bytes::read::{State, read_state};
 use state_bytes::write::{write_parts, write_state};
 
 // The look of a lookahead, in bits, at a rate.
@@ -38,7 +38,7 @@ pub fn daggeryuzu_look(lookahead_ms: u64, rate: u32) -> u64
     settings::derived::look(from_bits(lookahead_ms), rate)
 }
 
-// The bytes that a cap is held against: the limiter's stores and the bank.
+// The bytes that a cap is held against: the limiter's stores and the bank. C takes a number, the largest where none is counted.
 pub fn daggeryuzu_bytes_needed(channels: usize, look: usize) -> u64
     ensures { result ≡ whole_needed channels look }
 {
@@ -61,7 +61,7 @@ pub fn daggeryuzu_has_house_weights(rate: u32, look: usize) -> u32
     }
 }
 
-// A call's words, and the state where the work is finished.
+// A call's words, and the state where the work is finished. It goes by the number: 23 has had its own word put back by then.
 fn leave(state: &mut [u8], buffer: &mut [u64], t: ReplyWords, p: KernelProcessor) -> u32
     requires { t.number ≡ 0 → length state.old ≡ state_bytes }
     ensures value { result ≡ t.number }
@@ -77,11 +77,11 @@ fn leave(state: &mut [u8], buffer: &mut [u64], t: ReplyWords, p: KernelProcessor
 }
 
 // A refused call's words; nothing else is written.
-fn refuse(buffer: &mut [u64], told: Answer) -> u32
-    ensures value { result ≡ (answer_reply told).number }
-    ensures buffer_after { buffer.new ≡ answered_by buffer.old (answer_reply told) }
+fn refuse(buffer: &mut [u64], why: Refusal) -> u32
+    ensures value { result ≡ (refused_by why).number }
+    ensures buffer_after { buffer.new ≡ answered_by buffer.old (refused_by why) }
 {
-    let t = of_answer(told);
+    let t = ReplyWords::from(why);
     write_answer(buffer, t);
     t.number
 }
@@ -101,14 +101,15 @@ fn finish(state: &mut [u8], buffer: &mut [u64], done: RenderedBlock) -> u32
     0
 }
 
-// 23 gives back the value's own bits.
-fn with_word(t: ReplyWords, id: u32, word: u64) -> ReplyWords
-    ensures { result ≡ cond (eqb t.number 23) (reply_words (refused 23 (count id ∷ count word ∷ []))) t }
+// A parameter call's words: 23 gives back the value's own bits.
+fn with_word(told: Result<(), ParamRefusal>, id: u32, word: u64) -> ReplyWords
+    ensures { result ≡ reply_words (given_back id word (param_set_reply told)) }
 {
-    if t.number == 23 {
-        return pair(23, id as u64, word);
+    match told {
+        Ok(()) => ReplyWords::from(()),
+        Err(ParamRefusal::NonFiniteValue { .. }) => pair(23, id as u64, word),
+        Err(why) => why.into(),
     }
-    t
 }
 
 // Sets a parameter's value and target at once: the value as its bits.
@@ -116,12 +117,9 @@ pub fn daggeryuzu_set_parameter(state: &mut [u8], answer: &mut [u64], id: u32, v
     ensures { (stores : Stores) → returned_at result answer.new state.new stores
         ≡ called_by (parameter_by id value) answer.old state.old stores }
 {
-    let p = read_state(state);
-    let done = p.set_parameter_immediate(id, from_bits(value));
-    let told = done.answer;
-    let next = done.processor;
-    let t = with_word(of_param(told), id, value);
-    leave(state, answer, t, next)
+    let mut p = read_state(state);
+    let told = p.set_parameter_immediate(id, from_bits(value));
+    leave(state, answer, with_word(told, id, value), p)
 }
 
 // The present value of a parameter, as its bits.
@@ -129,7 +127,7 @@ pub fn daggeryuzu_parameter(state: &[u8], answer: &mut [u64], id: u32) -> u32
     ensures { read_at result answer.new ≡ value_by id answer.old state.now }
 {
     let p = read_state(state);
-    let t = of_value(p.value(id));
+    let t = ReplyWords::from(p.value(id));
     write_answer(answer, t);
     t.number
 }
@@ -148,11 +146,9 @@ pub fn daggeryuzu_reset(
     ensures { returned_at result answer.new state.new (stores_at delay.new marks.now minima.now weights.now row.new detector.new)
         ≡ called_by reset_of answer.old state.old (stores_at delay.old marks.now minima.now weights.now row.old detector.old) }
 {
-    let p = read_state(state);
-    let done = p.reset(delay, marks, minima, weights, row, detector);
-    let told = done.answer;
-    let next = done.processor;
-    leave(state, answer, of_answer(told), next)
+    let mut p = read_state(state);
+    let told = p.reset(delay, marks, minima, weights, row, detector);
+    leave(state, answer, told.into(), p)
 }
 
 // One gain step, of a required gain as its bits: floor, entries dropped and kept, tally, mean and gain.
@@ -170,15 +166,13 @@ pub fn daggeryuzu_gain_step(
         ≡ called_by (λ (m : Machine). gain_step m (bits gain)) answer.old state.old
         (stores_at delay marks.old minima.old weights.now row.old detector) }
 {
-    let p = read_state(state);
-    let done = p.step_env(from_bits(gain), marks, minima, weights, row);
-    let told = done.answer;
-    let next = done.processor;
-    leave(state, answer, of_gain(told), next)
+    let mut p = read_state(state);
+    let told = p.step_env(from_bits(gain), marks, minima, weights, row);
+    leave(state, answer, told.into(), p)
 }
 
 // A block of so many frames a channel, planar, that starts at an absolute position: three words an
-// event.
+// event. The C interface has a function of its own for each sample type; both come here.
 fn process_as(
     format: Format,
     state: &mut [u8],
@@ -187,44 +181,24 @@ fn process_as(
     frames: usize,
     events: &[u64],
     audio: &mut [u8],
-    delay: &mut [f64],
-    marks: &mut [u64],
-    minima: &mut [f64],
-    weights: &[f64],
-    row: &mut [f64],
-    detector: &mut [f64],
+    lent: &mut Lent,
 ) -> u32
-    ensures { returned_with (returned_at result answer.new state.new (stores_at delay.new marks.new minima.new weights.now row.new detector.new)) audio.new
-        ≡ process_by format position frames events.now answer.old state.old (stores_at delay.old marks.old minima.old weights.now row.old detector.old) audio.old }
+    ensures stays { Stays lent.old lent.new }
+    ensures left { returned_with (returned_at result answer.new state.new (stores_in lent.new)) audio.new
+        ≡ process_by format position frames events.now answer.old state.old (stores_in lent.old) audio.old }
 {
-    if !is_state(state) {
-        return refuse(answer, Answer::Refused(Refusal::NotSetUp));
-    }
-    let l = limiter_in(state);
-    let t = threshold_in(state);
-    let told = judge_block(
-        l,
-        t,
-        position,
-        frames,
-        events,
-        size_of(format, audio),
-        delay,
-        marks,
-        minima,
-        weights,
-        row,
-        detector,
-    );
-    if !told.is_finished() {
-        return refuse(answer, told);
+    let Some(held) = State::of(state) else {
+        return refuse(answer, Refusal::NotSetUp);
+    };
+    let l = held.limiter();
+    let t = held.threshold();
+    let size = size_of(format, audio);
+    if let Err(why) = judge_lent(l, t, position, frames, events, size, lent) {
+        return refuse(answer, why);
     }
     // who lends no word is not told the place: no sum is then computed for its sake
     let asked = answer.len() != 0;
-    let done = render_block(
-        l, t, format, position, frames, events, audio, delay, marks, minima, weights, row,
-        detector, asked,
-    );
+    let done = render_block(l, t, format, position, frames, events, audio, lent, asked);
     finish(state, answer, done)
 }
 
@@ -246,6 +220,14 @@ pub fn daggeryuzu_process(
     ensures { returned_with (returned_at result answer.new state.new (stores_at delay.new marks.new minima.new weights.now row.new detector.new)) audio.new
         ≡ process_by Format.F64 position frames events.now answer.old state.old (stores_at delay.old marks.old minima.old weights.now row.old detector.old) audio.old }
 {
+    let mut lent = Lent {
+        delay,
+        marks,
+        minima,
+        weights,
+        row,
+        detector,
+    };
     process_as(
         Format::F64,
         state,
@@ -254,12 +236,7 @@ pub fn daggeryuzu_process(
         frames,
         events,
         audio,
-        delay,
-        marks,
-        minima,
-        weights,
-        row,
-        detector,
+        &mut lent,
     )
 }
 
@@ -281,6 +258,14 @@ pub fn daggeryuzu_process_float(
     ensures { returned_with (returned_at result answer.new state.new (stores_at delay.new marks.new minima.new weights.now row.new detector.new)) audio.new
         ≡ process_by Format.F32 position frames events.now answer.old state.old (stores_at delay.old marks.old minima.old weights.now row.old detector.old) audio.old }
 {
+    let mut lent = Lent {
+        delay,
+        marks,
+        minima,
+        weights,
+        row,
+        detector,
+    };
     process_as(
         Format::F32,
         state,
@@ -289,39 +274,27 @@ pub fn daggeryuzu_process_float(
         frames,
         events,
         audio,
-        delay,
-        marks,
-        minima,
-        weights,
-        row,
-        detector,
+        &mut lent,
     )
 }
 
-// A drain of so many frames a channel, planar: how many it wrote, and whether the tail is done.
+// A drain of so many frames a channel, planar: how many it wrote, and whether the tail is done. The C interface has
+// a function of its own for each sample type; both come here.
 fn flush_as(
     format: Format,
     state: &mut [u8],
     answer: &mut [u64],
     frames: usize,
     audio: &mut [u8],
-    delay: &mut [f64],
-    marks: &mut [u64],
-    minima: &mut [f64],
-    weights: &[f64],
-    row: &mut [f64],
-    detector: &mut [f64],
+    lent: &mut Lent,
 ) -> u32
-    ensures { returned_with (returned_at result answer.new state.new (stores_at delay.new marks.new minima.new weights.now row.new detector.new)) audio.new
-        ≡ flush_by format frames answer.old state.old (stores_at delay.old marks.old minima.old weights.now row.old detector.old) audio.old }
+    ensures stays { Stays lent.old lent.new }
+    ensures left { returned_with (returned_at result answer.new state.new (stores_in lent.new)) audio.new
+        ≡ flush_by format frames answer.old state.old (stores_in lent.old) audio.old }
 {
-    let p = read_state(state);
-    let done = p.flush(
-        format, frames, audio, delay, marks, minima, weights, row, detector,
-    );
-    let told = done.answer;
-    let next = done.processor;
-    leave(state, answer, of_flush(told), next)
+    let mut p = read_state(state);
+    let told = p.flush(format, frames, audio, lent);
+    leave(state, answer, told.into(), p)
 }
 
 // A drain into f64 samples.
@@ -340,19 +313,15 @@ pub fn daggeryuzu_flush(
     ensures { returned_with (returned_at result answer.new state.new (stores_at delay.new marks.new minima.new weights.now row.new detector.new)) audio.new
         ≡ flush_by Format.F64 frames answer.old state.old (stores_at delay.old marks.old minima.old weights.now row.old detector.old) audio.old }
 {
-    flush_as(
-        Format::F64,
-        state,
-        answer,
-        frames,
-        audio,
+    let mut lent = Lent {
         delay,
         marks,
         minima,
         weights,
         row,
         detector,
-    )
+    };
+    flush_as(Format::F64, state, answer, frames, audio, &mut lent)
 }
 
 // A drain into f32 samples.
@@ -371,28 +340,22 @@ pub fn daggeryuzu_flush_float(
     ensures { returned_with (returned_at result answer.new state.new (stores_at delay.new marks.new minima.new weights.now row.new detector.new)) audio.new
         ≡ flush_by Format.F32 frames answer.old state.old (stores_at delay.old marks.old minima.old weights.now row.old detector.old) audio.old }
 {
-    flush_as(
-        Format::F32,
-        state,
-        answer,
-        frames,
-        audio,
+    let mut lent = Lent {
         delay,
         marks,
         minima,
         weights,
         row,
         detector,
-    )
+    };
+    flush_as(Format::F32, state, answer, frames, audio, &mut lent)
 }
 
-fn cap_of(capped: u32, cap: u64) -> Cap
+// The C interface has a flag with the cap beside it.
+fn cap_of(capped: u32, cap: u64) -> Option<u64>
     ensures { result ≡ cap_of capped cap }
 {
-    if capped == 0 {
-        return Cap::Unlimited;
-    }
-    Cap::Bytes(cap)
+    (capped != 0).then_some(cap)
 }
 
 // How many weights setup is to see: none where the state does not fit its buffer.
@@ -400,6 +363,15 @@ fn lent(fits: bool, weights: usize) -> usize
     ensures { result ≡ cond fits weights 0 }
 {
     if fits { weights } else { 0 }
+}
+
+fn of_setup(told: Result<KernelProcessor, SetupRefusal>) -> ReplyWords
+    ensures { result ≡ reply_words (setup_reply told) }
+{
+    match told {
+        Ok(_) => ReplyWords::from(()),
+        Err(why) => why.into(),
+    }
 }
 
 // The state into its buffer, where it fits.
@@ -446,29 +418,26 @@ pub fn daggeryuzu_setup(
         release_ms: from_bits(release_ms),
         left_out: (left_out % 256) as u8,
     };
-    let most = cap_of(capped, cap);
     let spec = ProcessSpec {
         rate,
         channels,
         max_block,
-        cap: most,
+        cap: cap_of(capped, cap),
         house: house != 0,
     };
     let n = lent(state.len() == 512, weights.len());
-    let done = KernelProcessor::prepare(
+    let told = KernelProcessor::prepare(
         s,
         spec,
         delay,
         marks,
         minima,
-        &mut weights[0..n],
+        &mut weights[..n],
         row,
         detector,
     );
-    let told = done.answer;
-    let next = done.processor;
     let t = of_setup(told);
     write_answer(answer, t);
-    keep(state, next);
+    keep(state, told.unwrap_or(KernelProcessor::not_set_up()));
     t.number
 }

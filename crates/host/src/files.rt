@@ -5,13 +5,16 @@ ghost use Rattle.interleaving.specs.Calls.{rearrange_of, deinterleave_of, interl
 ghost use Rattle.host.specs.Files.{rearranged_at};
 
 use audio::format::Format;
-use interleaving::calls::{Direction, number, rearrange};
+use interleaving::calls::{Direction, rearrange};
 
 // In either direction, of a sample type.
 fn rearrange_as(direction: Direction, format: Format, channels: usize, audio: &mut [u8]) -> u32
     ensures { rearranged_at result audio.new ≡ rearrange_of direction format channels audio.old }
 {
-    number(rearrange(direction, format, channels, audio))
+    match rearrange(direction, format, channels, audio) {
+        Ok(()) => 0,
+        Err(refusal) => refusal.into(),
+    }
 }
 
 // Frame after frame, within the slice: channel after channel, as a block takes it.

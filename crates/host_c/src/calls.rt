@@ -94,7 +94,7 @@ pub extern "C" fn daggeryuzu_gain_step(
     host::calls::daggeryuzu_gain_step(state, answer, gain, marks, minima, weights, row)
 }
 
-// A block of f64 samples, eight bytes each.
+// A block of f64 samples, eight bytes each. The C interface names each sample type's function, and lists its parameters.
 #[unsafe(no_mangle)]
 pub extern "C" fn daggeryuzu_process(
     state: &mut [u8],

@@ -6,6 +6,7 @@ use Prim.Native.Nat.{ℕ}
 use lib.ListN.{get_or, replicate}
 use lib.Ieee.{Float, nan, lt, le, of_bits, to_bits}
 use borrow.Author.Tests.{eqb-false}
+use Rattle.std.proofs.Common.{Some, None}
 use Rattle.arithmetic.specs.Number
 use Rattle.arithmetic.specs.Reply.{Reply}
 use Rattle.audio.specs.Bytes.{bytes_of, joined}
@@ -13,7 +14,6 @@ use Rattle.audio.specs.declared.format.Format.TheVariants.{F64}
 use Rattle.settings.specs.Settings.{settings_of, all_count, process_spec, defaults}
 use Rattle.settings.specs.declared.LimiterSettings.{LimiterSettings}
 use Rattle.settings.specs.declared.ProcessSpec.{ProcessSpec}
-use Rattle.settings.specs.declared.memory.Cap.{Cap}
 use Rattle.limiter.specs.Stores.{Stores, stores_at}
 use Rattle.limiter.specs.Order
 use Rattle.bank.specs.Param.{fault_of}
@@ -35,7 +35,7 @@ abbrev settings : LimiterSettings
 settings = settings_of nan Number.zero Number.zero Number.zero all_count
 
 abbrev spec : ProcessSpec
-spec = process_spec 48000 1 64 Cap.Unlimited false
+spec = process_spec 48000 1 64 None false
 
 abbrev stores : Stores
 stores = stores_at [] [] [] [] [] []
@@ -61,6 +61,6 @@ unfolding processor_in is_state gain_step gain_reply prepared Order.prepared
 no_gain_untold claim = eqb-false 77 18 refl (claim.gain 0 [] [] stores).number
 
 -- ---- and one that finishes: the starred row of cap 4,336, through bytes
-pub host_starts : (x : Float) (mark : ℕ) → (hosting.setups defaults (stereo (Cap.Bytes 4336)) [] (replicate 512 0) (lent72 x mark)).number ≡ 0
+pub host_starts : (x : Float) (mark : ℕ) → (hosting.setups defaults (stereo (Some 4336)) [] (replicate 512 0) (lent72 x mark)).number ≡ 0
 unfolding setup_by
 host_starts x mark = ap (λ (r : Reply). r.number) (starred.cap_passes x mark)

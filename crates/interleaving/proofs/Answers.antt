@@ -1,42 +1,60 @@
--- What a call answers where nothing moves, and what it may take for granted where something does.
-use mathlib.Core.Path.{◌≡◌, refl, sym, ap, subst, ◌∙◌}
-use mathlib.Core.Logic.{⊎_elim}
-use mathlib.Core.Bool.{Bool, true, false, not, ◌||◌}
+-- What a call answers that is refused or has one channel, and what the others rearrange.
+use mathlib.Core.Path.{◌≡◌, sym, ap, subst, ◌∙◌}
 use mathlib.Core.List.{List}
-use Prim.Native.Nat.{ℕ}
-use lib.Dec.{eqb}
-use borrow.Author.Tests.{not-true, eqb-true, eqb-false}
+use Prim.Native.Nat.{ℕ, ◌*◌, ◌/◌, ◌<◌}
+use native.Mathlib.Nat.{mul-div_cancel_left}
+use native.Mathlib.Omega.{arith}
+use lib.ListN.{length}
+use Rattle.std.specs.Prelude.{Ok, Err}
 use Rattle.arithmetic.specs.Reply.{Reply, numbered}
-use Rattle.arithmetic.proofs.Order.{or-true, clash}
+use Rattle.audio.specs.Format.{sample_bytes, size_of}
 use Rattle.audio.specs.declared.format.Format.{Format}
-use Rattle.interleaving.specs.Calls.{rearranged_reply, refusal, outcome, rearrange_of}
-use Rattle.interleaving.specs.declared.calls.Rearranged.{Rearranged}
+use Rattle.audio.proofs.Places.{bytes_count}
+use Rattle.interleaving.specs.Calls.{refused_by, refusal, frames_in, outcome, rearrange_of}
+use Rattle.interleaving.specs.Inner.{Transposed, rows_in, columns_in, frames_of, Fills, Shaped}
+use Rattle.interleaving.specs.declared.shape.Shape.{Shape}
 use Rattle.interleaving.specs.declared.calls.Direction.{Direction}
-use Rattle.interleaving.proofs.Facts.{refused_same, one_channel}
+use Rattle.interleaving.specs.declared.calls.RearrangeRefusal.{RearrangeRefusal}
+use Rattle.interleaving.specs.declared.calls.RearrangeRefusal.TheVariants.{Channels, Length}
+use Rattle.interleaving.proofs.Facts.{refused_same, one_channel, call_transposed}
 
--- a test that was not passed
-zero_of : (a b : Bool) → not a || b ≡ false → a ≡ true
-zero_of true b h = refl
-zero_of false b h = clash true refl h
+-- a refusal's number is none of finished work
+refused_some : (why : RearrangeRefusal) → refused_by why ≡ 0 → ⊥
+refused_some Channels e = omega (arith, e)
+refused_some Length e = omega (arith, e)
 
--- the answer of `judge`, and its number
-module _ (format : Format) (channels : ℕ) (bytes : List ℕ) (answer : Rearranged) (said : rearranged_reply answer ≡ numbered (refusal format channels bytes)) (n : ℕ) (e : n ≡ (rearranged_reply answer).number) where
-  -- it is the refusal's
-  number_is : n ≡ refusal format channels bytes
-  number_is = e ∙ ap (λ (r : Reply). r.number) said
-
-  -- a refusal, or one channel
-  still : (P : ℕ → Type 0) → ((refusal format channels bytes ≡ 0 → ⊥) → P channels) → P 1 → not (eqb n 0) || eqb channels 1 ≡ true → P channels
-  still P refused one test =
-      ⊎_elim (λ t. refused (λ z. eqb-false n 0 (not-true (eqb n 0) t) (number_is ∙ z))) (λ t. subst P (sym (eqb-true channels 1 t)) one) (or-true (not (eqb n 0)) (eqb channels 1) test)
-
-  -- neither: the call is taken
-  pub moving : not (eqb n 0) || eqb channels 1 ≡ false → refusal format channels bytes ≡ 0
-  moving test = sym number_is ∙ eqb-true n 0 (zero_of (eqb n 0) (eqb channels 1) test)
-
-  -- where nothing moves, the answer and the bytes as they were are the call's
-  pub unmoved : (direction : Direction) → not (eqb n 0) || eqb channels 1 ≡ true → outcome answer bytes ≡ rearrange_of direction format channels bytes
+module _ (direction : Direction) (format : Format) (channels : ℕ) (bytes : List ℕ) where
+  -- refused
+  pub answer_refused : (why : RearrangeRefusal) → numbered (refused_by why) ≡ numbered (refusal format channels bytes) → outcome (Err why) bytes ≡ rearrange_of direction format channels bytes
   unfolding rearrange_of
-  unmoved direction test =
-      let same = still (λ (m : ℕ). (rearrange_of direction format m bytes).bytes ≡ bytes) (refused_same direction format channels bytes) (one_channel direction format bytes) test in
+  answer_refused why said =
+      let e : refused_by why ≡ refusal format channels bytes = ap (λ (r : Reply). r.number) said in
+      let same = refused_same direction format channels bytes (λ z. refused_some why (e ∙ z)) in
       λ i. record { reply = said i; bytes = sym same i }
+
+  -- not refused
+  module _ (said : numbered 0 ≡ numbered (refusal format channels bytes)) where
+    ok : refusal format channels bytes ≡ 0
+    ok = sym (ap (λ (r : Reply). r.number) said)
+
+    pub answer_single : channels ≡ 1 → outcome (Ok tt) bytes ≡ rearrange_of direction format channels bytes
+    unfolding rearrange_of
+    answer_single e =
+        let same : (rearrange_of direction format channels bytes).bytes ≡ bytes = subst (λ (n : ℕ). (rearrange_of direction format n bytes).bytes ≡ bytes) (sym e) (one_channel direction format bytes) in
+        λ i. record { reply = said i; bytes = sym same i }
+
+    module _ (shape : Shape) (is : Shaped format channels (size_of format bytes) shape) where
+      -- the shape's bytes are the call's
+      pub answer_fills : Fills shape bytes
+      answer_fills = rw is.format_same (bytes_count format bytes (shape.channels * frames_of shape) (sym is.whole) (omega (arith, shape.bounded)))
+
+      -- its frames too
+      frames_are : frames_of shape ≡ frames_in format channels bytes
+      frames_are =
+          let some : 0 < shape.channels = omega (arith, shape.some) in
+          sym (ap (λ (n : ℕ). n / channels) (sym is.whole) ∙ ap (λ (n : ℕ). shape.channels * frames_of shape / n) (sym is.channels_same) ∙ mul-div_cancel_left (frames_of shape) some)
+
+      pub answer_moved : (after : List ℕ) → length after ≡ length bytes
+          → Transposed (sample_bytes shape.format) (rows_in direction shape.channels (frames_of shape)) (columns_in direction shape.channels (frames_of shape)) bytes after
+          → outcome (Ok tt) after ≡ rearrange_of direction format channels bytes
+      answer_moved after same moved = call_transposed direction format channels bytes ok after same (rw (← frames_are, ← is.format_same, ← is.channels_same) moved)

@@ -6,7 +6,6 @@ use mathlib.Core.Logic.{◌⊎◌, inl, inr, ⊎_elim}
 use Prim.Native.Nat.{ℕ, zero, suc, ◌+◌, ◌*◌, ◌/◌, ◌%◌, ◌≤◌, ◌<◌}
 use native.Mathlib.Nat.{add-zero, mul-zero, zero-mul, mul_comm, mul-add-div_right, mul-add-mod_self_right, div-eq_of_lt, mod-eq_of_lt, mod-lt, div-lt_iff_lt-mul, div-add-mod', le_trans, eq-or-lt_of_le, le_of_suc-le-suc}
 use native.Mathlib.Omega.{arith}
-use borrow.Author.Count.{below_none, below_more}
 use borrow.Author.Tests.{eqb-true, eqb-false, eq-eqb}
 use lib.Dec.{eqb}
 use lib.ListN.{length, take, drop}
@@ -45,10 +44,6 @@ module _ (rows columns k : ℕ) (h : k < rows * columns) where
   source_back : source_of columns rows (source_of rows columns k) ≡ k
   unfolding source_of
   source_back = rw (column_of (k % rows) (k / rows) columns column_below, row_of (k % rows) (k / rows) columns column_below) (div-add-mod' k rows)
-
--- either way round
-pub both_below : (rows columns k : ℕ) → k < rows * columns → (source_of rows columns k < rows * columns) × (source_of columns rows k < rows * columns)
-both_below rows columns k h = let e = mul_comm rows columns in (source_below rows columns k h, rw e (source_below columns rows k (rw e at h)))
 
 -- no row comes to two places
 one_place : (rows columns k m : ℕ) → k < rows * columns → m < rows * columns → source_of rows columns k ≡ source_of rows columns m → k ≡ m
@@ -154,25 +149,6 @@ module _ (size rows columns at : ℕ) (bytes new after : List ℕ) (h : at < row
       go k l e false f = let apart = eqb-false k at f in others k apart ∙ a.moved k l apart e
 
 -- ---- a walk's steps
--- at its start
-pub walk_starts : {size rows columns start from : ℕ} {bytes done' : List ℕ} (done : List ℕ) → size * (rows * columns) ≤ length bytes → start < rows * columns → Closed rows columns done
-    → bit_at done start ≡ false → ((k : ℕ) → bit_at done' k ≡ (eqb k start || bit_at done k)) → from ≡ source_of rows columns start → Walking size rows columns start start from bytes done' bytes done'
-walk_starts {rows = rows} {columns = columns} {start = start} {done' = done'} done wide h closed fresh m source =
-    let cases = marked_cases done done' start m in
-    let here = marked_here done done' start m in
-    record {
-      wide = wide;
-      as_long = refl;
-      source = source;
-      inside = h;
-      here = here;
-      next = λ e. ⊎_elim (λ s. s) (λ d. clash (bit_at done start) (closed start h (rw source at d)) fresh) (cases _ e);
-      behind = λ k l e. ⊎_elim (λ s. inr s) (λ d. inl (marked_more done done' start m k (closed k l d))) (cases (source_of rows columns k) e);
-      started = here;
-      grown = λ k e. e;
-      all_but = λ before a. a;
-    }
-
 module _ {size rows columns start at from : ℕ} {bytes done bytes' done' : List ℕ} (w : Walking size rows columns start at from bytes done bytes' done') where
   -- the next place is one of the table
   pub next_inside : from < rows * columns
@@ -238,10 +214,6 @@ module _ {size rows columns start at from : ℕ} {bytes done bytes' done' : List
             (w.all_but before (opened entry done start m size rows columns before bytes p));
       }
 
--- a place that is done needs no walk
-pub no_walk : {size rows columns start : ℕ} {bytes done : List ℕ} → Closed rows columns done → bit_at done start ≡ true → Walked size rows columns start bytes done bytes done
-no_walk closed e = record { started = e; grown = λ k d. d; closed = closed; partly = λ before p. p }
-
 -- ---- all walks
 -- the cycles of the first places are done
 pub record Turning (size rows columns passed : ℕ) (before bytes done : List ℕ) : Type 0 where
@@ -250,22 +222,6 @@ pub record Turning (size rows columns passed : ℕ) (before bytes done : List �
   pub partly : Partly size rows columns before bytes done
 
 module _ {size rows columns : ℕ} {before : List ℕ} where
-  -- before the first, and after one more
-  pub turning_none : {done : List ℕ} → ((k : ℕ) → bit_at done k ≡ false) → Turning size rows columns 0 before before done
-  turning_none {done} none = record {
-    all = below_none (λ (k : ℕ). bit_at done k ≡ true);
-    closed = λ k h e. clash (bit_at done (source_of rows columns k)) e (none (source_of rows columns k));
-    partly = record { moved = λ k h e. clash (bit_at done k) e (none k); still = λ k h e. refl; beyond = refl };
-  }
-
-  pub turning_more : {start : ℕ} {bytes done bytes' done' : List ℕ} → Turning size rows columns start before bytes done → Walked size rows columns start bytes done bytes' done'
-      → Turning size rows columns (start + 1) before bytes' done'
-  turning_more {start} {done' = done'} t w = record {
-    all = below_more (λ (k : ℕ). bit_at done' k ≡ true) start (λ k h. w.grown k (t.all k h)) w.started;
-    closed = w.closed;
-    partly = w.partly before t.partly;
-  }
-
   -- a table of which every place is done is transposed
   pub turning_done : {passed : ℕ} {bytes done : List ℕ} → rows * columns ≤ passed → Turning size rows columns passed before bytes done → TransposedFirst size rows columns before bytes
   unfolding source_of

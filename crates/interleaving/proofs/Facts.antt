@@ -8,6 +8,7 @@ use native.Mathlib.Omega.{arith}
 use lib.Dec.{eqb, leb}
 use lib.ListN.{length}
 use borrow.Author.Tests.{leb-true, eqb-true, ne_eqb}
+use Rattle.std.specs.Prelude.{Ok}
 use Rattle.arithmetic.specs.Reply.{numbered, unless}
 use Rattle.arithmetic.proofs.Order.{and-true}
 use Rattle.audio.specs.Bytes.{joined}
@@ -15,9 +16,8 @@ use Rattle.audio.specs.Format.{sample_bytes, size_of, places_of}
 use Rattle.audio.specs.declared.format.Format.{Format}
 use Rattle.audio.proofs.Places.{bytes_count, size_same}
 use Rattle.interleaving.specs.Interleaved.{transposed, rearranged, back}
-use Rattle.interleaving.specs.Inner.{Transposed, rows_in, columns_in, Taken}
+use Rattle.interleaving.specs.Inner.{Transposed, rows_in, columns_in}
 use Rattle.interleaving.specs.Calls.{refusal, frames_in, outcome, rearrange_of}
-use Rattle.interleaving.specs.declared.calls.Rearranged.TheVariants.{Finished}
 use Rattle.interleaving.specs.declared.calls.Direction.{Direction}
 use Rattle.interleaving.specs.declared.calls.Direction.TheVariants.{Deinterleave, Interleave}
 use Rattle.interleaving.proofs.Tables.{transposed_column, transposed_row}
@@ -56,10 +56,6 @@ module _ (format : Format) (channels : ℕ) (bytes : List ℕ) where
 
     planar_whole : length bytes ≡ sample_bytes format * (channels * (frames_in format channels bytes))
     planar_whole = bytes_count format bytes (channels * (frames_in format channels bytes)) frames_whole (omega (arith, tests.2, frames_whole))
-
-    -- what its steps ask for
-    pub taken : Taken format channels (frames_in format channels bytes) (length bytes)
-    taken = record { some = tests.0; few = tests.1; short = omega (arith, tests.2, frames_whole); long = planar_whole }
 
     -- they are the table that is transposed
     pub table_whole : (direction : Direction) → length bytes ≡ sample_bytes format * (rows_in direction channels (frames_in format channels bytes) * columns_in direction channels (frames_in format channels bytes))
@@ -101,7 +97,7 @@ module _ (direction : Direction) (format : Format) (channels : ℕ) where
       done = rw ok (ap joined (by_table [] direction channels (frames_in format channels bytes) (places_of format bytes)))
 
       -- bytes that hold the same samples, transposed, are those that the call leaves
-      pub call_transposed : (after : List ℕ) → length after ≡ length bytes → Transposed (sample_bytes format) rows columns bytes after → outcome Finished after ≡ rearrange_of direction format channels bytes
+      pub call_transposed : (after : List ℕ) → length after ≡ length bytes → Transposed (sample_bytes format) rows columns bytes after → outcome (Ok tt) after ≡ rearrange_of direction format channels bytes
       unfolding rearrange_of
       call_transposed after same moved =
           rw (ok, by_table [] direction channels (frames_in format channels bytes) (places_of format bytes), transposed_bytes format rows columns bytes after (table_whole format channels bytes ok direction) same moved) refl

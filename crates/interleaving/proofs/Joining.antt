@@ -83,13 +83,11 @@ module _ (size : ℕ) where
             subst (λ (k : ℕ). piece size (c * (64 * tiles + left) + k) after ≡ piece size (k * channels + c) before) q (spread.lefts c (i - 64 * tiles) g (omega (arith, h, k)) ∙ behind (i - 64 * tiles) c)
 
 -- ---- the calls
-module _ (size channels frames : ℕ) where
+module _ (size channels tiles left : ℕ) where
   -- tiles, rows, frames left
-  pub deinterleaved_pieces : (a b c d : List ℕ) → TransposedEach size 64 channels (frames / 64) a b → TransposedFirst (64 * size) (frames / 64) channels b c → Spread size channels (64 * (frames / 64)) (frames % 64) c d
-      → Transposed size frames channels a d
-  deinterleaved_pieces a b c d each first spread = subst (λ (n : ℕ). Transposed size n channels a d) (div-add-mod frames 64) (steps_joined size channels (frames / 64) (frames % 64) a b c d each first spread)
+  pub deinterleaved_pieces : (a b c d : List ℕ) → TransposedEach size 64 channels tiles a b → TransposedFirst (64 * size) tiles channels b c → Spread size channels (64 * tiles) left c d → Transposed size (64 * tiles + left) channels a d
+  deinterleaved_pieces = steps_joined size channels tiles left
 
   -- and the other way round
-  pub interleaved_pieces : (a b c d : List ℕ) → Spread size channels (64 * (frames / 64)) (frames % 64) b a → TransposedFirst (64 * size) channels (frames / 64) b c → TransposedEach size channels 64 (frames / 64) c d
-      → Transposed size channels frames a d
+  pub interleaved_pieces : (a b c d : List ℕ) → Spread size channels (64 * tiles) left b a → TransposedFirst (64 * size) channels tiles b c → TransposedEach size channels 64 tiles c d → Transposed size channels (64 * tiles + left) a d
   interleaved_pieces a b c d spread first each k i g h = sym (deinterleaved_pieces d c b a (back_each each) (back_first first) spread i k h g)

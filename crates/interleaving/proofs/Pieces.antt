@@ -2,13 +2,12 @@
 use mathlib.Core.Path.{◌≡◌, refl, sym, ap, ◌∙◌}
 use mathlib.Core.Logic.{◌≢◌}
 use mathlib.Core.Bool.{Bool, true, false}
-use mathlib.Core.List.{List, [], ◌∷◌, ◌++◌, append_assoc}
+use mathlib.Core.List.{List, [], ◌∷◌, ◌++◌}
 use Prim.Native.Nat.{ℕ, zero, suc, ◌+◌, ◌-◌, ◌*◌, ◌≤◌, ◌<◌}
-use native.Mathlib.Numerals.{add-one}
 use native.Mathlib.Nat.{add-mul, one-mul, mul-add, mul-suc, mul-le-mul_left}
 use native.Mathlib.Omega.{arith}
-use lib.ListN.{length, get_or, set, take, drop, length-drop, take-append-drop}
-use lib.Seq.{paste, paste-zero, paste-suc, get_or-drop, take-append-le, drop-append-le, drop-append-add, drop-drop, take_all, take-take, length-take-le}
+use lib.ListN.{length, take, drop, length-drop, take-append-drop}
+use lib.Seq.{take-append-le, drop-append-le, drop-append-add, drop-drop, take_all, take-take, length-take-le}
 use lib.Dec.{ltb}
 use borrow.Author.Tests.{ltb-true, ltb-false}
 use Rattle.audio.specs.Inner.{put}
@@ -23,20 +22,14 @@ part_length l p n h = length-take-le n (drop p l) (rw (length-drop p l) (omega (
 pub times_more : (i w : ℕ) → (i + 1) * w ≡ i * w + w
 times_more i w = add-mul i 1 w ∙ ap (λ (x : ℕ). i * w + x) (one-mul w)
 
--- ---- bytes put one after the other
--- as the kit has it
-put_paste : (l : List ℕ) (at : ℕ) (s : List ℕ) (n : ℕ) → n ≤ length s → put l at (take n s) ≡ paste l at s n
-put_paste l at s n h = ap (λ (m : ℕ). take at l ++ (take n s ++ drop (at + m) l)) (length-take-le n s h) ∙ sym (append_assoc (take at l) (take n s) (drop (at + n) l))
-
-pub put_none : (l : List ℕ) (at : ℕ) → l ≡ put l at []
-put_none l at = paste-zero l at [] ∙ append_assoc (take at l) [] (drop (at + 0) l)
-
-pub put_more : (l : List ℕ) (at : ℕ) (source : List ℕ) (from i : ℕ) → at + i < length l → from + i < length source
-    → set (put l at (take i (drop from source))) (at + i) (get_or source (from + i) 0) ≡ put l at (take (i + 1) (drop from source))
-put_more l at source from i a h =
-    let s = drop from source in
-    let room : i < length s = rw (length-drop from source) (omega (arith, h)) in
-    rw (put_paste l at s i (omega (arith, room)), ← get_or-drop from source i 0, paste-suc l at s i 0 a room, add-one i) (sym (put_paste l at s (suc i) room))
+-- what stands there, put there
+pub put_same : (l : List ℕ) (at n : ℕ) → at + n ≤ length l → l ≡ put l at (take n (drop at l))
+put_same l at n h =
+    let e : at + length (take n (drop at l)) ≡ at + n = ap (λ (k : ℕ). at + k) (part_length l at n h) in
+    sym (ap (λ (k : ℕ). take at l ++ (take n (drop at l) ++ drop k l)) e
+    ∙ ap (λ (rest : List ℕ). take at l ++ (take n (drop at l) ++ rest)) (sym (drop-drop n at l))
+    ∙ ap (λ (rest : List ℕ). take at l ++ rest) (take-append-drop n (drop at l))
+    ∙ take-append-drop at l)
 
 -- ---- any bytes
 -- past the first part of a list

@@ -18,9 +18,6 @@ pub no_further : (size : ℕ) → 1 ≤ size → (p : ℕ) → p ≤ size * p
 no_further size h p = let m = mul-le-mul_left {m = 1} {n = size} p h in let o = mul-one p in let c = mul_comm p size in omega (arith, m, o, c)
 
 module _ (size from step : ℕ) (source : List ℕ) (to : ℕ) (before : List ℕ) where
-  pub spaced_none : Spaced size 0 from step source to before before
-  spaced_none = record { there = λ k h. absurd (omega arith); elsewhere = λ p h. refl }
-
   pub spaced_more : (n : ℕ) (now : List ℕ) → size * (to + n) + size ≤ length now → size * (from + n * step) + size ≤ length source → Spaced size n from step source to before now
       → Spaced size (n + 1) from step source to before (put now (size * (to + n)) (piece size (from + n * step) source))
   spaced_more n now room s k = new (piece size (from + n * step) source) refl

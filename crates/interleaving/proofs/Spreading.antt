@@ -3,7 +3,7 @@ use mathlib.Core.Path.{◌≡◌, refl, sym, ap, subst, ◌∙◌}
 use mathlib.Core.Bool.{Bool, true, false}
 use mathlib.Core.List.{List, ◌++◌}
 use Prim.Native.Nat.{ℕ, ◌+◌, ◌-◌, ◌*◌, ◌≤◌, ◌<◌}
-use native.Mathlib.Nat.{zero-add, mul-zero, mul-add, mul_comm, mul_left_comm, mul-le-mul, mul-le-mul_left}
+use native.Mathlib.Nat.{zero-add, mul-zero, mul-add, mul_comm, mul-le-mul, mul-le-mul_left}
 use native.Mathlib.Omega.{arith}
 use lib.Dec.{ltb}
 use lib.ListN.{length, take, drop}
@@ -12,9 +12,9 @@ use Rattle.audio.specs.Format.{sample_bytes}
 use Rattle.audio.specs.Inner.{put}
 use Rattle.audio.specs.declared.format.Format.{Format}
 use Rattle.audio.proofs.Carry.{places-end}
-use Rattle.audio.proofs.Numbers.{put_length}
 use Rattle.audio.proofs.Places.{sample_some}
-use Rattle.interleaving.specs.Inner.{piece, run, slid, Lengths, Spaced, Transposed, Spread}
+use Rattle.interleaving.specs.Inner.{piece, run, slid, Lengths, Fills, Spaced, Transposed, Spread}
+use Rattle.interleaving.specs.declared.shape.Shape.{Shape}
 use Rattle.interleaving.proofs.Pieces.{part_length, times_more, ends_before, put_part, piece_in, piece_before, piece_after, piece_within}
 use Rattle.interleaving.proofs.Spacing.{no_further}
 use Rattle.interleaving.proofs.Tiling.{sample_few, table_fits}
@@ -33,22 +33,11 @@ module _ (size : ℕ) (l : List ℕ) (q n : ℕ) (new : List ℕ) (long : length
   pub run_after : (p : ℕ) → q + n ≤ p → piece size p (put l (size * q) new) ≡ piece size p l
   run_after p h = piece_after size l q new ahead p (omega (arith, mul-le-mul_left {m = q + n} {n = p} size h, mul-add size q n, long))
 
--- so many rows of 64 samples, in bytes
-pub rows_bytes : (size tiles : ℕ) → tiles * (64 * size) ≡ size * (64 * tiles)
-rows_bytes size tiles = mul_left_comm tiles 64 size ∙ ap (λ (x : ℕ). 64 * x) (mul_comm tiles size) ∙ mul_left_comm 64 size tiles
-
--- slid rows are slid samples
-pub slid_rows : (size z tiles from to : ℕ) (bytes : List ℕ) → z ≡ size → put bytes (z * to) (take (tiles * (64 * z)) (drop (z * from) bytes)) ≡ slid size (64 * tiles) from to bytes
-slid_rows size z tiles from to bytes e = ap (λ (m : ℕ). put bytes (z * to) (take m (drop (z * from) bytes))) (rows_bytes z tiles) ∙ ap (λ (x : ℕ). slid x (64 * tiles) from to bytes) e
-
 -- the frames left fit in a room
+pub left_few : (channels left : ℕ) → channels ≤ 8 → left < 64 → left * channels ≤ 512
+left_few channels left few short = let m = mul-le-mul {n₁ = left} {m₁ = channels} {n₂ = 64} {m₂ = 8} (omega (arith, short)) few in omega (arith, m)
+
 module _ (format : Format) (channels left : ℕ) (few : channels ≤ 8) (short : left < 64) where
-  pub left_few : left * channels ≤ 512
-  left_few = let m = mul-le-mul {n₁ = left} {m₁ = channels} {n₂ = 64} {m₂ = 8} (omega (arith, short)) few in omega (arith, m)
-
-  pub left_kept : (c k : ℕ) → c < channels → k < left → sample_bytes format * (c + k * channels) + sample_bytes format ≤ 4096
-  left_kept c k h g = omega (arith, ends_before (sample_bytes format) {p = c + k * channels} {q = 512} (omega (arith, places-end k left channels g, h, left_few)), table_fits format 512 (omega arith))
-
   pub left_aside : (c : ℕ) → c < channels → sample_bytes format * (c * left) + sample_bytes format * left ≤ 4096
   left_aside c h =
       let m = mul-le-mul_left {m = c * left + left} {n = 512} (sample_bytes format) (omega (arith, places-end c channels left h, mul_comm left channels, left_few)) in
@@ -111,6 +100,11 @@ pub spans : (format : Format) (channels tiles left bytes : ℕ) → Lengths form
 spans format channels tiles left bytes lengths c z h e =
     subst (λ (x : ℕ). Spans x channels (64 * tiles) left c bytes) (sym e) (spans_of (sample_bytes format) channels (64 * tiles) left c bytes (sample_some format) (sample_few format) h lengths.exact)
 
+pub spans_in : (shape : Shape) (bytes : List ℕ) → Fills shape bytes → (c z : ℕ) → c < shape.channels → z ≡ sample_bytes shape.format → Spans z shape.channels (64 * shape.tiles) shape.left c (length bytes)
+spans_in shape bytes fills c z h e =
+    let size = sample_bytes shape.format in
+    subst (λ (x : ℕ). Spans x shape.channels (64 * shape.tiles) shape.left c (length bytes)) (sym e) (spans_of size shape.channels (64 * shape.tiles) shape.left c (length bytes) (sample_some shape.format) (sample_few shape.format) h fills)
+
 -- the whole frames of all channels, and the frames left, as the code has them
 pub record Sums (format : Format) (channels tiles left bytes z : ℕ) : Type 0 where
   pub sum : z * (channels * (64 * tiles)) + z * (left * channels) ≡ bytes
@@ -122,10 +116,27 @@ pub sums : (format : Format) (channels tiles left bytes : ℕ) → Lengths forma
 sums format channels tiles left bytes lengths z e =
     let size = sample_bytes format in
     let m : channels * (64 * tiles + left) ≡ channels * (64 * tiles) + left * channels = mul-add channels (64 * tiles) left ∙ ap (λ (x : ℕ). channels * (64 * tiles) + x) (mul_comm channels left) in
-    let few = left_few format channels left lengths.few lengths.short in
+    let few = left_few channels left lengths.few lengths.short in
     subst (λ (x : ℕ). Sums format channels tiles left bytes x) (sym e)
     (record {
       sum = sym (lengths.exact ∙ ap (λ (x : ℕ). size * x) m ∙ mul-add size (channels * (64 * tiles)) (left * channels));
+      start = no_further size (sample_some format) (channels * (64 * tiles));
+      room = table_fits format (left * channels) few;
+      few = few;
+    })
+
+pub sums_in : (shape : Shape) (bytes : List ℕ) → Fills shape bytes → (z : ℕ) → z ≡ sample_bytes shape.format → Sums shape.format shape.channels shape.tiles shape.left (length bytes) z
+sums_in shape bytes fills z e =
+    let format = shape.format in
+    let channels = shape.channels in
+    let tiles = shape.tiles in
+    let left = shape.left in
+    let size = sample_bytes format in
+    let m : channels * (64 * tiles + left) ≡ channels * (64 * tiles) + left * channels = mul-add channels (64 * tiles) left ∙ ap (λ (x : ℕ). channels * (64 * tiles) + x) (mul_comm channels left) in
+    let few = left_few channels left shape.few shape.short in
+    subst (λ (x : ℕ). Sums format channels tiles left (length bytes) x) (sym e)
+    (record {
+      sum = sym (fills ∙ ap (λ (x : ℕ). size * x) m ∙ mul-add size (channels * (64 * tiles)) (left * channels));
       start = no_further size (sample_some format) (channels * (64 * tiles));
       room = table_fits format (left * channels) few;
       few = few;
@@ -159,17 +170,8 @@ module _ (size channels whole left : ℕ) (before : List ℕ) where
       ∙ run_in size old 0 n new (out_length size before q n inside) (omega (arith, room, z)) p h
       ∙ out_at size before q n inside p h
 
-  -- with no frames left nothing slides
-  pub spread_nothing : left ≡ 0 → Spread size channels whole left before before
-  spread_nothing e =
-      let f : all ≡ whole = omega (arith, e) in
-      record { wholes = λ c i h g. ap (λ (x : ℕ). piece size (c * x + i) before) f; lefts = λ c j h g. absurd (omega (arith, g, e)) }
-
   pub spreading_none : (n : ℕ) → n ≡ channels → Spreading n before
   spreading_none n e = record { low = λ p h. refl; wholes = λ c i a h. absurd (omega (arith, a, h, e)); lefts = λ c j a h. absurd (omega (arith, a, h, e)) }
-
-  pub spread_all : (now : List ℕ) → Spreading 0 now → Spread size channels whole left before now
-  spread_all now k = record { wholes = λ c i h g. k.wholes c i (omega arith) h g; lefts = λ c j h g. k.lefts c j (omega arith) h g }
 
   pub spreading_more : (c : ℕ) (kept now after : List ℕ) → c < channels → length now ≡ size * (channels * all) → Kept kept
       → Spaced size left c channels kept (c * all + whole) (put now (size * (c * all)) (take (size * whole) (drop (size * (c * whole)) now))) after → Spreading (c + 1) now → Spreading c after
@@ -225,9 +227,6 @@ module _ (size channels whole left : ℕ) (before : List ℕ) where
     pub high : (p : ℕ) → n * all ≤ p → piece size p now ≡ piece size p before
     pub wholes : (c i : ℕ) → c < n → i < whole → piece size (c * whole + i) now ≡ piece size (c * all + i) before
     pub lefts : (c j : ℕ) → c < n → j < left → piece size (c * left + j) kept ≡ piece size (c * all + (whole + j)) before
-
-  pub closing_none : (kept : List ℕ) → Closing 0 kept before
-  closing_none kept = record { high = λ p h. refl; wholes = λ c i h. absurd (omega (arith, h)); lefts = λ c j h. absurd (omega (arith, h)) }
 
   pub closing_more : (c : ℕ) (kept now kept' after : List ℕ) → c < channels → length now ≡ size * (channels * all) → size * (c * left) + size * left ≤ length kept
       → kept' ≡ put kept (size * (c * left)) (run size left (c * all + whole) now) → after ≡ slid size whole (c * all) (c * whole) now → Closing c kept now → Closing (c + 1) kept' after
@@ -298,15 +297,13 @@ module _ (size channels whole left : ℕ) (before : List ℕ) where
   -- the same of the lent rest of the bytes
   pub closed_part : (z : ℕ) (kept now tail : List ℕ) → z ≡ size → Closing channels kept now → (let a = z * (channels * whole) in let m = length now - a in a + z * (left * channels) ≡ length now
       → length tail ≡ length (take m (drop a now)) → Transposed size channels left kept tail
-      → (length (take a now ++ (tail ++ drop m (drop a now))) ≡ length now) × Spread size channels whole left (take a now ++ (tail ++ drop m (drop a now))) before)
+      → Spread size channels whole left (take a now ++ (tail ++ drop m (drop a now))) before)
   closed_part z kept now tail e k sum long transposed =
       let a = z * (channels * whole) in
       let m = length now - a in
       let wide : length tail ≡ z * (left * channels) = long ∙ rest_length now a (z * (left * channels)) sum in
       let w : m ≡ z * (left * channels) = omega (arith, sum) in
       let there : put now (size * (channels * whole)) tail ≡ put now a tail = ap (λ (x : ℕ). put now (x * (channels * whole)) tail) (sym e) in
-      rw (put_part now tail a m (wide ∙ sym w)) (
-        put_length now a tail (omega (arith, sum, wide)),
-        subst (λ (x : List ℕ). Spread size channels whole left x before) there
-            (closed kept now tail k (subst (λ (x : ℕ). x * (channels * whole) + x * (left * channels) ≡ length now) e sum) (wide ∙ ap (λ (x : ℕ). x * (left * channels)) e) transposed),
-      )
+      rw (put_part now tail a m (wide ∙ sym w))
+      (subst (λ (x : List ℕ). Spread size channels whole left x before) there
+      (closed kept now tail k (subst (λ (x : ℕ). x * (channels * whole) + x * (left * channels) ≡ length now) e sum) (wide ∙ ap (λ (x : ℕ). x * (left * channels)) e) transposed))

@@ -7,14 +7,12 @@ use native.Mathlib.Nat.{mul-add, mul_comm, mul_left_comm, mul-le-mul, mul-le-mul
 use native.Mathlib.Omega.{arith}
 use lib.Dec.{ltb}
 use lib.ListN.{length, take, drop}
-use lib.Seq.{take-length}
 use borrow.Author.Tests.{ltb-true, ltb-false}
 use Rattle.audio.specs.Format.{sample_bytes}
 use Rattle.audio.specs.Inner.{put}
 use Rattle.audio.specs.declared.format.Format.{Format}
 use Rattle.audio.specs.declared.format.Format.TheVariants.{F64, F32}
 use Rattle.audio.proofs.Carry.{places-end}
-use Rattle.audio.proofs.Numbers.{put_length}
 use Rattle.interleaving.specs.Inner.{piece, Transposed, TransposedEach}
 use Rattle.interleaving.proofs.Pieces.{part_length, times_more, ends_before, put_in, put_part, piece_in, piece_before, piece_after, piece_within}
 
@@ -36,16 +34,13 @@ module _ (rows columns r c : ℕ) (h : r < rows) (g : c < columns) where
   by_row = omega (arith, places-end r rows columns h, g)
 
 -- a room that got all of a tile
-pub whole_tile : (size p : ℕ) (room tile : List ℕ) → size * p + size ≤ length tile → piece size p (put room 0 (take (length tile) tile)) ≡ piece size p tile
+pub whole_tile : (size p : ℕ) (room tile : List ℕ) → size * p + size ≤ length tile → piece size p (put room 0 tile) ≡ piece size p tile
 unfolding piece
-whole_tile size p room tile h = rw (take-length tile) (ap (λ (q : ℕ). take size (drop q (put room 0 tile))) (sym (zero-add (size * p))) ∙ put_in room 0 tile (size * p) size (omega arith) h)
+whole_tile size p room tile h = ap (λ (q : ℕ). take size (drop q (put room 0 tile))) (sym (zero-add (size * p))) ∙ put_in room 0 tile (size * p) size (omega arith) h
 
 module _ (size rows columns : ℕ) (before : List ℕ) where
   abbrev n : ℕ
   n = rows * columns
-
-  pub tiles_none : TransposedEach size rows columns 0 before before
-  tiles_none = record { there = λ t r c l. absurd (omega (arith, l)); beyond = λ p h. refl }
 
   pub tiles_more : (t : ℕ) (now tile : List ℕ) → t * (size * n) + size * n ≤ length now → length tile ≡ size * n → Transposed size rows columns (take (size * n) (drop (t * (size * n)) now)) tile
       → TransposedEach size rows columns t before now → TransposedEach size rows columns (t + 1) before (put now (t * (size * n)) tile)
@@ -83,7 +78,7 @@ module _ (size rows columns : ℕ) (before : List ℕ) where
   -- the same of a lent part, whose width the code computes
   abbrev Lent : ℕ → ℕ → ℕ → List ℕ → List ℕ → Type 0
   Lent t w m now tile = Transposed size rows columns (take m (drop (t * w) now)) tile → length tile ≡ length (take m (drop (t * w) now))
-      → (length (take (t * w) now ++ (tile ++ drop m (drop (t * w) now))) ≡ length now) × TransposedEach size rows columns (t + 1) before (take (t * w) now ++ (tile ++ drop m (drop (t * w) now)))
+      → TransposedEach size rows columns (t + 1) before (take (t * w) now ++ (tile ++ drop m (drop (t * w) now)))
 
   pub lent_more : (t w m : ℕ) (now tile : List ℕ) → w ≡ size * n → m ≡ w → t * w + w ≤ length now → TransposedEach size rows columns t before now → Lent t w m now tile
   lent_more t w m now tile e f room k =
@@ -93,4 +88,4 @@ module _ (size rows columns : ℕ) (before : List ℕ) where
       whole room transposed long =
           let at = t * (size * n) in
           let wide : length tile ≡ size * n = long ∙ part_length now at (size * n) room in
-          rw (put_part now tile at (size * n) wide) (put_length now at tile (omega (arith, room, wide)), tiles_more t now tile room wide transposed k)
+          rw (put_part now tile at (size * n) wide) (tiles_more t now tile room wide transposed k)

@@ -1,20 +1,23 @@
 -- A call on a lent slice, in either direction: what it replies, and the bytes afterwards, for all inputs.
-use Rattle.std.specs.Prelude.{ℕ, ◌/◌, ◌%◌, cond, ◌&&◌, List, [], eqb, leb}
+use Rattle.std.specs.Prelude.{ℕ, ◌/◌, ◌%◌, cond, ◌&&◌, List, [], eqb, leb, Result, Ok, Err}
 use Rattle.arithmetic.specs.Reply.{Reply, numbered, unless}
 use Rattle.audio.specs.Bytes.{joined}
 use Rattle.audio.specs.Format.{size_of, places_of}
 use Rattle.audio.specs.declared.format.Format.{Format}
 use Rattle.interleaving.specs.Interleaved.{rearranged}
-use Rattle.interleaving.specs.declared.calls.Rearranged.{Rearranged}
-use Rattle.interleaving.specs.declared.calls.Rearranged.TheVariants.{Finished, Channels, Length}
+use Rattle.interleaving.specs.declared.calls.RearrangeRefusal.{RearrangeRefusal}
+use Rattle.interleaving.specs.declared.calls.RearrangeRefusal.TheVariants.{Channels, Length}
 use Rattle.interleaving.specs.declared.calls.Direction.{Direction}
 use Rattle.interleaving.specs.declared.calls.Direction.TheVariants.{Deinterleave, Interleave}
 
--- the number of each answer
-abbrev pub rearranged_reply : Rearranged → Reply
-rearranged_reply Finished = numbered 0
-rearranged_reply Channels = numbered 27
-rearranged_reply Length = numbered 28
+-- the number of each refusal, and of each answer
+abbrev pub refused_by : RearrangeRefusal → ℕ
+refused_by Channels = 27
+refused_by Length = 28
+
+abbrev pub rearranged_reply : {A : Type 0} → Result A RearrangeRefusal → Reply
+rearranged_reply (Ok done) = numbered 0
+rearranged_reply (Err why) = numbered (refused_by why)
 
 -- "27 when the channels aren't 1 to 8, checked first. 28 when the length is over 524,288 or isn't a multiple of the channels, checked second." The length is in samples (`size_of`); bytes that are no whole
 -- number of samples have one that is over every limit.
@@ -32,7 +35,7 @@ pub record Outcome : Type 0 where
   pub reply : Reply
   pub bytes : List ℕ
 
-abbrev pub outcome : Rearranged → List ℕ → Outcome
+abbrev pub outcome : Result Unit RearrangeRefusal → List ℕ → Outcome
 outcome answer after = record { reply = rearranged_reply answer; bytes = after }
 
 -- a refused call changes nothing

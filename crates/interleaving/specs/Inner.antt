@@ -1,8 +1,9 @@
 -- Pieces of bytes moved from place to place: what the inner functions promise. A piece is a sample, or a row of samples.
-use Rattle.std.specs.Prelude.{ℕ, ◌+◌, ◌*◌, ◌/◌, ◌%◌, ◌^◌, ◌≤◌, ◌<◌, ◌≡◌, Bool, false, List, eqb, length, get_or, take, drop}
+use Rattle.std.specs.Prelude.{ℕ, ◌+◌, ◌*◌, ◌/◌, ◌%◌, ◌^◌, ◌≤◌, ◌<◌, ◌≡◌, Bool, List, eqb, length, get_or, take, drop}
 use Rattle.audio.specs.Format.{sample_bytes}
 use Rattle.audio.specs.Inner.{put}
 use Rattle.audio.specs.declared.format.Format.{Format}
+use Rattle.interleaving.specs.declared.shape.Shape.{Shape}
 use Rattle.interleaving.specs.declared.calls.Direction.{Direction}
 use Rattle.interleaving.specs.declared.calls.Direction.TheVariants.{Deinterleave, Interleave}
 
@@ -64,16 +65,16 @@ pub record Spread (size channels whole left : ℕ) (apart together : List ℕ) :
   pub lefts : (c j : ℕ) → c < channels → j < left → piece size (c * (whole + left) + (whole + j)) together ≡ piece size (channels * whole + (j * channels + c)) apart
 
 -- ---- a call that is not refused
--- so many frames, in so many bytes
-pub record Taken (format : Format) (channels frames bytes : ℕ) : Type 0 where
-  pub some : 1 ≤ channels
-  pub few : channels ≤ 8
-  pub short : channels * frames ≤ 524288
-  pub long : bytes ≡ sample_bytes format * (channels * frames)
+-- its frames
+abbrev pub frames_of : Shape → ℕ
+frames_of shape = 64 * shape.tiles + shape.left
 
--- and its rooms: no row is done
-pub record Rooms (room kept done : List ℕ) : Type 0 where
-  pub room_long : length room ≡ 4096
-  pub kept_long : length kept ≡ 4096
-  pub done_long : length done ≡ 1024
-  pub none : (k : ℕ) → bit_at done k ≡ false
+-- its bytes
+abbrev pub Fills : Shape → List ℕ → Type 0
+Fills shape bytes = length bytes ≡ sample_bytes shape.format * (shape.channels * frames_of shape)
+
+-- what so many samples of so many channels are
+pub record Shaped (format : Format) (channels samples : ℕ) (shape : Shape) : Type 0 where
+  pub format_same : shape.format ≡ format
+  pub channels_same : shape.channels ≡ channels
+  pub whole : shape.channels * frames_of shape ≡ samples

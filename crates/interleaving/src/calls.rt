@@ -1,14 +1,15 @@
 // The call: interleaved audio into planar, within a lent slice, and back.
-ghost use Rattle.std.specs.Prelude.{◌≡◌, false, List, ℕ, length};
+ghost use Rattle.std.specs.Prelude.{◌≡◌, List, ℕ, IfOk};
 ghost use Rattle.arithmetic.specs.Reply.{numbered};
 ghost use Rattle.audio.specs.Format.{sample_bytes, size_of};
-ghost use Rattle.audio.specs.declared.format.Format.{Format};
-ghost use Rattle.interleaving.specs.Inner.{bit_at, Transposed, rows_in, columns_in, Taken, Rooms};
-ghost use Rattle.interleaving.specs.Calls.{rearranged_reply, refusal, outcome, rearrange_of};
+ghost use Rattle.interleaving.specs.Inner.{Fills, frames_of, Shaped, Transposed, rows_in, columns_in};
+ghost use Rattle.interleaving.specs.Calls.{refused_by, rearranged_reply, refusal, outcome, rearrange_of};
 
 use crate::close::close_up;
 use crate::rows::transpose_rows;
+use crate::shape::Shape;
 use crate::spread::spread;
+use crate::table::Table;
 use crate::tiles::transpose_tiles;
 use audio::format::{Format, sample_bytes, size_of};
 
@@ -19,164 +20,110 @@ pub enum Direction {
     Interleave,
 }
 
-// Finished work, 27 or 28.
-#[derive(Clone, Copy)]
-pub enum Rearranged {
-    Finished,
+// Why a call is refused: its channels, 27; its length, 28.
+#[derive(Clone, Copy, Debug, PartialEq, Eq)]
+pub enum RearrangeRefusal {
     Channels,
     Length,
 }
 
-// Room for a tile or a row of samples.
-fn tile_room() -> [u8; 4096]
-    ensures { length result ≡ 4096 }
-{
-    [0; 4096]
-}
+impl From<RearrangeRefusal> for u32 {
+    ghost from_gives = { λ refusal n. n ≡ refused_by refusal };
 
-// A bit for each of 8,192 rows.
-fn row_bits() -> [u8; 1024]
-    ensures bytes { length result ≡ 1024 }
-    ensures clear { (k : ℕ) → bit_at result k ≡ false }
-{
-    [0; 1024]
+    fn from(refusal: RearrangeRefusal) -> u32 {
+        match refusal {
+            RearrangeRefusal::Channels => 27,
+            RearrangeRefusal::Length => 28,
+        }
+    }
 }
 
 // Frame after frame: channel after channel.
-fn deinterleave_through(
-    format: Format,
-    channels: usize,
-    frames: usize,
-    bytes: &mut [u8],
-    room: &mut [u8],
-    kept: &mut [u8],
-    done: &mut [u8],
-)
-    requires taken { Taken format channels frames (length bytes.old) }
-    requires rooms { Rooms room.old kept.old done.old }
-    ensures { Transposed (sample_bytes format) frames channels bytes.old bytes.new }
+fn deinterleave_through(shape: Shape, bytes: &mut [u8])
+    requires { Fills shape bytes.old }
+    ensures { Transposed (sample_bytes shape.format) (frames_of shape) shape.channels bytes.old bytes.new }
 {
-    let s = sample_bytes(format);
-    let tiles = frames / 64;
-    transpose_tiles(
-        format,
-        64,
-        channels,
-        s * (64 * channels),
-        tiles,
-        bytes,
-        room,
-    );
-    transpose_rows(64 * s, tiles, channels, bytes, room, kept, done);
-    spread(format, channels, tiles, frames % 64, bytes, room, kept);
+    let channels = shape.channels;
+    let tiles = shape.tiles;
+    let tile = Table {
+        rows: 64,
+        columns: channels,
+    };
+    let rows = Table {
+        rows: tiles,
+        columns: channels,
+    };
+    transpose_tiles(shape.format, tile, tiles, bytes);
+    transpose_rows(64 * sample_bytes(shape.format), rows, bytes);
+    spread(shape, bytes);
 }
 
 // Channel after channel: frame after frame, by the same steps backwards.
-fn interleave_through(
-    format: Format,
-    channels: usize,
-    frames: usize,
-    bytes: &mut [u8],
-    room: &mut [u8],
-    kept: &mut [u8],
-    done: &mut [u8],
-)
-    requires taken { Taken format channels frames (length bytes.old) }
-    requires rooms { Rooms room.old kept.old done.old }
-    ensures { Transposed (sample_bytes format) channels frames bytes.old bytes.new }
+// One function for both directions would ask at each step which one it is.
+fn interleave_through(shape: Shape, bytes: &mut [u8])
+    requires { Fills shape bytes.old }
+    ensures { Transposed (sample_bytes shape.format) shape.channels (frames_of shape) bytes.old bytes.new }
 {
-    let s = sample_bytes(format);
-    let tiles = frames / 64;
-    close_up(format, channels, tiles, frames % 64, bytes, room, kept);
-    transpose_rows(64 * s, channels, tiles, bytes, room, kept, done);
-    transpose_tiles(
-        format,
-        channels,
-        64,
-        s * (channels * 64),
-        tiles,
-        bytes,
-        room,
-    );
+    let channels = shape.channels;
+    let tiles = shape.tiles;
+    let rows = Table {
+        rows: channels,
+        columns: tiles,
+    };
+    let tile = Table {
+        rows: channels,
+        columns: 64,
+    };
+    close_up(shape, bytes);
+    transpose_rows(64 * sample_bytes(shape.format), rows, bytes);
+    transpose_tiles(shape.format, tile, tiles, bytes);
 }
 
-// Either direction.
-fn through(
-    direction: Direction,
-    format: Format,
-    channels: usize,
-    frames: usize,
-    bytes: &mut [u8],
-    room: &mut [u8],
-    kept: &mut [u8],
-    done: &mut [u8],
-)
-    requires taken { Taken format channels frames (length bytes.old) }
-    requires rooms { Rooms room.old kept.old done.old }
-    ensures { Transposed (sample_bytes format) (rows_in direction channels frames) (columns_in direction channels frames) bytes.old bytes.new }
+// Either direction: a value, which the definitions go by (`rearrange_of`), and so no closure.
+fn through(direction: Direction, shape: Shape, bytes: &mut [u8])
+    requires { Fills shape bytes.old }
+    ensures { Transposed (sample_bytes shape.format) (rows_in direction shape.channels (frames_of shape)) (columns_in direction shape.channels (frames_of shape)) bytes.old bytes.new }
 {
     match direction {
-        Direction::Deinterleave => deinterleave_through(
-            format, channels, frames, bytes, room, kept, done,
-        ),
-        Direction::Interleave => interleave_through(
-            format, channels, frames, bytes, room, kept, done,
-        ),
+        Direction::Deinterleave => deinterleave_through(shape, bytes),
+        Direction::Interleave => interleave_through(shape, bytes),
     }
 }
 
-// Whether a call is refused: 27, 28, or not.
-fn judge(channels: usize, samples: usize) -> Rearranged
-    ensures { (format : Format) (bytes : List ℕ) → samples ≡ size_of format bytes → rearranged_reply result ≡ numbered (refusal format channels bytes) }
+// What a call of so many samples rearranges, unless it is refused.
+fn judge(format: Format, channels: usize, samples: usize) -> Result<Shape, RearrangeRefusal>
+    ensures refused { (bytes : List ℕ) → samples ≡ size_of format bytes → rearranged_reply result ≡ numbered (refusal format channels bytes) }
+    ensures shape { IfOk result (Shaped format channels samples) }
 {
-    if (1 <= channels) & (channels <= 8) {
-        if (samples <= 524288) & (samples % channels == 0) {
-            Rearranged::Finished
-        } else {
-            Rearranged::Length
-        }
-    } else {
-        Rearranged::Channels
+    if (channels < 1) | (8 < channels) {
+        return Err(RearrangeRefusal::Channels);
     }
+    if (524288 < samples) | (samples % channels != 0) {
+        return Err(RearrangeRefusal::Length);
+    }
+    let frames = samples / channels;
+    Ok(Shape {
+        format,
+        channels,
+        tiles: frames / 64,
+        left: frames % 64,
+    })
 }
 
-// An answer's number.
-pub fn number(answer: Rearranged) -> u32
-    ensures { result ≡ (rearranged_reply answer).number }
-{
-    match answer {
-        Rearranged::Finished => 0,
-        Rearranged::Channels => 27,
-        Rearranged::Length => 28,
-    }
-}
-
-// Rearranges audio within the slice.
+// Rearranges audio within the slice; a refused call leaves it as it was.
 pub fn rearrange(
     direction: Direction,
     format: Format,
     channels: usize,
     bytes: &mut [u8],
-) -> Rearranged
+) -> Result<(), RearrangeRefusal>
     ensures { outcome result bytes.new ≡ rearrange_of direction format channels bytes.old }
 {
-    let samples = size_of(format, bytes);
-    let answer = judge(channels, samples);
-    if (number(answer) != 0) | (channels == 1) {
-        return answer;
+    let shape = judge(format, channels, size_of(format, bytes))?;
+    // one channel is the same in both orders
+    if channels == 1 {
+        return Ok(());
     }
-    let mut room = tile_room();
-    let mut kept = tile_room();
-    let mut done = row_bits();
-    through(
-        direction,
-        format,
-        channels,
-        samples / channels,
-        bytes,
-        &mut room,
-        &mut kept,
-        &mut done,
-    );
-    Rearranged::Finished
+    through(direction, shape, bytes);
+    Ok(())
 }

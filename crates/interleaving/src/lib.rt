@@ -1,21 +1,27 @@
 // Interleaved audio, frame after frame, into planar audio, channel after channel, within a lent slice, and back. It moves
-// bytes and decodes nothing.
+// bytes and decodes nothing. The call alone is public: its steps are for it.
 #![tactic(auto)]
 
-// Bytes, and samples, from place to place.
-pub mod moves;
+// What a call rearranges.
+mod shape;
+
+// Tables, and the row that comes to a place of one.
+mod table;
+
+// Samples from place to place.
+mod moves;
 
 // Tiles of 64 frames, each transposed through a room.
-pub mod tiles;
+mod tiles;
 
 // Rows of 64 samples, moved along the cycles of their order.
-pub mod rows;
+mod rows;
 
 // The frames that fill no tile, deinterleaved.
-pub mod spread;
+mod spread;
 
 // The frames that fill no tile, interleaved.
-pub mod close;
+mod close;
 
 // The call, in either direction.
 pub mod calls;

@@ -1,32 +1,51 @@
-// Bytes, and samples, from place to place.
+// Samples from place to place.
 ghost use Rattle.std.specs.Prelude.{◌≡◌, ℕ, ◌+◌, ◌*◌, ◌≤◌, ◌<◌, length, take, drop};
 ghost use Rattle.audio.specs.Format.{sample_bytes};
 ghost use Rattle.audio.specs.Inner.{put};
 ghost use Rattle.interleaving.specs.Inner.{piece, Spaced, Transposed};
 
+use crate::table::Table;
 use audio::format::Format;
-use audio::words::{put_word, put_word32, word, word32};
+use audio::words::{bytes_at, put_bytes};
 
-// n bytes from one place on to another place on.
-pub fn copy_bytes(n: usize, from: usize, source: &[u8], to: usize, target: &mut [u8])
-    requires from_inside { from + n ≤ length source.now }
-    requires to_inside { to + n ≤ length target.old }
-    ensures { target.new ≡ put target.old to (take n (drop from source.now)) }
-{
-    for i in 0..n {
-        target[to + i] = source[from + i];
+// Room for a tile, or for the frames that fill no tile.
+#[derive(Drop)]
+pub struct Room {
+    pub bytes: [u8; 4096],
+    ghost long: { length bytes ≡ 4096 },
+}
+
+impl Room {
+    pub fn new() -> Room {
+        Room { bytes: [0; 4096] }
+    }
+
+    pub fn keep(&mut self, at: usize, new: &[u8])
+        requires { at + length new.now ≤ 4096 }
+        ensures { self.new.bytes ≡ put self.old.bytes at new.now }
+    {
+        put_bytes(&mut self.bytes, at, new);
     }
 }
 
-// The same within one slice, where the two may overlap: through a room.
-pub fn carry(n: usize, from: usize, to: usize, bytes: &mut [u8], room: &mut [u8])
+// n bytes to another place within one slice, where the two may overlap; not a copy onto themselves, which takes long.
+pub fn carry(n: usize, from: usize, to: usize, bytes: &mut [u8])
     requires from_inside { from + n ≤ length bytes.old }
     requires to_inside { to + n ≤ length bytes.old }
-    requires room_enough { n ≤ length room.old }
     ensures { bytes.new ≡ put bytes.old to (take n (drop from bytes.old)) }
 {
-    copy_bytes(n, from, bytes, 0, room);
-    copy_bytes(n, 0, room, to, bytes);
+    if from != to {
+        bytes.copy_within(from..from + n, to);
+    }
+}
+
+// N bytes of a source, piece i of it, into place k: one load and one store.
+fn move_piece<const N: usize>(source: &[u8], i: usize, target: &mut [u8], k: usize)
+    requires from_inside { N * i + N ≤ length source.now }
+    requires to_inside { N * k + N ≤ length target.old }
+    ensures { target.new ≡ put target.old (N * k) (piece N i source.now) }
+{
+    put_bytes(target, N * k, &bytes_at::<N>(source, N * i));
 }
 
 // Sample i of a source into place k.
@@ -36,8 +55,8 @@ fn move_sample(format: Format, source: &[u8], i: usize, target: &mut [u8], k: us
     ensures { target.new ≡ put target.old (sample_bytes format * k) (piece (sample_bytes format) i source.now) }
 {
     match format {
-        Format::F64 => put_word(target, 8 * k, word(source, 8 * i)),
-        Format::F32 => put_word32(target, 4 * k, word32(source, 4 * i)),
+        Format::F64 => move_piece::<8>(source, i, target, k),
+        Format::F32 => move_piece::<4>(source, i, target, k),
     }
 }
 
@@ -61,13 +80,20 @@ pub fn move_spaced(
 }
 
 // A table of samples, stored row after row, column after column.
-pub fn transpose_into(format: Format, rows: usize, columns: usize, source: &[u8], target: &mut [u8])
-    requires table_small { rows * columns ≤ 512 }
-    requires source_holds { sample_bytes format * (rows * columns) ≤ length source.now }
-    requires target_holds { sample_bytes format * (rows * columns) ≤ length target.old }
-    ensures { Transposed (sample_bytes format) rows columns source.now target.new }
+pub fn transpose_into(format: Format, table: Table<512>, source: &[u8], target: &mut [u8])
+    requires source_holds { sample_bytes format * (table.rows * table.columns) ≤ length source.now }
+    requires target_holds { sample_bytes format * (table.rows * table.columns) ≤ length target.old }
+    ensures { Transposed (sample_bytes format) table.rows table.columns source.now target.new }
 {
-    for c in 0..columns {
-        move_spaced(format, rows, source, c, columns, target, c * rows);
+    for c in 0..table.columns {
+        move_spaced(
+            format,
+            table.rows,
+            source,
+            c,
+            table.columns,
+            target,
+            c * table.rows,
+        );
     }
 }

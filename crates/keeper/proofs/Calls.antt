@@ -1,6 +1,6 @@
 -- The public calls, on plain values: which tests lead to which answer.
 use mathlib.Core.Path.{◌≡◌, refl}
-use mathlib.Core.Bool.{Bool, true, false, ◌&&◌, beq}
+use mathlib.Core.Bool.{Bool, true, false, ◌&&◌}
 use mathlib.Core.List.{List, []}
 use Prim.Native.Nat.{ℕ, ◌+◌, ◌≤◌, ◌<◌}
 use native.Mathlib.Omega.{arith}
@@ -9,10 +9,11 @@ use lib.ListN.{length, replicate}
 use lib.Ieee.{Float}
 use borrow.Author.Tests.{leb-true, le-leb, lt-leb, eqb-true}
 use Rattle.arithmetic.specs.Number
-use Rattle.arithmetic.specs.Reply.{finished, refused}
+use Rattle.arithmetic.specs.Reply.{finished, refused, unless}
 use Rattle.arithmetic.proofs.Order.{and-true}
-use Rattle.keeper.specs.InOrder.{most_frames, counts_in_order, ring_in_order, is_in_order}
-use Rattle.keeper.specs.Keeper.{Keeping, keeping_at, entries_of, ordered, look_taken, stores_fit, KeeperLeft, fresh_keeper, setup_of, Stepped, stepped_of, Ready, finished_step, step_of}
+use Rattle.keeper.specs.InOrder.{most_frames}
+use Rattle.keeper.specs.Keeper.{refusal_number, Keeping, keeping_at, ordered, look_taken, stores_fit, KeeperLeft, fresh_keeper, setup_refusal, setup_of, Stepped, stepped_of, step_refusal, finished_step, step_of}
+use Rattle.keeper.specs.declared.KeeperRefusal.{KeeperRefusal}
 
 pub look_most : (look : ℕ) → look_taken look ≡ true → look ≤ 4096
 look_most look h = leb-true look 4096 (and-true (leb 11 look) (leb look 4096) h).1
@@ -31,20 +32,16 @@ regroup false true true v u = refl
 regroup false true false v u = refl
 regroup false false f v u = refl
 
-pub counts_inside : (look head len frame : ℕ) → counts_in_order look head len frame ≡ true → (head ≤ look) × (len ≤ look + 1)
-counts_inside look head len frame h =
-    let a = and-true (leb frame most_frames) (leb len (look + 1) && (beq (eqb len 0) (eqb frame 0) && leb head look)) h in
-    let b = and-true (leb len (look + 1)) (beq (eqb len 0) (eqb frame 0) && leb head look) a.1 in
-    (leb-true head look (and-true (beq (eqb len 0) (eqb frame 0)) (leb head look) b.1).1, leb-true len (look + 1) b.0)
+-- ---- what a judgement answers: a refusal has a number, and where there is none every test is passed
+refusal_some : (why : KeeperRefusal) → eqb (refusal_number why) 0 ≡ false
+refusal_some KeeperRefusal.LookOutOfRange = refl
+refusal_some KeeperRefusal.StoreLength = refl
+refusal_some KeeperRefusal.OutOfOrder = refl
+refusal_some KeeperRefusal.FramesSpent = refl
 
-module _ (k : Keeping) where
-  pub counts_fail : counts_in_order k.keeper.look k.keeper.head k.keeper.len k.keeper.frame ≡ false → false ≡ ordered k
-  unfolding is_in_order
-  counts_fail h = rw h refl
-
-  pub counts_pass : counts_in_order k.keeper.look k.keeper.head k.keeper.len k.keeper.frame ≡ true → ring_in_order k.keeper.look k.keeper.frame (entries_of k) ≡ ordered k
-  unfolding is_in_order
-  counts_pass h = rw h refl
+passed : (test : Bool) (number next : ℕ) → 0 < number → 0 ≡ unless test number next → (test ≡ true) × (0 ≡ next)
+passed true number next some h = (refl, h)
+passed false number next some h = absurd (omega arith)
 
 -- ---- setup
 module _ (look : ℕ) (marks : List ℕ) (minima : List Float) where
@@ -67,35 +64,37 @@ module _ (look : ℕ) (marks : List ℕ) (minima : List Float) where
       let f = both_fit look marks minima k in
       rw (p, q, h, k, f.0, f.1) refl
 
+  -- from the judgement
+  pub setup_refused : (why : KeeperRefusal) → refusal_number why ≡ setup_refusal look marks minima → refused_setup (refusal_number why) ≡ setup_of look marks minima
+  unfolding setup_of
+  setup_refused why h = rw (← h, refusal_some why) refl
+
+  pub setup_finished : 0 ≡ setup_refusal look marks minima →
+      (cleared : List ℕ) (zeros : List Float) → cleared ≡ replicate (length marks) 0 → zeros ≡ replicate (length minima) Number.zero →
+      ◌≡◌ {A = KeeperLeft} (record { reply = finished []; keeping = keeping_at (fresh_keeper look) cleared zeros }) (setup_of look marks minima)
+  setup_finished h cleared zeros p q =
+      let a = passed (look_taken look) 12 _ (omega arith) h in
+      setup_0 a.0 (passed (stores_fit look marks minima) 16 0 (omega arith) a.1).0 cleared zeros p q
+
 -- ---- step
 module _ (k : Keeping) (x : Float) where
   abbrev pub refused_step : ℕ → KeeperLeft
   refused_step n = record { reply = refused n []; keeping = k }
 
-  pub step_12 : look_taken k.keeper.look ≡ false → refused_step 12 ≡ step_of k x
+  -- from the judgement
+  pub step_refused : (why : KeeperRefusal) → refusal_number why ≡ step_refusal k → refused_step (refusal_number why) ≡ step_of k x
   unfolding step_of
-  step_12 a = rw a refl
+  step_refused why h = rw (← h, refusal_some why) refl
 
-  module _ (a : look_taken k.keeper.look ≡ true) where
-    pub step_16 : stores_fit k.keeper.look k.marks k.minima ≡ false → refused_step 16 ≡ step_of k x
+  pub step_finished : 0 ≡ step_refusal k → (s : Stepped) → s ≡ stepped_of k x → finished_step s ≡ step_of k x
+  unfolding step_of
+  step_finished h s e = rw (← h, e) refl
+
+  module _ (a : look_taken k.keeper.look ≡ true) (b : stores_fit k.keeper.look k.marks k.minima ≡ true) (d : ordered k ≡ true) where
+    pub step_22 : most_frames ≤ k.keeper.frame → refused_step 22 ≡ step_of k x
     unfolding step_of
-    step_16 b = rw (a, b) refl
+    step_22 e = rw (a, b, d, lt-leb (k.keeper.frame + 1) most_frames (omega arith)) refl
 
-    module _ (b : stores_fit k.keeper.look k.marks k.minima ≡ true) where
-      pub step_19 : ordered k ≡ false → refused_step 19 ≡ step_of k x
-      unfolding step_of
-      step_19 d = rw (a, b, d) refl
-
-      module _ (d : ordered k ≡ true) where
-        pub step_22 : most_frames ≤ k.keeper.frame → refused_step 22 ≡ step_of k x
-        unfolding step_of
-        step_22 e = rw (a, b, d, lt-leb (k.keeper.frame + 1) most_frames (omega arith)) refl
-
-        pub step_ready : k.keeper.frame < most_frames → Ready k
-        step_ready e =
-            let f = both_fit k.keeper.look k.marks k.minima b in
-            record { marks_fit = f.0; minima_fit = f.1; in_order = d; room = omega arith }
-
-        pub step_0 : k.keeper.frame < most_frames → (s : Stepped) → s ≡ stepped_of k x → finished_step s ≡ step_of k x
-        unfolding step_of
-        step_0 e s h = rw (a, b, d, le-leb (k.keeper.frame + 1) most_frames (omega arith), h) refl
+    pub step_0 : k.keeper.frame < most_frames → (s : Stepped) → s ≡ stepped_of k x → finished_step s ≡ step_of k x
+    unfolding step_of
+    step_0 e s h = rw (a, b, d, le-leb (k.keeper.frame + 1) most_frames (omega arith), h) refl

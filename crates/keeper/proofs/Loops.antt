@@ -1,71 +1,83 @@
 -- One turn of each loop, on plain values.
+use native.Mathlib.Numerals.{add-one}
+use lib.Seq.{drop-length}
 use mathlib.Core.Path.{◌≡◌, refl, sym, ap, ◌∙◌}
-use mathlib.Core.Bool.{Bool, true, false, ◌&&◌}
+use mathlib.Core.Bool.{Bool, false, ◌&&◌}
 use mathlib.Core.List.{List, [], ◌∷◌, ◌++◌, append-nil}
 use Prim.Native.Nat.{ℕ, zero, suc, ◌+◌, ◌-◌, ◌≤◌, ◌<◌}
-use native.Mathlib.Nat.{add-zero, sub_self}
-use native.Mathlib.Numerals.{add-one}
 use native.Mathlib.Omega.{arith}
 use lib.Dec.{leb, eqb}
-use lib.ListN.{length, get_or, set, drop, replicate, length-set}
-use lib.Seq.{drop-length}
+use lib.ListN.{get_or, length, set, drop, replicate, length-set}
 use lib.Ieee.{Float, nan, lt}
-use borrow.Author.Tests.{lt-ltb, le-ltb, leb-true, le-leb, eq-eqb, ne_eqb}
+use borrow.Author.Tests.{lt-ltb, le-ltb, leb-true, le-leb, eq-eqb}
 use Rattle.keeper.specs.Ring.{Entry, wrap, entry_at, ring_of, drop_back, drop_front}
 use Rattle.keeper.specs.InOrder.{rising, less_mark, less_minimum, last_mark, first_mark}
 use Rattle.arithmetic.proofs.Order.{same_test}
-use Rattle.keeper.proofs.Places.{wrap_in, wrap_wrap, ring_back, ring_front, front_place}
-use Rattle.keeper.proofs.Drops.{back_stops, back_goes, front_kept, front_dropped}
+use Rattle.keeper.proofs.Places.{wrap_below, wrap_wrap, ring_back, ring_front, front_place}
+use Rattle.keeper.proofs.Drops.{back_goes, front_kept, front_dropped}
 
--- ---- drop_back: the entry at the back of `left` ones stays or goes
-module _ (cap : ℕ) (minima : List Float) (head left back : ℕ) (gain : Float) (some : 0 < left) (at : back ≡ wrap cap (head + left - 1)) where
-  pub back_done : lt (get_or minima back nan) gain ≡ true → (marks : List ℕ) → drop_back gain (ring_of cap marks minima head left) ≡ ring_of cap marks minima head left
-  back_done h marks = rw (ring_back cap marks minima head left some, ← at) (back_stops gain (entry_at marks minima back) (ring_of cap marks minima head (left - 1)) h)
+-- ---- drop_back: the entry at the back of `left` ones goes
+pub back_turn : (cap : ℕ) (marks : List ℕ) (minima : List Float) (head left at : ℕ) (gain : Float) → 0 < left → at ≡ wrap cap (head + (left - 1)) → lt (get_or minima at nan) gain ≡ false
+    → drop_back gain (ring_of cap marks minima head left) ≡ drop_back gain (ring_of cap marks minima head (left - 1))
+back_turn cap marks minima head zero at gain some e h = absurd (omega arith)
+back_turn cap marks minima head (suc n) at gain some e h =
+    let k : suc n - 1 ≡ n = omega arith in
+    let place : at ≡ wrap cap (head + n) = e ∙ ap (λ (m : ℕ). wrap cap (head + m)) k in
+    rw k (back_goes gain (entry_at marks minima (wrap cap (head + n))) (ring_of cap marks minima head n) (rw place at h))
 
-  pub back_turn : lt (get_or minima back nan) gain ≡ false → (marks : List ℕ) → drop_back gain (ring_of cap marks minima head left) ≡ drop_back gain (ring_of cap marks minima head (left - 1))
-  back_turn h marks = rw (ring_back cap marks minima head left some, ← at) (back_goes gain (entry_at marks minima back) (ring_of cap marks minima head (left - 1)) h)
+-- ---- drop_front: the entry at the front of those that are left stays or goes
+module _ (look head len frame : ℕ) (marks : List ℕ) (inside : head ≤ look) (few : len ≤ look + 1) where
+  -- the entries behind the first n
+  abbrev pub behind : ℕ → List Float → List Entry
+  behind n minima = ring_of (look + 1) marks minima (wrap (look + 1) (head + n)) (len - n)
 
-pub back_none : (cap : ℕ) (marks : List ℕ) (minima : List Float) (head left : ℕ) (gain : Float) → left ≤ 0 → ring_of cap marks minima head left ≡ drop_back gain (ring_of cap marks minima head left)
-back_none cap marks minima head zero gain h = refl
-back_none cap marks minima head (suc n) gain h = absurd (omega arith)
+  module _ (n at : ℕ) (some : n < len) (place : at ≡ wrap (look + 1) (head + n)) where
+    -- the front, as the code counts
+    front_first : (minima : List Float) → behind n minima ≡ behind (n + 1) minima ++ (entry_at marks minima at ∷ [])
+    front_first minima =
+        let left : len - n ≡ suc (len - (n + 1)) = omega arith in
+        let on : head + n + 1 ≡ head + (n + 1) = omega arith in
+        rw (left, ring_front (look + 1) marks minima (wrap (look + 1) (head + n)) (len - (n + 1)) (wrap_below (look + 1) (head + n) (omega arith)) (omega arith), wrap_wrap (look + 1) (head + n) 1 (omega arith), on, place) refl
 
--- ---- drop_front: the entry at the front of `left` ones stays or goes
-module _ (look : ℕ) (marks : List ℕ) (at left frame : ℕ) (inside : at < look + 1) (some : 0 < left) (few : left ≤ look + 1) where
-  -- the front, as the code counts
-  front_first : (minima : List Float) → ring_of (look + 1) marks minima at left ≡ ring_of (look + 1) marks minima (wrap (look + 1) (at + 1)) (left - 1) ++ (entry_at marks minima at ∷ [])
-  front_first minima = go left some few
+    pub front_done : frame - look ≤ get_or marks at 0 → (minima : List Float) → ring_of (look + 1) marks minima at (len - n) ≡ drop_front look frame (behind n minima)
+    front_done h minima =
+        let e = front_first minima in
+        rw place (e ∙ sym (ap (drop_front look frame) e ∙ front_kept look frame (behind (n + 1) minima) (entry_at marks minima at) (le-ltb look (frame - get_or marks at 0) (omega arith))))
+
+    pub front_turn : get_or marks at 0 < frame - look → (minima : List Float) → drop_front look frame (behind (n + 1) minima) ≡ drop_front look frame (behind n minima)
+    front_turn h minima =
+        sym (ap (drop_front look frame) (front_first minima) ∙ front_dropped look frame (behind (n + 1) minima) (entry_at marks minima at) (lt-ltb look (frame - get_or marks at 0) (omega arith)))
+
+-- ---- entries_rise
+-- both orders rise
+abbrev pub rises : List Entry → Bool
+rises ring = rising less_mark ring && rising less_minimum ring
+
+-- ---- ends_fit
+module _ (look head len last frame : ℕ) (marks : List ℕ) (minima : List Float) (inside : head ≤ look) (some : 0 < len) (at : last ≡ wrap (look + 1) (head + (len - 1))) where
+  pub last-is : last_mark frame (ring_of (look + 1) marks minima head len) ≡ eqb (get_or marks last 0 + 1) frame
+  last-is = rw (ring_back (look + 1) marks minima head len some, ← at) refl
+
+  pub first-is : first_mark look frame (ring_of (look + 1) marks minima head len) ≡ leb frame (get_or marks head 0 + look + 1)
+  first-is = go len some
     where
-      less : (n : ℕ) → suc n - 1 ≡ n
-      less n = omega arith
+      go : (n : ℕ) → 0 < n → first_mark look frame (ring_of (look + 1) marks minima head n) ≡ leb frame (get_or marks head 0 + look + 1)
+      go zero h = absurd (omega arith)
+      go (suc n) h = rw (front_place (look + 1) marks minima head n (omega arith)) refl
 
-      go : (n : ℕ) → 0 < n → n ≤ look + 1 → ring_of (look + 1) marks minima at n ≡ ring_of (look + 1) marks minima (wrap (look + 1) (at + 1)) (n - 1) ++ (entry_at marks minima at ∷ [])
-      go zero h k = absurd (omega arith)
-      go (suc n) h k = rw (less n) (ring_front (look + 1) marks minima at n inside (omega arith))
+  abbrev ring : List Entry
+  ring = ring_of (look + 1) marks minima head len
 
-  pub front_done : frame - look ≤ get_or marks at 0 → (minima : List Float) → drop_front look frame (ring_of (look + 1) marks minima at left) ≡ ring_of (look + 1) marks minima at left
-  front_done h minima =
-      rw (front_first minima) (front_kept look frame (ring_of (look + 1) marks minima (wrap (look + 1) (at + 1)) (left - 1)) (entry_at marks minima at) (le-ltb look (frame - get_or marks at 0) (omega arith)))
+  pub ends_same : (since : ℕ) → since ≡ frame - (look + 1) → (frame ≡ 0 → ⊥) → get_or marks last 0 ≡ frame - 1 → leb since (get_or marks head 0) ≡ (last_mark frame ring && first_mark look frame ring)
+  ends_same since e p q = sym (rw (last-is, first-is, eq-eqb (get_or marks last 0 + 1) frame (omega arith)) back)
+    where
+      back : leb frame (get_or marks head 0 + look + 1) ≡ leb since (get_or marks head 0)
+      back =
+          same_test (leb frame (get_or marks head 0 + look + 1)) (leb since (get_or marks head 0))
+          (λ h. le-leb since (get_or marks head 0) (omega (arith, leb-true frame (get_or marks head 0 + look + 1) h)))
+          (λ h. le-leb frame (get_or marks head 0 + look + 1) (omega (arith, leb-true since (get_or marks head 0) h)))
 
-  pub front_turn : get_or marks at 0 < frame - look → (minima : List Float) → drop_front look frame (ring_of (look + 1) marks minima at left) ≡ drop_front look frame (ring_of (look + 1) marks minima (wrap (look + 1) (at + 1)) (left - 1))
-  front_turn h minima =
-      rw (front_first minima) (front_dropped look frame (ring_of (look + 1) marks minima (wrap (look + 1) (at + 1)) (left - 1)) (entry_at marks minima at) (lt-ltb look (frame - get_or marks at 0) (omega arith)))
-
-pub front_none : (cap look frame : ℕ) (marks : List ℕ) (minima : List Float) (at left : ℕ) → left ≤ 0 → ring_of cap marks minima at left ≡ drop_front look frame (ring_of cap marks minima at left)
-front_none cap look frame marks minima at zero h = refl
-front_none cap look frame marks minima at (suc n) h = absurd (omega arith)
-
--- the front's place, at first and a turn on
-pub front_start : (cap head len : ℕ) → head < cap → head ≡ wrap cap (head + (len - len))
-front_start cap head len hh = sym (rw (sub_self len, add-zero head) (wrap_in cap head hh))
-
-pub front_on : (cap head len at left : ℕ) → head < cap → len ≤ cap → 0 < left → left ≤ len → at ≡ wrap cap (head + (len - left)) → wrap cap (at + 1) ≡ wrap cap (head + (len - (left - 1)))
-front_on cap head len at left hh hl some few e =
-    rw (e, wrap_wrap cap (head + (len - left)) 1 (omega arith), on) refl
-  where
-    on : head + (len - left) + 1 ≡ head + (len - (left - 1))
-    on = omega arith
-
--- ---- clear_marks, clear_minima: the first i of a store are cleared
+-- ---- the first i places of a list hold one value
 pub record Cleared {A : Type 0} (v : A) (old now : List A) (i : ℕ) : Type 0 where
   pub filled : now ≡ replicate i v ++ drop i old
   pub upto : i ≤ length old
@@ -95,46 +107,3 @@ module _ {A : Type 0} (v : A) where
       let l = c.long in
       let e : i ≡ length old = omega arith in
       rw (c.filled, e, drop-length old) (append-nil (replicate (length old) v))
-
--- ---- entries_rise
--- both orders rise
-abbrev pub rises : List Entry → Bool
-rises ring = rising less_mark ring && rising less_minimum ring
-
-pub rises_none : (cap : ℕ) (marks : List ℕ) (minima : List Float) (head left : ℕ) → left ≤ 1 → true ≡ rises (ring_of cap marks minima head left)
-rises_none cap marks minima head zero h = refl
-rises_none cap marks minima head (suc zero) h = refl
-rises_none cap marks minima head (suc (suc n)) h = absurd (omega arith)
-
--- ---- ends_fit
-module _ (look head len last frame : ℕ) (marks : List ℕ) (minima : List Float) (inside : head ≤ look) (some : 0 < len) (at : last ≡ wrap (look + 1) (head + len - 1)) where
-  pub last-is : last_mark frame (ring_of (look + 1) marks minima head len) ≡ eqb (get_or marks last 0 + 1) frame
-  last-is = rw (ring_back (look + 1) marks minima head len some, ← at) refl
-
-  pub first-is : first_mark look frame (ring_of (look + 1) marks minima head len) ≡ leb frame (get_or marks head 0 + look + 1)
-  first-is = go len some
-    where
-      go : (n : ℕ) → 0 < n → first_mark look frame (ring_of (look + 1) marks minima head n) ≡ leb frame (get_or marks head 0 + look + 1)
-      go zero h = absurd (omega arith)
-      go (suc n) h = rw (front_place (look + 1) marks minima head n (omega arith)) refl
-
-  abbrev ring : List Entry
-  ring = ring_of (look + 1) marks minima head len
-
-  pub ends_no_frame : frame ≡ 0 → false ≡ (last_mark frame ring && first_mark look frame ring)
-  ends_no_frame h = sym (rw (last-is, ne_eqb (get_or marks last 0 + 1) frame (omega arith)) refl)
-
-  pub ends_other : (frame ≡ 0 → ⊥) → (get_or marks last 0 ≡ frame - 1 → ⊥) → false ≡ (last_mark frame ring && first_mark look frame ring)
-  ends_other p q = sym (rw (last-is, ne_eqb (get_or marks last 0 + 1) frame other) refl)
-    where
-      other : get_or marks last 0 + 1 ≡ frame → ⊥
-      other e = q (omega arith)
-
-  pub ends_same : (since : ℕ) → since ≡ frame - (look + 1) → (frame ≡ 0 → ⊥) → get_or marks last 0 ≡ frame - 1 → leb since (get_or marks head 0) ≡ (last_mark frame ring && first_mark look frame ring)
-  ends_same since e p q = sym (rw (last-is, first-is, eq-eqb (get_or marks last 0 + 1) frame (omega arith)) back)
-    where
-      back : leb frame (get_or marks head 0 + look + 1) ≡ leb since (get_or marks head 0)
-      back =
-          same_test (leb frame (get_or marks head 0 + look + 1)) (leb since (get_or marks head 0))
-          (λ h. le-leb since (get_or marks head 0) (omega (arith, leb-true frame (get_or marks head 0 + look + 1) h)))
-          (λ h. le-leb frame (get_or marks head 0 + look + 1) (omega (arith, leb-true since (get_or marks head 0) h)))

@@ -30,13 +30,6 @@ wrap_cases cap i = go (ltb i cap) refl
 pub wrap_below : (cap i : ℕ) → i < cap + cap → wrap cap i < cap
 wrap_below cap i h = elim (wrap_cases cap i) [ inl w ↦ omega arith | inr w ↦ omega arith ]
 
--- the place of the back of n entries, and that of the front when `left` of n are left
-pub back_inside : (cap head n back : ℕ) → back ≡ wrap cap (head + n - 1) → head < cap → n ≤ cap → back < cap
-back_inside cap head n back at hh hn = rw at (wrap_below cap (head + n - 1) (omega arith))
-
-pub front_inside : (cap head n left front : ℕ) → front ≡ wrap cap (head + (n - left)) → head < cap → n ≤ cap → front < cap
-front_inside cap head n left front at hh hn = rw at (wrap_below cap (head + (n - left)) (omega arith))
-
 -- a place and a way on from it
 pub wrap_wrap : (cap a b : ℕ) → a + b < cap + cap → wrap cap (wrap cap a + b) ≡ wrap cap (a + b)
 wrap_wrap cap a b h = elim (wrap_cases cap a) [
@@ -61,13 +54,10 @@ module _ (cap : ℕ) (marks : List ℕ) (minima : List Float) where
   ring_length head (suc n) = ap suc (ring_length head n)
 
   -- the back, as the code counts
-  pub ring_back : (head n : ℕ) → 0 < n → ring_of cap marks minima head n ≡ entry_at marks minima (wrap cap (head + n - 1)) ∷ ring_of cap marks minima head (n - 1)
+  pub ring_back : (head n : ℕ) → 0 < n → ring_of cap marks minima head n ≡ entry_at marks minima (wrap cap (head + (n - 1))) ∷ ring_of cap marks minima head (n - 1)
   ring_back head zero h = absurd (omega arith)
-  ring_back head (suc n) h = rw (up, down) refl
+  ring_back head (suc n) h = rw down refl
     where
-      up : head + suc n - 1 ≡ head + n
-      up = omega arith
-
       down : suc n - 1 ≡ n
       down = omega arith
 

@@ -10,12 +10,12 @@ use lib.Ieee.Scale.{finite}
 use lib.ListN.{get_or}
 use Rattle.arithmetic.specs.Number
 use Rattle.arithmetic.specs.Number.{one, within}
-use Rattle.arithmetic.proofs.Order.{and-true, and_yes, same_test, clash, lt→le, lt_then_le, le_then_le}
+use Rattle.arithmetic.proofs.Order.{and-true, same_test, clash, lt→le, lt_then_le, le_then_le}
 use Rattle.arithmetic.proofs.Within.{unit→finite}
 use Rattle.keeper.specs.Ring.{Entry, wrap, entry_at, ring_of, front_of}
 use Rattle.keeper.specs.InOrder.{rising, less_mark, less_minimum, unit_minima}
-use Rattle.keeper.proofs.Places.{wrap_below, ring_front, front_place}
-use Rattle.keeper.proofs.Loops.{rises, rises_none}
+use Rattle.keeper.proofs.Places.{wrap_below, wrap_wrap, ring_front, front_place}
+use Rattle.keeper.proofs.Loops.{rises}
 
 -- ---- the front comes off
 rising_front : (less : Entry → Entry → Bool) (e : Entry) (es : List Entry) (f : Entry) → rising less ((e ∷ es) ++ (f ∷ [])) ≡ (less f (front_of e es) && rising less (e ∷ es))
@@ -50,21 +50,22 @@ module _ (cap : ℕ) (marks : List ℕ) (minima : List Float) (at next : ℕ) (i
       ∙ rising_front less (entry_at marks minima (wrap cap (next + n))) (ring_of cap marks minima next n) f
       ∙ ap (λ (x : Entry). less f x && rising less (ring_of cap marks minima next (suc n))) (front_place cap marks minima next n (omega (arith, on, b)))
 
-  pub front_rises : (left : ℕ) → 1 < left → left ≤ cap → (p whole : Bool) → p && rises (ring_of cap marks minima at left) ≡ whole → (r : Bool) → r ≡ (less_mark f g && less_minimum f g)
-      → (p && r) && rises (ring_of cap marks minima next (left - 1)) ≡ whole
-  front_rises zero some few p whole h r k = absurd (omega arith)
-  front_rises (suc zero) some few p whole h r k = absurd (omega arith)
-  front_rises (suc (suc n)) some few p whole h r k =
-      let m : suc (suc n) - 1 ≡ suc n = omega arith in
+  pub front_rises : (left rest : ℕ) → rest + 1 ≡ left → 1 < left → left ≤ cap → (p whole : Bool) → p && rises (ring_of cap marks minima at left) ≡ whole → (r : Bool) → r ≡ (less_mark f g && less_minimum f g)
+      → (p && r) && rises (ring_of cap marks minima next rest) ≡ whole
+  front_rises left zero e some few p whole h r k = absurd (omega arith)
+  front_rises left (suc n) e some few p whole h r k =
+      let m : left ≡ suc (suc n) = omega arith in
       let ring = ring_of cap marks minima next (suc n) in
-      ap (λ (i : ℕ). (p && r) && rises (ring_of cap marks minima next i)) m
-      ∙ ap (λ (b : Bool). (p && b) && rises ring) k
+      ap (λ (b : Bool). (p && b) && rises ring) k
       ∙ sym (regroup p (less_mark f g) (less_minimum f g) (rising less_mark ring) (rising less_minimum ring))
-      ∙ sym (ap (λ (b : Bool). p && (b && rising less_minimum (ring_of cap marks minima at (suc (suc n))))) (step n few less_mark) ∙ ap (λ (b : Bool). p && ((less_mark f g && rising less_mark ring) && b)) (step n few less_minimum))
-      ∙ h
+      ∙ sym (ap (λ (b : Bool). p && (b && rising less_minimum (ring_of cap marks minima at (suc (suc n))))) (step n (omega arith) less_mark) ∙ ap (λ (b : Bool). p && ((less_mark f g && rising less_mark ring) && b)) (step n (omega arith) less_minimum))
+      ∙ rw m at h
 
-pub rises_end : (cap : ℕ) (marks : List ℕ) (minima : List Float) (at left : ℕ) → left ≤ 1 → (p whole : Bool) → p && rises (ring_of cap marks minima at left) ≡ whole → p ≡ whole
-rises_end cap marks minima at left few p whole h = sym (and_yes p) ∙ ap (λ (b : Bool). p && b) (rises_none cap marks minima at left few) ∙ h
+-- the next place along the ring
+pub next_on : (cap head i at next : ℕ) → head < cap → 0 < i → i ≤ cap → at ≡ wrap cap (head + (i - 1)) → next ≡ wrap cap (head + i) → next ≡ wrap cap (at + 1)
+next_on cap head i at next hh some few A N =
+    let e : head + (i - 1) + 1 ≡ head + i = omega arith in
+    N ∙ ap (wrap cap) (sym e) ∙ sym (wrap_wrap cap (head + (i - 1)) 1 (omega arith)) ∙ ap (λ (p : ℕ). wrap cap (p + 1)) (sym A)
 
 -- ---- minima that rise
 -- what is below a value of at most 1 is at most 1
@@ -123,12 +124,12 @@ ends_tell e es r =
     rw (a.0, b.1) refl)
 
 -- the first and the last as the code reads them
-pub ends_read : (cap : ℕ) (marks : List ℕ) (minima : List Float) (head len last : ℕ) → head < cap → 0 < len → last ≡ wrap cap (head + len - 1) → rising less_minimum (ring_of cap marks minima head len) ≡ true
+pub ends_read : (cap : ℕ) (marks : List ℕ) (minima : List Float) (head len last : ℕ) → head < cap → 0 < len → last ≡ wrap cap (head + (len - 1)) → rising less_minimum (ring_of cap marks minima head len) ≡ true
     → (le Number.zero (get_or minima head nan) && le (get_or minima last nan) one) ≡ unit_minima (ring_of cap marks minima head len)
 ends_read cap marks minima head zero last hh some at r = absurd (omega arith)
 ends_read cap marks minima head (suc n) last hh some at r =
     let e = entry_at marks minima (wrap cap (head + n)) in
-    let up : head + suc n - 1 ≡ head + n = omega arith in
+    let up : head + (suc n - 1) ≡ head + n = omega arith in
     ap (λ (i : ℕ). le Number.zero (get_or minima head nan) && le (get_or minima i nan) one) (at ∙ ap (wrap cap) up)
     ∙ ap (λ (x : Entry). le Number.zero x.minimum && le e.minimum one) (sym (front_place cap marks minima head n hh))
     ∙ ends_tell e (ring_of cap marks minima head n) r

@@ -3,7 +3,7 @@ use mathlib.Core.Path.{◌≡◌, refl, ap, ◌∙◌}
 use mathlib.Core.List.{List, ◌∷◌, ◌++◌}
 use Prim.Native.Nat.{ℕ, ◌+◌, ◌-◌, ◌≤◌, ◌<◌}
 use native.Mathlib.Omega.{arith}
-use lib.ListN.{length, get_or, set, take, drop}
+use lib.ListN.{length, get_or, set, take, drop, length-set}
 use lib.Ieee.{Float, nan}
 use Rattle.arithmetic.proofs.InTurn.{split, kept, stored, none_left, all_stored}
 use Rattle.keeper.specs.InOrder.{most_frames}
@@ -30,12 +30,18 @@ module _ (k : Keeping) (i : ℕ) (l : List Float) where
   unfolding floors_of
   floors_done h = rw (none_left l i h, all_stored l i h) refl
 
-  -- a step takes a frame and leaves a keeper that is ready where there is room
-  pub floors_turn : (n : ℕ) (s : Stepped) → i < n → length l ≡ n → k.keeper.frame + (n - i) ≤ most_frames → Ready k → s ≡ stepped_of k (get_or l i nan)
-      → (s.keeping.keeper.frame + (n - (i + 1)) ≤ most_frames) × (i + 1 < n → Ready s.keeping) × (floors_from s.keeping (i + 1) (set l i s.floor) ≡ floors_from k i l)
-  floors_turn n s h f room r came =
-      let frame : s.keeping.keeper.frame ≡ k.keeper.frame + 1 = ap (λ (t : Stepped). t.keeping.keeper.frame) came ∙ frame_after k (get_or l i nan) in (
-        omega arith,
-        λ j. rw came (ready_after k (get_or l i nan) r (omega arith)),
-        floors_more s (omega arith) came,
-      )
+-- what holds at each turn: room for the gains that are left, a keeper that is ready where there is one, and the whole
+pub record FloorsLeft (whole : Floors) (k : Keeping) (i : ℕ) (l : List Float) : Type 0 where
+  pub room : k.keeper.frame + (length l - i) ≤ most_frames
+  pub ready : i < length l → Ready k
+  pub rest : floors_from k i l ≡ whole
+
+pub floors_turn : (whole : Floors) (k : Keeping) (i : ℕ) (l : List Float) (s : Stepped) → FloorsLeft whole k i l → i < length l → s ≡ stepped_of k (get_or l i nan) → FloorsLeft whole s.keeping (i + 1) (set l i s.floor)
+floors_turn whole k i l s f h came =
+    let frame : s.keeping.keeper.frame ≡ k.keeper.frame + 1 = ap (λ (t : Stepped). t.keeping.keeper.frame) came ∙ frame_after k (get_or l i nan) in
+    let room = f.room in
+    record {
+      room = rw (length-set l i s.floor) (omega arith);
+      ready = rw (length-set l i s.floor) (λ j. rw came (ready_after k (get_or l i nan) (f.ready h) (omega arith)));
+      rest = floors_more k i l s h came ∙ f.rest;
+    }

@@ -17,7 +17,7 @@ use Rattle.arithmetic.proofs.Order.{and-true}
 use Rattle.arithmetic.proofs.Within.{gain_within}
 use Rattle.keeper.specs.Ring.{Entry, wrap, entry_at, ring_of, drop_back, stale, drop_front, ring_step, front_of}
 use Rattle.keeper.specs.InOrder.{most_frames, each, above, rising, less_mark, less_minimum, last_mark, first_mark, unit_minimum, unit_minima, counts_in_order, ring_in_order, is_in_order}
-use Rattle.keeper.specs.Keeper.{Keeping, entries_of, ordered, Stepped, stepped_of, Ready}
+use Rattle.keeper.specs.Keeper.{Keeping, entries_of, ordered, Placed, Stepped, stepped_of, Ready}
 use Rattle.keeper.proofs.Places.{wrap_in, wrap_below, wrap_wrap, ring_length, ring_front, ring_append, front_place}
 use Rattle.keeper.proofs.Drops.{both, back_length, front_kept, front_dropped, front_length, each_back, each_front, above_front, above_back, fresh_front, fresh_front_lem, taken, all_taken, spread}
 
@@ -171,6 +171,10 @@ order_of k = Order k.keeper.look k.keeper.head k.keeper.len k.keeper.frame (entr
 pub ready_order : (k : Keeping) → Ready k → order_of k
 ready_order k r = order-of k.keeper.look k.keeper.head k.keeper.len k.keeper.frame k.marks k.minima r.in_order
 
+-- its entries lie inside its stores
+pub ready_placed : {A : Type 0} (k : Keeping) (store : List A) → Ready k → length store ≡ k.keeper.look + 1 → Placed k.keeper store
+ready_placed k store r fits = let o = ready_order k r in record { fits = fits; inside = o.inside; few = o.few }
+
 -- the front of a ring that has one
 front_in : List Entry → Entry
 front_in [] = record { mark = 0; minimum = nan }
@@ -317,10 +321,6 @@ module _ (k : Keeping) (x : Float) (r : Ready k) (rg : Float) (gain : rg ≡ uni
             let b = back_most k x r in
             let l = left_most k x r in
             (rw head_is (head_inside k x r), rw left_count (left_room k x r), omega (arith, left_count))
-
-        -- the place of the new entry
-        pub place_fits : (place : ℕ) → place ≡ wrap (k.keeper.look + 1) (head + left) → place < k.keeper.look + 1
-        place_fits place placed = let f = front_fits in rw placed (wrap_below (k.keeper.look + 1) (head + left) (omega arith))
 
         pub step_done : (place : ℕ) → place ≡ wrap (k.keeper.look + 1) (head + left) → ◌≡◌ {A = Stepped}
             (record {

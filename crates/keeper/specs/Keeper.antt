@@ -1,29 +1,28 @@
 -- The floor keeper's calls: what each answers, and the keeper and both stores afterwards, for all inputs.
-use Rattle.std.specs.Prelude.{ℕ, ◌+◌, ◌-◌, ◌≤◌, ◌≡◌, Bool, true, cond, ◌&&◌, List, [], ◌∷◌, leb, eqb, length, set, replicate, Float}
+use Rattle.std.specs.Prelude.{ℕ, Result, Ok, Err, ◌+◌, ◌-◌, ◌≤◌, ◌≡◌, Bool, true, cond, ◌&&◌, List, [], ◌∷◌, leb, eqb, length, set, replicate, Float}
 use Rattle.arithmetic.specs.Number
 use Rattle.arithmetic.specs.Sanitize.{unit_gain}
 use Rattle.arithmetic.specs.Reply.{Reply, finished, refused, count, float, unless}
 use Rattle.keeper.specs.Ring.{Entry, wrap, ring_of, drop_back, drop_front, front_of}
 use Rattle.keeper.specs.InOrder.{most_frames, is_in_order}
 use Rattle.keeper.specs.declared.FloorKeeper.{FloorKeeper}
-use Rattle.keeper.specs.declared.SetupAnswer.{SetupAnswer}
-use Rattle.keeper.specs.declared.StepAnswer.{StepAnswer}
-use Rattle.keeper.specs.declared.KeeperSetUp.{KeeperSetUp}
-use Rattle.keeper.specs.declared.FloorStep.{FloorStep}
-use Rattle.keeper.specs.declared.KeeperStepped.{KeeperStepped}
+use Rattle.keeper.specs.declared.KeeperRefusal.{KeeperRefusal}
+use Rattle.keeper.specs.declared.Floored.{Floored}
 
--- ---- document 01's number and values for each case of the answers
-abbrev pub setup_reply : SetupAnswer → Reply
-setup_reply SetupAnswer.Finished = finished []
-setup_reply SetupAnswer.LookOutOfRange = refused 12 []
-setup_reply SetupAnswer.StoreLength = refused 16 []
+-- ---- document 01's number for each refusal, and number and values for what a call answers
+abbrev pub refusal_number : KeeperRefusal → ℕ
+refusal_number KeeperRefusal.LookOutOfRange = 12
+refusal_number KeeperRefusal.StoreLength = 16
+refusal_number KeeperRefusal.OutOfOrder = 19
+refusal_number KeeperRefusal.FramesSpent = 22
 
-abbrev pub step_reply : StepAnswer → Reply
-step_reply (StepAnswer.Finished floor dropped kept) = finished (float floor ∷ count dropped ∷ count kept ∷ [])
-step_reply StepAnswer.LookOutOfRange = refused 12 []
-step_reply StepAnswer.StoreLength = refused 16 []
-step_reply StepAnswer.OutOfOrder = refused 19 []
-step_reply StepAnswer.FramesSpent = refused 22 []
+abbrev pub setup_reply : Result FloorKeeper KeeperRefusal → Reply
+setup_reply (Ok keeper) = finished []
+setup_reply (Err why) = refused (refusal_number why) []
+
+abbrev pub step_reply : Result Floored KeeperRefusal → Reply
+step_reply (Ok s) = finished (float s.floor ∷ count s.dropped ∷ count s.kept ∷ [])
+step_reply (Err why) = refused (refusal_number why) []
 
 -- ---- a keeper with its lent stores
 pub record Keeping : Type 0 where
@@ -50,23 +49,38 @@ look_taken look = leb 11 look && leb look 4096
 abbrev pub stores_fit : ℕ → List ℕ → List Float → Bool
 stores_fit look marks minima = eqb (length marks) (look + 1) && eqb (length minima) (look + 1)
 
+-- a keeper with no frame taken
+abbrev pub fresh_keeper : ℕ → FloorKeeper
+fresh_keeper look = record { look = look; head = 0; len = 0; frame = 0 }
+
+-- a store of look + 1 places, and in it the places of the kept entries
+pub record Placed {A : Type 0} (k : FloorKeeper) (store : List A) : Type 0 where
+  pub fits : length store ≡ k.look + 1
+  pub inside : k.head ≤ k.look
+  pub few : k.len ≤ k.look + 1
+
 -- what a call leaves: its reply, and keeper and stores
 pub record KeeperLeft : Type 0 where
   pub reply : Reply
   pub keeping : Keeping
 
--- read off the result and the stores at exit
-abbrev pub setup_at : KeeperSetUp → List ℕ → List Float → KeeperLeft
-setup_at r marks minima = record { reply = setup_reply r.answer; keeping = keeping_at r.keeper marks minima }
+-- read off the result, the keeper and the stores at exit; a refused setup leaves a keeper that is not set up
+abbrev pub keeper_set_up : Result FloorKeeper KeeperRefusal → FloorKeeper
+keeper_set_up (Ok keeper) = keeper
+keeper_set_up (Err why) = fresh_keeper 0
 
-abbrev pub step_at : KeeperStepped → List ℕ → List Float → KeeperLeft
-step_at r marks minima = record { reply = step_reply r.answer; keeping = keeping_at r.keeper marks minima }
+abbrev pub setup_at : Result FloorKeeper KeeperRefusal → List ℕ → List Float → KeeperLeft
+setup_at r marks minima = record { reply = setup_reply r; keeping = keeping_at (keeper_set_up r) marks minima }
+
+abbrev pub step_at : Result Floored KeeperRefusal → FloorKeeper → List ℕ → List Float → KeeperLeft
+step_at r k marks minima = record { reply = step_reply r; keeping = keeping_at k marks minima }
+
+-- what a judgement answers: the refusal's number, or 0
+abbrev pub refusal_of : Result (Unit {0}) KeeperRefusal → ℕ
+refusal_of (Ok taken) = 0
+refusal_of (Err why) = refusal_number why
 
 -- ---- setup
--- a keeper with no frame taken
-abbrev pub fresh_keeper : ℕ → FloorKeeper
-fresh_keeper look = record { look = look; head = 0; len = 0; frame = 0 }
-
 -- the refusal in the table's order; 0 where there is none
 abbrev pub setup_refusal : ℕ → List ℕ → List Float → ℕ
 setup_refusal look marks minima = unless (look_taken look) 12 (unless (stores_fit look marks minima) 16 0)
@@ -85,9 +99,9 @@ pub record Stepped : Type 0 where
   pub dropped : ℕ
   pub keeping : Keeping
 
--- read off the inner step's result and the stores at exit
-abbrev pub inner_at : FloorStep → List ℕ → List Float → Stepped
-inner_at r marks minima = record { floor = r.floor; dropped = r.dropped; keeping = keeping_at r.keeper marks minima }
+-- read off the inner step's result, the keeper and the stores at exit
+abbrev pub inner_at : Floored → FloorKeeper → List ℕ → List Float → Stepped
+inner_at r k marks minima = record { floor = r.floor; dropped = r.dropped; keeping = keeping_at k marks minima }
 
 -- A step of a keeper in order. The gain's entry goes behind the entries that are left, at one place of each store.
 unfoldable pub stepped_of : Keeping → Float → Stepped

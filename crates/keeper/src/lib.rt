@@ -1,23 +1,22 @@
 // Module 4 of document 01: the floor keeper, from `step_env` of limiter.rs. It keeps the least of
 // the latest look + 1 gains in a ring of entries that rise from front to back; the front is the
-// floor. The state goes in and comes back by value, and the entries lie in two lent stores.
+// floor. The entries lie in two lent stores.
 #![tactic(auto)]
 
 ghost use Rattle.std.specs.Prelude.{◌≡◌, ◌+◌, ◌≤◌, length};
 ghost use Rattle.keeper.specs.InOrder.{most_frames};
-ghost use Rattle.keeper.specs.Keeper.{fresh_keeper, keeping_at, ordered, setup_at, setup_of, Ready, inner_at, stepped_of, step_at, step_of};
+ghost use Rattle.keeper.specs.Keeper.{refusal_of, setup_refusal, step_refusal, fresh_keeper, keeping_at, ordered, setup_at, setup_of, Ready, inner_at, stepped_of, step_at, step_of};
 ghost use Rattle.keeper.specs.Run.{floors_at, floors_of};
 
 mod order;
 mod ring;
 
 pub use crate::order::look_taken;
-use crate::order::{MOST_FRAMES, counts_in_order, ring_in_order, stores_fit};
-pub use crate::ring::{clear_marks, clear_minima, fill};
-use crate::ring::{drop_back, drop_front, wrap};
+use crate::order::{MOST_FRAMES, stores_fit};
 use arithmetic::sanitize::unit_gain;
 
-// The Rust's look, wedge_head, wedge_len and frame.
+// The Rust's look, wedge_head, wedge_len and frame. Marks and minima are two slices, with a place for
+// each entry in both: the C interface lends them so (`daggeryuzu_setup`).
 #[derive(Clone, Copy)]
 pub struct FloorKeeper {
     // frames by which the audio is held back
@@ -30,49 +29,35 @@ pub struct FloorKeeper {
     pub frame: u64,
 }
 
-// What a setup answers: finished, or the refusal 12 or 16.
-#[derive(Clone, Copy)]
-pub enum SetupAnswer {
-    Finished,
-    LookOutOfRange,
-    StoreLength,
-}
-
-// What a step answers: the floor, how many entries it dropped at back and front together, and how
-// many it keeps; or the refusal 12, 16, 19 or 22.
-#[derive(Clone, Copy)]
-pub enum StepAnswer {
-    Finished {
-        floor: f64,
-        dropped: usize,
-        kept: usize,
-    },
+// Why a call is refused: 12, 16, 19 or 22. Of a setup only the first two are judged.
+#[derive(Clone, Copy, Debug, PartialEq, Eq)]
+pub enum KeeperRefusal {
     LookOutOfRange,
     StoreLength,
     OutOfOrder,
     FramesSpent,
 }
 
-// A setup's answer, and the keeper: not set up (look 0) where it is refused.
+// What a step tells: the floor, how many entries it dropped at back and front together, and how
+// many it keeps.
 #[derive(Clone, Copy)]
-pub struct KeeperSetUp {
-    pub answer: SetupAnswer,
-    pub keeper: FloorKeeper,
-}
-
-// A step's answer, and the keeper: as it was where the step is refused.
-#[derive(Clone, Copy)]
-pub struct KeeperStepped {
-    pub answer: StepAnswer,
-    pub keeper: FloorKeeper,
-}
-
-// What the inner step hands back. The entries kept are the keeper's len.
-#[derive(Clone, Copy)]
-pub struct FloorStep {
+pub struct Floored {
     pub floor: f64,
     pub dropped: usize,
-    pub keeper: FloorKeeper,
+    pub kept: usize,
+}
+
+// Whether a look and its stores are taken: 12 and 16.
+fn judge_stores(look: usize, marks: &[u64], minima: &[f64]) -> Result<(), KeeperRefusal>
+    ensures { refusal_of result ≡ setup_refusal look marks.now minima.now }
+{
+    if !look_taken(look) {
+        return Err(KeeperRefusal::LookOutOfRange);
+    }
+    if !stores_fit(look, marks, minima) {
+        return Err(KeeperRefusal::StoreLength);
+    }
+    Ok(())
 }
 
 impl FloorKeeper {
@@ -88,68 +73,52 @@ impl FloorKeeper {
         }
     }
 
-    // Both stores are filled with 0, unless the call is refused.
-    pub fn setup(look: usize, marks: &mut [u64], minima: &mut [f64]) -> KeeperSetUp
+    // Both stores are filled with 0; a refused call leaves them as they were.
+    pub fn setup(
+        look: usize,
+        marks: &mut [u64],
+        minima: &mut [f64],
+    ) -> Result<FloorKeeper, KeeperRefusal>
         ensures { setup_at result marks.new minima.new ≡ setup_of look marks.old minima.old }
     {
-        if !look_taken(look) {
-            return KeeperSetUp {
-                answer: SetupAnswer::LookOutOfRange,
-                keeper: FloorKeeper::fresh(0),
-            };
-        }
-        if !stores_fit(look, marks, minima) {
-            return KeeperSetUp {
-                answer: SetupAnswer::StoreLength,
-                keeper: FloorKeeper::fresh(0),
-            };
-        }
-        clear_marks(marks);
-        clear_minima(minima);
-        KeeperSetUp {
-            answer: SetupAnswer::Finished,
-            keeper: FloorKeeper::fresh(look),
-        }
+        judge_stores(look, marks, minima)?;
+        marks.fill(0);
+        minima.fill(0.0);
+        Ok(FloorKeeper::fresh(look))
     }
 
     // Whether keeper and stores are in order, in one pass over the entries kept.
+    #[tactic(auto, unfolding(crate::specs::InOrder::is_in_order))]
     pub fn in_order(self, marks: &[u64], minima: &[f64]) -> bool
         requires { (length marks.now ≡ self.look + 1) × (length minima.now ≡ self.look + 1) }
         ensures { result ≡ ordered (keeping_at self marks.now minima.now) }
     {
-        if !counts_in_order(self.look, self.head, self.len, self.frame) {
-            return false;
-        }
-        ring_in_order(marks, minima, self.look, self.head, self.len, self.frame)
+        self.counts_in_order() && self.ring_in_order(marks, minima)
     }
 
     // One gain step of a keeper in order, for a caller that goes frame by frame: nothing is
     // scanned, and each entry is dropped once.
-    pub fn step_in_order(self, marks: &mut [u64], minima: &mut [f64], gain: f64) -> FloorStep
-        requires { Ready (keeping_at self marks.old minima.old) }
-        ensures { inner_at result marks.new minima.new
-            ≡ stepped_of (keeping_at self marks.old minima.old) gain }
+    pub fn step_in_order(&mut self, marks: &mut [u64], minima: &mut [f64], gain: f64) -> Floored
+        requires { Ready (keeping_at self.old marks.old minima.old) }
+        ensures stepped { inner_at result self.new marks.new minima.new
+            ≡ stepped_of (keeping_at self.old marks.old minima.old) gain }
+        ensures kept { result.kept ≡ self.new.len }
     {
-        let look = self.look;
-        let frame = self.frame;
-        let cap = look + 1;
         let rg = unit_gain(gain);
-        let back = drop_back(minima, cap, self.head, self.len, rg);
-        let front = drop_front(marks, look, self.head, back, frame);
-        let head = front.head;
-        let left = front.len;
-        let place = wrap(cap, head + left);
-        marks[place] = frame;
+        let back = self.drop_back(minima, rg);
+        let front = self.drop_front(marks, back);
+        let dropped = self.len - front.len;
+        self.head = front.head;
+        self.len = front.len;
+        let place = self.place(self.len);
+        marks[place] = self.frame;
         minima[place] = rg;
-        FloorStep {
-            floor: minima[head],
-            dropped: self.len - left,
-            keeper: FloorKeeper {
-                look,
-                head,
-                len: left + 1,
-                frame: frame + 1,
-            },
+        self.len += 1;
+        self.frame += 1;
+        Floored {
+            floor: minima[self.head],
+            dropped,
+            kept: self.len,
         }
     }
 
@@ -165,53 +134,38 @@ impl FloorKeeper {
         ensures { floors_at result marks.new minima.new gains.new
             ≡ floors_of (keeping_at self marks.old minima.old) gains.old }
     {
-        let n = gains.len();
         let mut k = self;
-        for i in 0..n {
-            let step = k.step_in_order(marks, minima, gains[i]);
-            gains[i] = step.floor;
-            k = step.keeper;
+        for gain in gains.iter_mut() {
+            *gain = k.step_in_order(marks, minima, *gain).floor;
         }
         k
     }
 
-    // One gain step of any keeper on any stores.
-    pub fn step(self, marks: &mut [u64], minima: &mut [f64], gain: f64) -> KeeperStepped
-        ensures { step_at result marks.new minima.new ≡ step_of (keeping_at self marks.old minima.old) gain }
+    // Whether a step is taken: 12, 16, 19 and 22.
+    fn judge(self, marks: &[u64], minima: &[f64]) -> Result<(), KeeperRefusal>
+        ensures { refusal_of result ≡ step_refusal (keeping_at self marks.now minima.now) }
     {
-        if !look_taken(self.look) {
-            return KeeperStepped {
-                answer: StepAnswer::LookOutOfRange,
-                keeper: self,
-            };
-        }
-        if !stores_fit(self.look, marks, minima) {
-            return KeeperStepped {
-                answer: StepAnswer::StoreLength,
-                keeper: self,
-            };
-        }
+        judge_stores(self.look, marks, minima)?;
         if !self.in_order(marks, minima) {
-            return KeeperStepped {
-                answer: StepAnswer::OutOfOrder,
-                keeper: self,
-            };
+            return Err(KeeperRefusal::OutOfOrder);
         }
         if self.frame >= MOST_FRAMES {
-            return KeeperStepped {
-                answer: StepAnswer::FramesSpent,
-                keeper: self,
-            };
+            return Err(KeeperRefusal::FramesSpent);
         }
-        let done = self.step_in_order(marks, minima, gain);
-        let keeper = done.keeper;
-        KeeperStepped {
-            answer: StepAnswer::Finished {
-                floor: done.floor,
-                dropped: done.dropped,
-                kept: keeper.len,
-            },
-            keeper,
-        }
+        Ok(())
+    }
+
+    // One gain step of any keeper on any stores; a refused one changes nothing.
+    pub fn step(
+        &mut self,
+        marks: &mut [u64],
+        minima: &mut [f64],
+        gain: f64,
+    ) -> Result<Floored, KeeperRefusal>
+        ensures { step_at result self.new marks.new minima.new
+            ≡ step_of (keeping_at self.old marks.old minima.old) gain }
+    {
+        self.judge(marks, minima)?;
+        Ok(self.step_in_order(marks, minima, gain))
     }
 }

@@ -17,13 +17,22 @@ use Rattle.keeper.specs.Keeper.{keeping_at, ordered}
 use Rattle.envelope.specs.Row.{row_in_order}
 use Rattle.settings.specs.Derived.{look_of}
 use Rattle.envelope.specs.Step.{EnvReady}
-use Rattle.frame.specs.Run.{Sanitized, RunReady}
-use Rattle.limiter.specs.Stores.{Stores, lengths_of}
+use Rattle.envelope.specs.declared.env.Envelope.{Envelope}
+use Rattle.frame.specs.Run.{Sanitized, RunReady, done_at}
+use Rattle.frame.specs.Lent.{moving_in}
+use Rattle.frame.specs.declared.stores.Lent.{Lent}
+use Rattle.limiter.specs.Stores.{Stores, lengths_of, stores_in, with_weights}
 use Rattle.limiter.specs.Order.{prepared, is_in_order}
-use Rattle.limiter.specs.Run.{moving_of, KernelReady}
+use Rattle.limiter.specs.Run.{moving_of, moved_on, ran_at, ran_by, KernelReady}
 use Rattle.limiter.specs.declared.state.Limiter.{Limiter}
 use Rattle.limiter.proofs.Judge.{fit}
 use Rattle.limiter.proofs.Ready.{prepared_is}
+
+-- ---- what a run leaves: of the lent stores, only the weights are not written
+pub ran_in : (s : Limiter) (weights : List Float) (target : Float) (drained : ℕ) (env : Envelope) (pos : ℕ) (l : Lent) (audio : List Float) → l.weights.now ≡ weights
+    → ran_at (moved_on s env pos target drained) (stores_in l) audio ≡ ran_by s weights target drained (done_at (moving_in env pos l) audio)
+ran_in s weights target drained env pos l audio e =
+    ap (λ (w : List Float). ran_at (moved_on s env pos target drained) (with_weights w (stores_in l)) audio) e
 
 -- ---- what 19 says
 pub record Ordered (l : Limiter) (marks : List ℕ) (minima row : List Float) : Type 0 where

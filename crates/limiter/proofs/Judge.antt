@@ -1,32 +1,29 @@
 -- What the tests of setup come to, on plain values.
 use mathlib.Core.Path.{◌≡◌, refl, sym, ap, ◌∙◌}
 use mathlib.Core.Bool.{Bool, true, false, cond, not, ◌&&◌, ◌||◌}
-use mathlib.Core.List.{List}
+use Rattle.std.specs.Prelude.{Result, Ok, Err}
 use Prim.Native.Nat.{ℕ, ◌+◌, ◌*◌, ◌≤◌}
 use native.Mathlib.Omega.{arith}
 use lib.Dec.{eqb, leb}
 use lib.ListN.{length}
-use lib.Ieee.{Float}
 use borrow.Author.Tests.{eqb-true, leb-true}
 use Rattle.arithmetic.proofs.Order.{and-true}
 use Rattle.arithmetic.proofs.Passed.{passed_unless, passed_then}
-use Rattle.arithmetic.specs.Reply.{Reply, numbered, unless, and_then}
+use Rattle.arithmetic.specs.Reply.{Reply, numbered, unless}
 use Rattle.settings.specs.Derived.{look_of, row_of}
 use Rattle.settings.specs.Memory.{needed, cap_judged, cap_reply}
 use Rattle.settings.specs.Weights.{accepted}
 use Rattle.settings.specs.House.{house_fits, house_of, weights_for}
-use Rattle.settings.specs.Accepted.{refusal_of, refusal_number}
+use Rattle.settings.specs.Accepted.{refusal_of}
 use Rattle.settings.specs.declared.LimiterSettings.{LimiterSettings}
 use Rattle.settings.specs.declared.ProcessSpec.{ProcessSpec}
-use Rattle.settings.specs.declared.accepted.SettingsRefusal.{SettingsRefusal}
-use Rattle.settings.specs.declared.memory.CapJudged.{CapJudged}
 use Rattle.settings.proofs.Taken.{taken, refused_number}
 use Rattle.settings.proofs.Stretches.{house_accepted, house_length}
-use Rattle.limiter.specs.Prepare.{prepare_reply, stores_refusal, prepare_refusal, limiter_left, filled_for, prepare_of}
-use Rattle.limiter.specs.State.{not_set_up, started}
+use Rattle.limiter.specs.Prepare.{refusal_reply, prepare_reply, prepare_refusal, prepared_at, filled_for, prepare_of}
+use Rattle.limiter.specs.State.{started}
 use Rattle.limiter.specs.Stores.{Stores, lengths_of, lengths_fit}
-use Rattle.limiter.specs.declared.prepare.PrepareAnswer.{PrepareAnswer}
-use Rattle.limiter.specs.declared.prepare.PrepareAnswer.TheVariants.{Finished, Settings, OverCap, NoHouse, StoreLength, Weights}
+use Rattle.limiter.specs.declared.prepare.PrepareRefusal.{PrepareRefusal}
+use Rattle.limiter.specs.declared.prepare.PrepareRefusal.TheVariants as Why
 use Rattle.limiter.specs.declared.stores.StoreLengths.{StoreLengths}
 
 -- what fitting lengths say
@@ -73,41 +70,13 @@ bounds s spec look h e =
     let j = and-true (leb 11 derived) (leb derived 4096) t.look_is in
     (leb-true spec.channels 8 k.1, rw e (leb-true derived 4096 j.1))
 
--- ---- the reply of setup, from what the code finds
-module _ (s : LimiterSettings) (spec : ProcessSpec) (l : StoreLengths) (weights : List Float) where
-  -- 8 to 14
-  pub at_settings : (why : SettingsRefusal) → refusal_of s spec ≡ refusal_number why → numbered (refusal_number why) ≡ prepare_refusal s spec l weights
-  at_settings why n = rw (n, refused_number why) refl
-
-  -- none of these: 15, then 29, 16 and 17
-  pub past_settings : (look need : ℕ) (told : CapJudged) → refusal_of s spec ≡ 0 → look ≡ look_of s.lookahead_ms spec.rate → need ≡ needed spec.channels look → told ≡ cap_judged need spec.cap
-      → and_then (cap_reply 15 told) (numbered (stores_refusal spec look l weights)) ≡ prepare_refusal s spec l weights
-  past_settings look need told z L N C = rw (z, C, N, L) refl
-
--- ---- 29, 16 and 17, the first that arises
-module _ (spec : ProcessSpec) (look : ℕ) (l : StoreLengths) (weights : List Float) where
-  abbrev housed : Bool
-  housed = not spec.house || house_fits spec.rate look
-
-  pub house_first : housed ≡ false → numbered 29 ≡ numbered (stores_refusal spec look l weights)
-  house_first h = rw h refl
-
-  module _ (h : housed ≡ true) where
-    pub lengths_next : lengths_fit spec.channels look l ≡ false → numbered 16 ≡ numbered (stores_refusal spec look l weights)
-    lengths_next f = rw (h, f) refl
-
-    pub weights_last : lengths_fit spec.channels look l ≡ true → (b : Bool) → (spec.house || accepted weights) ≡ b → numbered (unless b 17 0) ≡ numbered (stores_refusal spec look l weights)
-    weights_last f b e = rw (h, f, e) refl
-
--- ---- finished answers
--- only `Finished` has number 0
-pub other_case : (a : PrepareAnswer) → (a ≡ Finished → ⊥) → false ≡ eqb (prepare_reply a).number 0
-other_case Finished o = absurd (o refl)
-other_case (Settings why) o = sym (refused_number why)
-other_case (OverCap need cap) o = refl
-other_case NoHouse o = refl
-other_case StoreLength o = refl
-other_case Weights o = refl
+-- no refusal has the number of finished work
+pub refused_case : (why : PrepareRefusal) → eqb (refusal_reply why).number 0 ≡ false
+refused_case (Why.Settings why) = refused_number why
+refused_case (Why.OverCap over) = refl
+refused_case Why.NoHouse = refl
+refused_case Why.StoreLength = refl
+refused_case Why.Weights = refl
 
 -- ---- what a setup that nothing refuses has passed
 pub record Passed (s : LimiterSettings) (spec : ProcessSpec) (stores : Stores) : Type 0 where
@@ -142,18 +111,18 @@ weights_ready s spec stores p = go spec.house p.housed p.weighed
     go true h a = (house_length spec.rate _ h, house_accepted spec.rate _ h)
     go false h a = ((fit spec.channels (look_of s.lookahead_ms spec.rate) (lengths_of stores) p.fitting).weights_is, a)
 
--- ---- what setup leaves
-module _ (s : LimiterSettings) (spec : ProcessSpec) (stores : Stores) (r : Reply) (J : r ≡ prepare_refusal s spec (lengths_of stores) stores.weights) (b : Bool) (B : b ≡ eqb r.number 0) where
-  test : eqb (prepare_refusal s spec (lengths_of stores) stores.weights).number 0 ≡ b
-  test = sym (B ∙ ap (λ (z : Reply). eqb z.number 0) J)
+-- ---- what setup leaves, by what is judged of the lengths that were found
+module _ (s : LimiterSettings) (spec : ProcessSpec) (stores : Stores) (l : StoreLengths) (L : l ≡ lengths_of stores) (r : Result (Unit {0}) PrepareRefusal) (J : prepare_reply r ≡ prepare_refusal s spec l stores.weights) where
+  judged : prepare_reply r ≡ prepare_refusal s spec (lengths_of stores) stores.weights
+  judged = J ∙ ap (λ (l : StoreLengths). prepare_refusal s spec l stores.weights) L
 
-  pub refused_prepare : b ≡ false → limiter_left r not_set_up stores ≡ prepare_of s spec stores
+  pub refused_prepare : (why : PrepareRefusal) → r ≡ Err why → prepared_at (Err why) stores ≡ prepare_of s spec stores
   unfolding prepare_of
-  refused_prepare e = rw (test ∙ e) (ap (λ (z : Reply). limiter_left z not_set_up stores) J)
+  refused_prepare why e = rw (← judged, e, refused_case why) refl
 
-  pub finished_prepare : b ≡ true → limiter_left r (started s spec) (filled_for s spec stores) ≡ prepare_of s spec stores
+  pub finished_prepare : (u : Unit {0}) → r ≡ Ok u → prepared_at (Ok (started s spec)) (filled_for s spec stores) ≡ prepare_of s spec stores
   unfolding prepare_of
-  finished_prepare e = rw (test ∙ e) (ap (λ (z : Reply). limiter_left z (started s spec) (filled_for s spec stores)) J)
+  finished_prepare u e = rw (← judged, e) refl
 
-  pub all_passed : b ≡ true → Passed s spec stores
-  all_passed e = passed s spec stores (eqb-true _ 0 (test ∙ e))
+  pub all_passed : (u : Unit {0}) → r ≡ Ok u → Passed s spec stores
+  all_passed u e = passed s spec stores (ap (λ (z : Reply). z.number) (sym judged ∙ ap prepare_reply e))

@@ -3,6 +3,7 @@ use Prim.Native.Nat.{ℕ, ◌+◌}
 use mathlib.Core.Path.{◌≡◌, refl}
 use mathlib.Core.Bool.{true, false}
 use mathlib.Core.List.{List, [], ◌∷◌}
+use Rattle.std.specs.Prelude.{Option, Some, None}
 use lib.ListN.{replicate}
 use lib.Ieee.{Float, add, sub, mul, div, neg, lt, le, eq, ne, of_int, of_bits, to_bits, to_unsigned}
 use Rattle.arithmetic.specs.Number
@@ -17,7 +18,6 @@ use Rattle.settings.specs.Target.{target_of}
 use Rattle.settings.specs.Weights.{accepted}
 use Rattle.settings.specs.declared.LimiterSettings.{LimiterSettings}
 use Rattle.settings.specs.declared.ProcessSpec.{ProcessSpec}
-use Rattle.settings.specs.declared.memory.Cap.{Cap}
 use Rattle.frame.specs.Rules.{Rules}
 use Rattle.limiter.specs.State.{fresh_envelope, not_set_up, started}
 use Rattle.limiter.specs.Stores.{Stores, stores_at, lengths_fit}
@@ -33,7 +33,7 @@ abbrev pub settings11 : Float → LimiterSettings
 settings11 release = settings_of Number.zero Number.zero (bits 0x3ff6_0000_0000_0000) release all_count
 
 -- with a cap
-abbrev pub spec11 : Cap → ProcessSpec
+abbrev pub spec11 : Option ℕ → ProcessSpec
 spec11 cap = process_spec 8000 1 64 cap false
 
 -- with a release, its coefficient, a delay position and a drained count; no frame taken
@@ -63,19 +63,19 @@ numbers = ⊥
 
 -- ---- setup
 -- a refusal told where the setup finished
-pub setup_finished : (prepare_of (settings11 Number.zero) (spec11 Cap.Unlimited) (stores11 (one ∷ []) (one ∷ []))).reply ≡ finished []
+pub setup_finished : (prepare_of (settings11 Number.zero) (spec11 None) (stores11 (one ∷ []) (one ∷ []))).reply ≡ finished []
 unfolding prepare_of accepted numbers
 setup_finished = refl
 
 -- 15 with the bytes needed in the place of the cap left: 776 twice
-pub cap_told : (prepare_of (settings11 Number.zero) (spec11 (Cap.Bytes 100)) (stores11 (one ∷ []) (one ∷ []))).reply ≡ refused 15 (count 776 ∷ count 100 ∷ [])
+pub cap_told : (prepare_of (settings11 Number.zero) (spec11 (Some 100)) (stores11 (one ∷ []) (one ∷ []))).reply ≡ refused 15 (count 776 ∷ count 100 ∷ [])
 unfolding prepare_of accepted numbers
 cap_told = refl
 
 -- stores filled where 17 is answered: the weight is 0.5 alone
 pub stores_left :
-    ((prepare_of (settings11 Number.zero) (spec11 Cap.Unlimited) (stores11 (half ∷ []) (half ∷ []))).reply ≡ numbered 17)
-    × ((prepare_of (settings11 Number.zero) (spec11 Cap.Unlimited) (stores11 (half ∷ []) (half ∷ []))).stores ≡ stores11 (half ∷ []) (half ∷ []))
+    ((prepare_of (settings11 Number.zero) (spec11 None) (stores11 (half ∷ []) (half ∷ []))).reply ≡ numbered 17)
+    × ((prepare_of (settings11 Number.zero) (spec11 None) (stores11 (half ∷ []) (half ∷ []))).stores ≡ stores11 (half ∷ []) (half ∷ []))
 unfolding prepare_of accepted numbers
 stores_left = (refl, refl)
 

@@ -1,5 +1,6 @@
 -- Setup of the limiter alone: the refusals 8 to 17 in the table's order, with 29 of document 02's Change 6, and what a finished one leaves.
-use Rattle.std.specs.Prelude.{ℕ, cond, not, ◌||◌, List, [], eqb, Float}
+use Rattle.std.specs.Prelude.{ℕ, cond, not, ◌||◌, List, [], Result, Ok, Err, eqb, Float}
+use Rattle.std.specs.Result.{result_unwrap_or}
 use Rattle.arithmetic.specs.Reply.{Reply, finished, numbered, unless, and_then}
 use Rattle.settings.specs.Derived.{look_of}
 use Rattle.settings.specs.Memory.{needed, cap_judged, cap_reply}
@@ -8,23 +9,25 @@ use Rattle.settings.specs.House.{house_fits, weights_for}
 use Rattle.settings.specs.Accepted.{refusal_of, refusal_number}
 use Rattle.settings.specs.declared.LimiterSettings.{LimiterSettings}
 use Rattle.settings.specs.declared.ProcessSpec.{ProcessSpec}
-use Rattle.settings.specs.declared.memory.CapJudged.{CapJudged}
 use Rattle.limiter.specs.State.{not_set_up, started}
 use Rattle.limiter.specs.Stores.{Stores, lengths_of, lengths_fit, filled, with_weights}
 use Rattle.limiter.specs.declared.state.Limiter.{Limiter}
-use Rattle.limiter.specs.declared.prepare.PrepareAnswer.{PrepareAnswer}
-use Rattle.limiter.specs.declared.prepare.PrepareAnswer.TheVariants.{Finished, Settings, OverCap, NoHouse, StoreLength, Weights}
-use Rattle.limiter.specs.declared.prepare.Prepared.{Prepared}
+use Rattle.limiter.specs.declared.prepare.PrepareRefusal.{PrepareRefusal}
+use Rattle.limiter.specs.declared.prepare.PrepareRefusal.TheVariants.{Settings, OverCap, NoHouse, StoreLength, Weights}
 use Rattle.limiter.specs.declared.stores.StoreLengths.{StoreLengths}
 
--- document 01's number and values for each case: 15 carries needed and the cap left
-abbrev pub prepare_reply : PrepareAnswer → Reply
-prepare_reply Finished = finished []
-prepare_reply (Settings why) = numbered (refusal_number why)
-prepare_reply (OverCap need cap) = cap_reply 15 (CapJudged.Over need cap)
-prepare_reply NoHouse = numbered 29
-prepare_reply StoreLength = numbered 16
-prepare_reply Weights = numbered 17
+-- document 01's number and values for each refusal: 15 carries needed and the cap left
+abbrev pub refusal_reply : PrepareRefusal → Reply
+refusal_reply (Settings why) = numbered (refusal_number why)
+refusal_reply (OverCap over) = cap_reply 15 (Err over)
+refusal_reply NoHouse = numbered 29
+refusal_reply StoreLength = numbered 16
+refusal_reply Weights = numbered 17
+
+-- 0 where nothing is refused
+abbrev pub prepare_reply : {A : Type 0} → Result A PrepareRefusal → Reply
+prepare_reply (Ok a) = finished []
+prepare_reply (Err why) = refusal_reply why
 
 -- "29 when a house table is asked for and the rate and look fit none of the four, checked just before 16"; 16; 17, which "doesn't judge" the weights where a house table is asked for. 0 where none
 -- of them arises
@@ -48,8 +51,9 @@ pub record LimiterLeft : Type 0 where
 abbrev pub limiter_left : Reply → Limiter → Stores → LimiterLeft
 limiter_left reply limiter stores = record { reply = reply; limiter = limiter; stores = stores }
 
-abbrev pub prepared_at : Prepared → Stores → LimiterLeft
-prepared_at r stores = limiter_left (prepare_reply r.answer) r.limiter stores
+-- a refused setup hands out no limiter: what then stands in its place is not set up
+abbrev pub prepared_at : Result Limiter PrepareRefusal → Stores → LimiterLeft
+prepared_at r stores = limiter_left (prepare_reply r) (result_unwrap_or r not_set_up) stores
 
 -- the stores of a finished setup: filled, and the weights those that it goes by
 abbrev pub filled_for : LimiterSettings → ProcessSpec → Stores → Stores

@@ -1,5 +1,5 @@
 -- The limiter's state, and what a setup leaves.
-use Rattle.std.specs.Prelude.{false, ℕ}
+use Rattle.std.specs.Prelude.{false, ℕ, None}
 use Rattle.arithmetic.specs.Number
 use Rattle.arithmetic.specs.Number.{one}
 use Rattle.keeper.specs.Keeper.{fresh_keeper}
@@ -8,7 +8,6 @@ use Rattle.settings.specs.Derived.{look_of, coefficient_of}
 use Rattle.settings.specs.Target.{target_of}
 use Rattle.settings.specs.declared.LimiterSettings.{LimiterSettings}
 use Rattle.settings.specs.declared.ProcessSpec.{ProcessSpec}
-use Rattle.settings.specs.declared.memory.Cap.{Cap}
 use Rattle.envelope.specs.declared.env.Envelope.{Envelope}
 use Rattle.limiter.specs.declared.state.Limiter.{Limiter}
 
@@ -32,7 +31,7 @@ not_set_up = record {
 
 -- what setup was told; the cap is spent at setup and not kept, nor is it kept whether a house table was asked for
 abbrev pub spec_of : Limiter → ProcessSpec
-spec_of l = process_spec l.rate l.channels l.max_block Cap.Unlimited false
+spec_of l = process_spec l.rate l.channels l.max_block None false
 
 -- the starting values, with what the settings derive and the default threshold's target
 abbrev pub started : LimiterSettings → ProcessSpec → Limiter

@@ -3,6 +3,7 @@ use Rattle.std.specs.Prelude.{ℕ, ◌+◌, ◌*◌, Bool, ◌&&◌, List, eqb, 
 use Rattle.arithmetic.specs.Number
 use Rattle.arithmetic.specs.Number.{one}
 use Rattle.settings.specs.Derived.{row_of}
+use Rattle.frame.specs.declared.stores.Lent.{Lent}
 use Rattle.limiter.specs.declared.stores.StoreLengths.{StoreLengths}
 
 pub record Stores : Type 0 where
@@ -15,6 +16,10 @@ pub record Stores : Type 0 where
 
 abbrev pub stores_at : List Float → List ℕ → List Float → List Float → List Float → List Float → Stores
 stores_at delay marks minima weights row detector = record { delay = delay; marks = marks; minima = minima; weights = weights; row = row; detector = detector }
+
+-- read off what a host lends
+abbrev pub stores_in : Lent → Stores
+stores_in l = stores_at l.delay.now l.marks.now l.minima.now l.weights.now l.row.now l.detector.now
 
 -- the stores' lengths, in their order
 abbrev pub lengths_of : Stores → StoreLengths

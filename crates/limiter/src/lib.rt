@@ -3,7 +3,7 @@
 
 // The state.
 pub mod state;
-// Lengths and fills of the lent stores.
+// Lengths of the lent stores.
 pub mod stores;
 // Setup.
 pub mod prepare;

@@ -1,10 +1,10 @@
 // The kernel's share of 18, 16 and 19.
 ghost use Rattle.std.specs.Prelude.{◌≡◌, true, ◌+◌, length};
-ghost use Rattle.limiter.specs.Stores.{lengths_of, lengths_fit, stores_at};
+ghost use Rattle.limiter.specs.Stores.{lengths_fit};
 ghost use Rattle.limiter.specs.Order.{prepared, is_in_order};
 
 use crate::state::Limiter;
-use crate::stores::{lengths_fit, lengths_of};
+use crate::stores::{StoreLengths, lengths_fit};
 use arithmetic::number::unit;
 use arithmetic::pattern::same_value;
 
@@ -23,21 +23,11 @@ impl Limiter {
     }
 
     // 16: whether each store has its exact length.
-    pub fn stores_fit(
-        self,
-        delay: &[f64],
-        marks: &[u64],
-        minima: &[f64],
-        weights: &[f64],
-        row: &[f64],
-        detector: &[f64],
-    ) -> bool
+    pub fn stores_fit(self, lengths: StoreLengths) -> bool
         requires { prepared self ≡ true }
-        ensures { result
-            ≡ lengths_fit self.channels self.env.keeper.look (lengths_of (stores_at delay.now marks.now minima.now weights.now row.now detector.now)) }
+        ensures { result ≡ lengths_fit self.channels self.env.keeper.look lengths }
     {
-        let l = lengths_of(delay, marks, minima, weights, row, detector);
-        lengths_fit(self.channels, self.env.keeper.look, l)
+        lengths_fit(self.channels, self.env.keeper.look, lengths)
     }
 
     // 19: state and stores in order. The caller has judged the stores' lengths.

@@ -1,43 +1,42 @@
 // Setup of the limiter alone (`prepare` of limiter.rs).
-ghost use Rattle.std.specs.Prelude.{◌≡◌, true, not, ◌||◌, ◌≤◌, eqb, length};
+ghost use Rattle.std.specs.Prelude.{◌≡◌, true, not, ◌||◌, ◌≤◌, length};
 ghost use Rattle.arithmetic.specs.Reply.{numbered};
 ghost use Rattle.settings.specs.Derived.{look_of, row_of};
 ghost use Rattle.settings.specs.Weights.{accepted};
 ghost use Rattle.settings.specs.House.{house_fits, weights_for};
 ghost use Rattle.limiter.specs.Stores.{stores_at};
+ghost use Rattle.limiter.specs.declared.prepare.PrepareRefusal.TheVariants.{Settings, OverCap};
 ghost use Rattle.limiter.specs.Prepare.{prepare_reply, stores_refusal, prepare_refusal, prepared_at, prepare_of};
 
 use crate::state::Limiter;
-use crate::stores::{StoreLengths, fill, lengths_fit, lengths_of};
-use settings::accepted::{SettingsJudged, SettingsRefusal};
-use settings::memory::{CapJudged, bytes_needed, judge_cap};
+use crate::stores::{StoreLengths, lengths_fit, lengths_of};
+use settings::accepted::SettingsRefusal;
+use settings::memory::{OverCap, bytes_needed, judge_cap};
 use settings::{LimiterSettings, ProcessSpec};
 
-// What setup answers: finished, or the refusals 8 to 15, 29, 16 and 17 in this order, 15 with the bytes
-// needed and the cap that was left.
-#[derive(Clone, Copy)]
-pub enum PrepareAnswer {
-    Finished,
+// Why setup refuses: 8 to 15, 29, 16 and 17 in this order, 15 with the bytes needed and the cap that was left.
+#[derive(Clone, Copy, Debug, PartialEq, Eq)]
+pub enum PrepareRefusal {
     Settings(SettingsRefusal),
-    OverCap { needed: u64, cap: u64 },
+    OverCap(OverCap),
     NoHouse,
     StoreLength,
     Weights,
 }
 
-#[derive(Clone, Copy)]
-pub struct Prepared {
-    pub answer: PrepareAnswer,
-    pub limiter: Limiter,
+impl From<SettingsRefusal> for PrepareRefusal {
+    ghost from_gives = { λ why r. r ≡ Settings why };
+
+    fn from(why: SettingsRefusal) -> PrepareRefusal {
+        PrepareRefusal::Settings(why)
+    }
 }
 
-// Whether an answer is finished work, by its number.
-fn is_finished(answer: PrepareAnswer) -> bool
-    ensures { result ≡ eqb (prepare_reply answer).number 0 }
-{
-    match answer {
-        PrepareAnswer::Finished => true,
-        _ => false,
+impl From<OverCap> for PrepareRefusal {
+    ghost from_gives = { λ over r. r ≡ OverCap over };
+
+    fn from(over: OverCap) -> PrepareRefusal {
+        PrepareRefusal::OverCap(over)
     }
 }
 
@@ -53,14 +52,16 @@ fn weights_taken(house: bool, weights: &[f64]) -> bool
     requires { length weights.now ≤ 4096 }
     ensures { result ≡ (house || accepted weights.now) }
 {
-    if house {
-        return true;
-    }
-    settings::weights::accepted(weights)
+    house || settings::weights::accepted(weights)
 }
 
 // 29, 16 and 17, of a look that is taken.
-fn judge_stores(spec: ProcessSpec, look: usize, l: StoreLengths, weights: &[f64]) -> PrepareAnswer
+fn judge_stores(
+    spec: ProcessSpec,
+    look: usize,
+    l: StoreLengths,
+    weights: &[f64],
+) -> Result<(), PrepareRefusal>
     requires small { (spec.channels ≤ 8) × (look ≤ 4096) }
     requires weights_lent { l.weights ≡ length weights.now }
     ensures { prepare_reply result ≡ numbered (stores_refusal spec look l weights.now) }
@@ -68,33 +69,31 @@ fn judge_stores(spec: ProcessSpec, look: usize, l: StoreLengths, weights: &[f64]
     let housed = has_house(spec, look);
     let fitting = lengths_fit(spec.channels, look, l);
     if !housed {
-        return PrepareAnswer::NoHouse;
+        return Err(PrepareRefusal::NoHouse);
     }
     if !fitting {
-        return PrepareAnswer::StoreLength;
+        return Err(PrepareRefusal::StoreLength);
     }
-    if weights_taken(spec.house, weights) {
-        PrepareAnswer::Finished
-    } else {
-        PrepareAnswer::Weights
+    if !weights_taken(spec.house, weights) {
+        return Err(PrepareRefusal::Weights);
     }
+    Ok(())
 }
 
 // What setup answers, before anything is written.
-fn judge(s: LimiterSettings, spec: ProcessSpec, l: StoreLengths, weights: &[f64]) -> PrepareAnswer
+fn judge(
+    s: LimiterSettings,
+    spec: ProcessSpec,
+    l: StoreLengths,
+    weights: &[f64],
+) -> Result<(), PrepareRefusal>
     requires { l.weights ≡ length weights.now }
     ensures { prepare_reply result
         ≡ prepare_refusal s spec l weights.now }
 {
-    if let SettingsJudged::Refused(why) = settings::accepted::refusal(s, spec) {
-        return PrepareAnswer::Settings(why);
-    }
+    settings::accepted::refusal(s, spec)?;
     let look = settings::derived::look(s.lookahead_ms, spec.rate) as usize;
-    let cap = spec.cap;
-    let needed = bytes_needed(spec.channels, look);
-    if let CapJudged::Over { needed, cap } = judge_cap(needed, cap) {
-        return PrepareAnswer::OverCap { needed, cap };
-    }
+    judge_cap(bytes_needed(spec.channels, look), spec.cap)?;
     judge_stores(spec, look, l, weights)
 }
 
@@ -121,27 +120,18 @@ impl Limiter {
         weights: &mut [f64],
         row: &mut [f64],
         detector: &mut [f64],
-    ) -> Prepared
+    ) -> Result<Limiter, PrepareRefusal>
         ensures { prepared_at result (stores_at delay.new marks.new minima.new weights.new row.new detector.new)
             ≡ prepare_of s spec (stores_at delay.old marks.old minima.old weights.old row.old detector.old) }
     {
         let l = lengths_of(delay, marks, minima, weights, row, detector);
-        let answer = judge(s, spec, l, weights);
-        if !is_finished(answer) {
-            return Prepared {
-                answer,
-                limiter: Limiter::not_set_up(),
-            };
-        }
-        keeper::clear_marks(marks);
-        keeper::clear_minima(minima);
-        fill(delay, 0.0);
-        fill(row, 1.0);
-        fill(detector, 0.0);
+        judge(s, spec, l, weights)?;
+        delay.fill(0.0);
+        marks.fill(0);
+        minima.fill(0.0);
+        row.fill(1.0);
+        detector.fill(0.0);
         lay_weights(s, spec, weights);
-        Prepared {
-            answer,
-            limiter: Limiter::started(s, spec),
-        }
+        Ok(Limiter::started(s, spec))
     }
 }

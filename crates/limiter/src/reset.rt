@@ -5,7 +5,6 @@ ghost use Rattle.limiter.specs.Stores.{stores_at};
 ghost use Rattle.limiter.specs.Reset.{reset_at, reset_of};
 
 use crate::state::Limiter;
-use crate::stores::fill;
 
 impl Limiter {
     // The starting values again. Marks and minima are neither read nor written, whatever they hold.
@@ -15,9 +14,9 @@ impl Limiter {
             reset_at result (stores_at delay.new marks minima weights row.new detector.new)
             ≡ reset_of self (stores_at delay.old marks minima weights row.old detector.old) }
     {
-        fill(delay, 0.0);
-        fill(row, 1.0);
-        fill(detector, 0.0);
+        delay.fill(0.0);
+        row.fill(1.0);
+        detector.fill(0.0);
         Limiter::started(self.settings, self.spec())
     }
 }

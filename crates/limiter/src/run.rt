@@ -3,15 +3,16 @@
 ghost use Rattle.std.specs.Prelude.{◌≡◌, ◌+◌, ◌≤◌};
 ghost use Rattle.frame.specs.Rules.{rules_of};
 ghost use Rattle.frame.specs.Run.{Sanitized};
-ghost use Rattle.limiter.specs.Stores.{stores_at};
+ghost use Rattle.limiter.specs.Stores.{stores_in};
+ghost use Rattle.frame.specs.Lent.{Stays};
 ghost use Rattle.frame.specs.Place.{highest_from};
 ghost use Rattle.limiter.specs.Run.{moved_on, KernelReady, ran_at, render_of, drain_of, peaks_in};
 
 use crate::state::Limiter;
-use crate::stores::fill;
 use audio::format::Format;
 use frame::highest::{Highest, start_of};
-use frame::render::{Rendered, render_run};
+use frame::render::{Rendered, Terms, render_run};
+use frame::stores::Lent;
 
 // What a run leaves beside audio and stores: the limiter, and the highest linked peak so far of its block.
 #[derive(Clone, Copy)]
@@ -25,18 +26,12 @@ impl Limiter {
     fn moved_on(self, run: Rendered, target: f64, drained: usize) -> Limiter
         ensures { result ≡ moved_on self run.env run.pos target drained }
     {
-        let settings = self.settings;
-        let env = run.env;
         Limiter {
-            settings,
-            rate: self.rate,
-            channels: self.channels,
-            max_block: self.max_block,
-            release_coeff: self.release_coeff,
-            env,
+            env: run.env,
             delay_pos: run.pos,
             target,
             drained,
+            ..self
         }
     }
 
@@ -55,84 +50,49 @@ impl Limiter {
         target: f64,
         n: usize,
         audio: &mut [f64],
-        delay: &mut [f64],
-        marks: &mut [u64],
-        minima: &mut [f64],
-        weights: &[f64],
-        row: &mut [f64],
-        detector: &mut [f64],
+        lent: &mut Lent,
         first: usize,
         best: Highest,
     ) -> Moved
-        requires kernel_ready { KernelReady self n (stores_at delay.old marks.old minima.old weights.now row.old detector.old) audio.old }
+        requires kernel_ready { KernelReady self n (stores_in lent.old) audio.old }
         requires sanitized { Sanitized self.channels n audio.old }
         requires first_bound { first ≤ 65536 }
-        ensures run_done { ran_at result.limiter (stores_at delay.new marks.new minima.new weights.now row.new detector.new) audio.new
-            ≡ render_of (rules_of self.settings format) self target n (stores_at delay.old marks.old minima.old weights.now row.old detector.old) audio.old }
+        ensures stays { Stays lent.old lent.new }
+        ensures run_done { ran_at result.limiter (stores_in lent.new) audio.new
+            ≡ render_of (rules_of self.settings format) self target n (stores_in lent.old) audio.old }
         ensures highest_value { result.highest
-            ≡ highest_from first best (peaks_in (rules_of self.settings format) self target n (stores_at delay.old marks.old minima.old weights.now row.old detector.old) audio.old) }
+            ≡ highest_from first best (peaks_in (rules_of self.settings format) self target n (stores_in lent.old) audio.old) }
     {
-        let settings = self.settings;
-        let env = self.env;
-        let run = render_run(
-            settings,
+        let terms = Terms {
+            settings: self.settings,
             format,
-            env,
-            self.release_coeff,
+            coeff: self.release_coeff,
             target,
-            self.channels,
-            env.keeper.look,
-            self.delay_pos,
-            first,
-            best,
-            n,
-            audio,
-            delay,
-            marks,
-            minima,
-            weights,
-            row,
-            detector,
-        );
+            channels: self.channels,
+            look: self.env.keeper.look,
+        };
+        let from = Rendered {
+            env: self.env,
+            pos: self.delay_pos,
+            highest: best,
+        };
+        let run = render_run(terms, from, first, n, audio, lent);
         let highest = run.highest;
         let limiter = self.moved_on(run, target, 0);
         Moved { limiter, highest }
     }
 
     // Drains n frames of the tail: silence at the kept target. Nobody asks where its peaks sat.
-    pub fn drain(
-        self,
-        format: Format,
-        n: usize,
-        audio: &mut [f64],
-        delay: &mut [f64],
-        marks: &mut [u64],
-        minima: &mut [f64],
-        weights: &[f64],
-        row: &mut [f64],
-        detector: &mut [f64],
-    ) -> Limiter
-        requires { KernelReady self n (stores_at delay.old marks.old minima.old weights.now row.old detector.old) audio.old }
-        ensures { ran_at result (stores_at delay.new marks.new minima.new weights.now row.new detector.new) audio.new
-            ≡ drain_of (rules_of self.settings format) self n (stores_at delay.old marks.old minima.old weights.now row.old detector.old) audio.old }
+    pub fn drain(self, format: Format, n: usize, audio: &mut [f64], lent: &mut Lent) -> Limiter
+        requires { KernelReady self n (stores_in lent.old) audio.old }
+        ensures stays { Stays lent.old lent.new }
+        ensures run_done { ran_at result (stores_in lent.new) audio.new
+            ≡ drain_of (rules_of self.settings format) self n (stores_in lent.old) audio.old }
     {
-        fill(audio, 0.0);
+        audio.fill(0.0);
         let drained = self.drained + n;
         let best = start_of(false);
-        let after = self.render(
-            format,
-            self.target,
-            n,
-            audio,
-            delay,
-            marks,
-            minima,
-            weights,
-            row,
-            detector,
-            0,
-            best,
-        );
+        let after = self.render(format, self.target, n, audio, lent, 0, best);
         let limiter = after.limiter;
         limiter.drained_to(drained)
     }

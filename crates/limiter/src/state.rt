@@ -7,9 +7,9 @@ ghost use Rattle.limiter.specs.State.{fresh_envelope, not_set_up, spec_of, start
 use envelope::env::Envelope;
 use envelope::row::AttackRow;
 use keeper::FloorKeeper;
-use settings::memory::Cap;
 use settings::{LimiterSettings, ProcessSpec};
 
+// That it is set up is no invariant: a host may hand in any state, and 18 and 19 tell.
 #[derive(Clone, Copy)]
 pub struct Limiter {
     pub settings: LimiterSettings,
@@ -68,7 +68,7 @@ impl Limiter {
             rate: self.rate,
             channels: self.channels,
             max_block: self.max_block,
-            cap: Cap::Unlimited,
+            cap: None,
             house: false,
         }
     }

@@ -1,11 +1,9 @@
-// Lengths and fills of the lent stores.
+// Lengths of the lent stores.
 ghost use Rattle.std.specs.Prelude.{◌≡◌, ◌≤◌};
 ghost use Rattle.limiter.specs.Stores.{lengths_of, lengths_fit, stores_at};
 
-pub use keeper::fill;
-
 // The stores' lengths, in document 01's order.
-#[derive(Clone, Copy)]
+#[derive(Clone, Copy, Debug, PartialEq, Eq)]
 pub struct StoreLengths {
     pub delay: usize,
     pub marks: usize,
@@ -35,17 +33,20 @@ pub fn lengths_of(
     }
 }
 
-// 16: whether each store has its exact length.
+// 16: whether each store has its exact length. Setup's channels and look come from settings, a limiter's from its state:
+// a struct with their bounds would be made at each call.
 pub fn lengths_fit(channels: usize, look: usize, l: StoreLengths) -> bool
     requires channels_bound { channels ≤ 8 }
     requires look_bound { look ≤ 4096 }
     ensures { result ≡ lengths_fit channels look l }
 {
     let row = settings::memory::row_len(look);
-    (l.delay == channels * look)
-        & (l.marks == look + 1)
-        & (l.minima == look + 1)
-        & (l.weights == row)
-        & (l.row == row)
-        & (l.detector == channels * 12)
+    l == StoreLengths {
+        delay: channels * look,
+        marks: look + 1,
+        minima: look + 1,
+        weights: row,
+        row,
+        detector: channels * 12,
+    }
 }

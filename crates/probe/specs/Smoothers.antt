@@ -1,5 +1,5 @@
 -- A parameter bank in 101 lent words, and what its calls leave there: twelve of each slot (bank's specs/Words), then count, rate and ready, the count told and the value told.
-use Rattle.std.specs.Prelude.{ℕ, cond, not, List, [], ◌∷◌, ◌++◌, eqb, get_or, Float}
+use Rattle.std.specs.Prelude.{ℕ, cond, not, List, [], ◌∷◌, ◌++◌, Result, eqb, get_or, Float}
 use Rattle.std.proofs.lemmas.List.Edits.{sets}
 use Rattle.arithmetic.specs.Reply.{Value, count, float}
 use Rattle.bank.specs.Answers.{bank_value_reply}
@@ -8,7 +8,7 @@ use Rattle.bank.specs.Bank.{BankLeft, set_up_of, set_target_of, set_immediate_of
 use Rattle.bank.specs.Words.{half_in, smoother_in, float_out, smoother_out}
 use Rattle.bank.specs.declared.param.ParamInfo.{ParamInfo}
 use Rattle.bank.specs.declared.smoother.Smoother.{Smoother}
-use Rattle.bank.specs.declared.smoother_bank.BankValue.{BankValue}
+use Rattle.bank.specs.declared.smoother_bank.ParamRefusal.{ParamRefusal}
 use Rattle.bank.specs.declared.smoother_bank.SmootherBank.{SmootherBank}
 use Rattle.probe.specs.declared.smoothers.Done.{Done}
 
@@ -67,7 +67,7 @@ abbrev pub done_by : ℕ → BankLeft → Done
 done_by old o = record { number = o.reply.number; count = count_told o.reply.values; value = value_told old o.reply.values; bank = o.bank }
 
 -- a reading leaves the bank as it is
-abbrev pub read_by : BankValue → SmootherBank → BankLeft
+abbrev pub read_by : Result Float ParamRefusal → SmootherBank → BankLeft
 read_by answer b = record { reply = bank_value_reply answer; bank = b }
 
 -- the call by its number: 0 `set_target`, 1 `set_immediate`, 2 `step`, 3 `reset`, else `value`

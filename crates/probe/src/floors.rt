@@ -1,11 +1,12 @@
 // The floor keeper. Its state crosses as four words: look, head, len and frame.
 ghost use Rattle.std.specs.Prelude.{◌≡◌};
-ghost use Rattle.keeper.specs.Keeper.{keeping_at, setup_reply, setup_of, step_reply, step_of};
+ghost use Rattle.keeper.specs.Keeper.{keeping_at, refusal_number, step_reply, setup_of, step_of};
 ghost use Rattle.probe.specs.Out.{value_or};
 ghost use Rattle.probe.specs.Floors.{words_of, keeper_of, counts_or, left_at, left_by, told_at, told_by};
 
-use keeper::{FloorKeeper, SetupAnswer, StepAnswer};
+use keeper::{FloorKeeper, Floored, KeeperRefusal};
 
+// No `From`, here and in `write`: keeper and words are both declared elsewhere.
 fn read(state: &[u64; 4]) -> FloorKeeper
     ensures { result ≡ keeper_of state.now }
 {
@@ -28,39 +29,35 @@ fn write(state: &mut [u64; 4], keeper: FloorKeeper)
     ];
 }
 
-fn setup_number(answer: SetupAnswer) -> u32
-    ensures { result ≡ (setup_reply answer).number }
+// Document 01's number.
+fn number(why: KeeperRefusal) -> u32
+    ensures { result ≡ refusal_number why }
 {
-    match answer {
-        SetupAnswer::Finished => 0,
-        SetupAnswer::LookOutOfRange => 12,
-        SetupAnswer::StoreLength => 16,
+    match why {
+        KeeperRefusal::LookOutOfRange => 12,
+        KeeperRefusal::StoreLength => 16,
+        KeeperRefusal::OutOfOrder => 19,
+        KeeperRefusal::FramesSpent => 22,
     }
 }
 
 // Tells a finished step's floor, drops and entries kept; a refused one leaves both places alone.
-fn tell(answer: StepAnswer, floor: &mut f64, counts: &mut [u64; 2]) -> u32
+fn tell(answer: Result<Floored, KeeperRefusal>, floor: &mut f64, counts: &mut [u64; 2]) -> u32
     ensures { (result ≡ (step_reply answer).number)
         × (floor.new ≡ value_or floor.old (step_reply answer).values)
         × (counts.new ≡ counts_or counts.old (step_reply answer).values) }
 {
     match answer {
-        StepAnswer::Finished {
-            floor: least,
-            dropped,
-            kept,
-        } => {
-            *floor = least;
-            *counts = [dropped as u64, kept as u64];
+        Ok(step) => {
+            *floor = step.floor;
+            *counts = [step.dropped as u64, step.kept as u64];
             0
         }
-        StepAnswer::LookOutOfRange => 12,
-        StepAnswer::StoreLength => 16,
-        StepAnswer::OutOfOrder => 19,
-        StepAnswer::FramesSpent => 22,
+        Err(why) => number(why),
     }
 }
 
+// The result is document 01's number. A refused setup leaves a keeper that is not set up.
 #[unsafe(no_mangle)]
 pub extern "C" fn probe_floors_setup(
     look: usize,
@@ -72,9 +69,8 @@ pub extern "C" fn probe_floors_setup(
         ≡ left_by (setup_of look marks.old minima.old) }
 {
     let done = FloorKeeper::setup(look, marks, minima);
-    write(state, done.keeper);
-    let answer = done.answer;
-    setup_number(answer)
+    write(state, done.unwrap_or(FloorKeeper::fresh(0)));
+    done.map_or_else(number, |_| 0)
 }
 
 // The result is document 01's number.
@@ -91,8 +87,8 @@ pub extern "C" fn probe_floors_step(
         ≡ told_by floor.old counts.old
         (step_of (keeping_at (keeper_of state.old) marks.old minima.old) gain) }
 {
-    let done = read(state).step(marks, minima, gain);
-    write(state, done.keeper);
-    let answer = done.answer;
+    let mut keeper = read(state);
+    let answer = keeper.step(marks, minima, gain);
+    write(state, keeper);
     tell(answer, floor, counts)
 }

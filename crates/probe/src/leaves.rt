@@ -1,4 +1,4 @@
-// The leaves of `arithmetic`.
+// The leaves of `arithmetic`, one function for each: each is a C function under its own name.
 ghost use Rattle.std.specs.Prelude.{◌≡◌};
 ghost use Rattle.std.specs.Float.{binary32};
 ghost use Rattle.std.specs.Float.Ieee.{to_bits};
@@ -8,7 +8,7 @@ ghost use Rattle.arithmetic.specs.Exp.{exp_reply};
 ghost use Rattle.arithmetic.specs.Narrow.{widened, narrowed};
 ghost use Rattle.probe.specs.Out.{value_or};
 
-use arithmetic::math::ExpAnswer;
+use arithmetic::math::OutOfDomain;
 
 #[unsafe(no_mangle)]
 pub extern "C" fn probe_finite_or_zero(x: f64) -> f64
@@ -30,11 +30,11 @@ pub extern "C" fn probe_exp(x: f64, out: &mut f64) -> u32
     ensures { (result ≡ (exp_reply x).number) × (out.new ≡ value_or out.old (exp_reply x).values) }
 {
     match arithmetic::math::exp(x) {
-        ExpAnswer::Value(v) => {
+        Ok(v) => {
             *out = v;
             0
         }
-        ExpAnswer::OutOfDomain => 26,
+        Err(OutOfDomain) => 26,
     }
 }
 
@@ -96,6 +96,7 @@ pub extern "C" fn probe_widen(n: u32) -> f64
 }
 
 // The 32 bits of the nearest f32.
+#[tactic(auto, using(arithmetic::proofs::Exact32::narrowed_fits))]
 #[unsafe(no_mangle)]
 pub extern "C" fn probe_narrow(x: f64) -> u32
     ensures { result ≡ to_bits binary32 (narrowed x) }

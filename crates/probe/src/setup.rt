@@ -4,11 +4,8 @@ ghost use Rattle.settings.specs.Settings.{settings_of, all_count, process_spec};
 ghost use Rattle.settings.specs.Derived.{look_of};
 ghost use Rattle.settings.specs.Target.{target_of};
 ghost use Rattle.settings.specs.Accepted.{rate_taken, release_taken, refusal_of};
-ghost use Rattle.settings.specs.declared.memory.Cap.{Cap};
 ghost use Rattle.probe.specs.Setup.{weights_taken, coeff_or, house_taken, house_or};
 
-use settings::accepted::SettingsJudged;
-use settings::memory::Cap;
 use settings::{LimiterSettings, ProcessSpec};
 
 #[unsafe(no_mangle)]
@@ -56,7 +53,7 @@ pub extern "C" fn probe_refusal(
     max_block: usize,
 ) -> u32
     ensures { result
-        ≡ refusal_of (settings_of threshold margin lookahead release all_count) (process_spec rate channels max_block Cap.Unlimited false) }
+        ≡ refusal_of (settings_of threshold margin lookahead release all_count) (process_spec rate channels max_block None false) }
 {
     let s = LimiterSettings {
         threshold_db: threshold,
@@ -69,12 +66,12 @@ pub extern "C" fn probe_refusal(
         rate,
         channels,
         max_block,
-        cap: Cap::Unlimited,
+        cap: None,
         house: false,
     };
     match settings::accepted::refusal(s, spec) {
-        SettingsJudged::Passed => 0,
-        SettingsJudged::Refused(why) => settings::accepted::refusal_number(why),
+        Ok(()) => 0,
+        Err(why) => u32::from(why),
     }
 }
 
@@ -83,11 +80,7 @@ pub extern "C" fn probe_refusal(
 pub extern "C" fn probe_weights(weights: &[f64]) -> bool
     ensures { result ≡ weights_taken weights.now }
 {
-    if weights.len() <= 4096 {
-        settings::weights::accepted(weights)
-    } else {
-        false
-    }
+    weights.len() <= 4096 && settings::weights::accepted(weights)
 }
 
 // Whether there are house weights of a rate and look, as many as a store has.

@@ -5,3 +5,5 @@
 pub mod words;
 // Counting, and what is printed.
 pub mod tally;
+// Large arrays.
+pub mod rooms;

@@ -1,18 +1,16 @@
+ghost use Rattle.std.specs.Prelude.{◌≡◌, ◌+◌, ◌%◌, ◌^◌, if◌then◌else◌};
+
+use crate::words;
+use std::fs::File;
 use std::io;
+use std::rt::Files;
 
-// What a record came to: whether it counts, and whether the answer was the recorded one.
-#[derive(Clone, Copy)]
-pub struct Step {
-    pub counted: bool,
-    pub same: bool,
-}
-
-// How many records were replayed, how many of them differ, and which differed first.
+// How many answers were held to the recorded ones, how many of them differ, and which differed first.
 #[derive(Clone, Copy)]
 pub struct Tally {
     pub count: u64,
     pub differ: u64,
-    pub first: u64,
+    pub first: Option<u64>,
 }
 
 impl Tally {
@@ -20,24 +18,21 @@ impl Tally {
         Tally {
             count: 0,
             differ: 0,
-            first: 0,
+            first: None,
         }
     }
 
-    // One more record.
-    pub fn with(self, step: Step) -> Self {
-        if !step.counted {
-            return self;
+    // One more answer, which was, or was not, the recorded one.
+    pub fn count(&mut self, same: bool)
+        ensures counted { self.new.count ≡ (self.old.count + 1) % 2 ^ 64 }
+        ensures differing { self.new.differ
+            ≡ (if same then self.old.differ else ((self.old.differ + 1) % 2 ^ 64)) }
+    {
+        if !same {
+            self.first = self.first.or(Some(self.count));
+            self.differ = self.differ.wrapping_add(1);
         }
-        let mut next = self;
-        if !step.same {
-            if self.differ == 0 {
-                next.first = self.count;
-            }
-            next.differ = std::num::wrapping_add_u64(self.differ, 1);
-        }
-        next.count = std::num::wrapping_add_u64(self.count, 1);
-        next
+        self.count = self.count.wrapping_add(1);
     }
 }
 
@@ -51,16 +46,53 @@ pub struct Replayed {
 impl Replayed {
     // A line for the layer; a second one where something differs; a third where the file ends inside
     // a record.
-    pub fn print(self, rt: &impl Print, layer: &[u8]) -> io::Result<()> {
+    pub fn print(self, rt: &impl Print, layer: &str) -> io::Result<()> {
         let tally = self.tally;
-        rt.write_all(layer)?;
-        println!(rt; ": {} recorded, {} differ", tally.count, tally.differ)?;
-        if tally.differ != 0 {
-            println!(rt; "first difference: record {}, counted from 0", tally.first)?;
+        println!(rt;
+            "{layer}: {} recorded, {} differ",
+            tally.count, tally.differ
+        )?;
+        if let Some(first) = tally.first {
+            println!(rt; "first difference: record {first}, counted from 0")?;
         }
         if self.rest != 0 {
             println!(rt; "the file ends inside a record")?;
         }
         Ok(())
     }
+}
+
+// The records of a file, up to so many. The word that begins one is read; the rest is `play`'s to read, and its answers to count.
+fn each<R: io::Read, F: FnMut(&mut R, u64, &mut Tally) -> io::Result<()>>(
+    file: &mut R,
+    most: usize,
+    mut play: F,
+) -> io::Result<Replayed>
+    requires { F.IsAlwaysCallable play }
+{
+    let mut tally = Tally::new();
+    for _ in 0..most {
+        match words::first(file)? {
+            Ok(first) => play(file, first, &mut tally)?,
+            Err(rest) => return Ok(Replayed { tally, rest }),
+        }
+    }
+    Ok(Replayed { tally, rest: 0 })
+}
+
+// Replays a layer's file, so many records at most, and prints what it came to.
+pub fn replay<S: Files + Print + Eprint, F: FnMut(&mut S::File, u64, &mut Tally) -> io::Result<()>>(
+    rt: &S,
+    path: &str,
+    layer: &str,
+    most: usize,
+    play: F,
+) -> io::Result<()>
+    requires { F.IsAlwaysCallable play }
+{
+    let mut file = match File::open(rt, path) {
+        Ok(file) => file,
+        Err(error) => return eprintln!(rt; "{path}: {error}"),
+    };
+    each(&mut file, most, play)?.print(rt, layer)
 }

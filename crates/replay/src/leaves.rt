@@ -1,110 +1,54 @@
 // The file `leaves`: records of six words, op, a, b, c, status and answer. An f64 is its bits, and
 // every NaN answer is the canonical one.
-use arithmetic::math::ExpAnswer;
+use arithmetic::math::OutOfDomain;
 use arithmetic::narrow::to_bits32;
 use arithmetic::pattern::{from_bits, to_bits};
-use records::tally::Step;
+use records::tally::Tally;
 use records::words;
 use std::io;
 
-// One record.
+// Why there is no value, by the status in the file: no such op, and document 01's 26.
 #[derive(Clone, Copy)]
-struct Leaf {
-    op: u64,
-    a: u64,
-    b: u64,
-    c: u64,
-    status: u64,
-    answer: u64,
+enum NoValue {
+    Op = 1,
+    OutOfDomain = 26,
 }
 
-// What the proved code answers: document 01's number, 0 for a value, and the value's word.
-#[derive(Clone, Copy)]
-struct Answered {
-    status: u64,
-    word: u64,
-}
-
-fn value(x: f64) -> Answered {
-    Answered {
-        status: 0,
-        word: to_bits(x),
+impl From<OutOfDomain> for NoValue {
+    fn from(_e: OutOfDomain) -> NoValue {
+        NoValue::OutOfDomain
     }
 }
 
-fn exp(x: f64) -> Answered {
-    match arithmetic::math::exp(x) {
-        ExpAnswer::Value(v) => value(v),
-        ExpAnswer::OutOfDomain => Answered {
-            status: 26,
-            word: 0,
-        },
-    }
-}
-
-fn count(word: u64) -> Answered {
-    Answered { status: 0, word }
-}
-
-// The 32 bits of the nearest f32.
-fn narrow(x: f64) -> Answered {
-    count(to_bits32(arithmetic::narrow::narrow(x)) as u64)
-}
-
-// The value of the low 32 bits.
-fn widen(n: u64) -> Answered {
-    value(arithmetic::narrow::widen((n % 4294967296) as u32))
-}
-
-// The ops by their numbers in the file; another number is answered as no record is.
-fn answer(leaf: Leaf) -> Answered {
-    let a = from_bits(leaf.a);
-    let b = from_bits(leaf.b);
-    let c = from_bits(leaf.c);
-    let op = leaf.op;
-    match op {
-        1 => value(arithmetic::sanitize::finite_or_zero(a)),
-        2 => value(arithmetic::sanitize::flush_denormal(a)),
-        3 => exp(a),
-        4 => value(arithmetic::number::abs(a)),
-        5 => value(arithmetic::number::min(a, b)),
-        6 => value(arithmetic::number::max(a, b)),
-        7 => value(arithmetic::number::clamp(a, b, c)),
-        8 => value(arithmetic::number::copysign(a, b)),
-        9 => count(arithmetic::number::round(a)),
-        10 => count(arithmetic::number::ceil(a)),
-        11 => narrow(a),
-        12 => widen(leaf.a),
-        _ => Answered { status: 1, word: 0 },
-    }
-}
-
-fn same(leaf: Leaf) -> bool {
-    let got = answer(leaf);
-    got.status == leaf.status && got.word == leaf.answer
-}
-
-// The five words after the op, which a whole file has.
-fn rest<R: io::Read>(file: &mut R, op: u64) -> io::Result<Leaf> {
-    let a = words::next(file)?.word;
-    let b = words::next(file)?.word;
-    let c = words::next(file)?.word;
-    let status = words::next(file)?.word;
-    let answer = words::next(file)?.word;
-    Ok(Leaf {
-        op,
-        a,
-        b,
-        c,
-        status,
-        answer,
+// The ops by their numbers in the file, each at its words: the value's word.
+// Each is named in this match alone, and an enum or a table of functions would list them twice.
+#[tactic(auto, using(arithmetic::proofs::Exact32::narrowed_fits))]
+fn answer(op: u64, abc: [u64; 3]) -> Result<u64, NoValue> {
+    let [a, b, c] = abc.map(from_bits);
+    Ok(match op {
+        1 => to_bits(arithmetic::sanitize::finite_or_zero(a)),
+        2 => to_bits(arithmetic::sanitize::flush_denormal(a)),
+        3 => to_bits(arithmetic::math::exp(a)?),
+        4 => to_bits(arithmetic::number::abs(a)),
+        5 => to_bits(arithmetic::number::min(a, b)),
+        6 => to_bits(arithmetic::number::max(a, b)),
+        7 => to_bits(arithmetic::number::clamp(a, b, c)),
+        8 => to_bits(arithmetic::number::copysign(a, b)),
+        9 => arithmetic::number::round(a),
+        10 => arithmetic::number::ceil(a),
+        11 => to_bits32(arithmetic::narrow::narrow(a)) as u64,
+        12 => to_bits(arithmetic::narrow::widen(words::half(abc[0]))),
+        _ => return Err(NoValue::Op),
     })
 }
 
-// The rest of a record whose op was read.
-pub fn record<R: io::Read>(file: &mut R, op: u64) -> io::Result<Step> {
-    Ok(Step {
-        counted: true,
-        same: same(rest(file, op)?),
-    })
+// The rest of a record whose op was read: the status, 0 for a value, and the word, 0 for none.
+pub fn record<R: io::Read>(file: &mut R, op: u64, tally: &mut Tally) -> io::Result<()> {
+    let [a, b, c, status, word] = words::array::<_, 5>(file)?;
+    let got = match answer(op, [a, b, c]) {
+        Ok(word) => (0, word),
+        Err(why) => (why as u64, 0),
+    };
+    tally.count(got == (status, word));
+    Ok(())
 }

@@ -1,21 +1,177 @@
 // The calls of a recorded session. Every one is made whatever the file says, since no call of the limiter
 // asks for anything; damage is told by the answers.
-ghost use Rattle.std.specs.Prelude.{◌≡◌, ◌≤◌, length, IfOk};
+ghost use Rattle.std.specs.Prelude.{◌≡◌, ◌≤◌, length};
 
-use crate::head::{Head, count, float, places};
+use crate::head::{Head, count, places};
 use crate::{answers, samples};
-use audio::format::{Format, sample_bytes};
-use driver::answers::SetUp;
+use arithmetic::pattern::from_bits;
+use audio::format::sample_bytes;
 use driver::state::KernelProcessor;
-use records::words::next;
+use frame::stores::Lent;
+use records::rooms::room;
+use records::words::{array, fill, half, next};
 use std::io;
 
-// What a call leaves, the limiter and the state of the samples' source, and whether it told what was recorded.
-#[derive(Clone, Copy)]
-pub struct Played {
-    pub processor: KernelProcessor,
-    pub x: u64,
-    pub same: bool,
+// The stores of a session, at its lengths: `Lent`, but for the weights, which a setup may write.
+#[derive(Drop)]
+pub struct Stores<'a> {
+    pub delay: &'a mut [f64],
+    pub marks: &'a mut [u64],
+    pub minima: &'a mut [f64],
+    pub weights: &'a mut [f64],
+    pub row: &'a mut [f64],
+    pub detector: &'a mut [f64],
+}
+
+impl Stores<'_> {
+    // As a block or a drain takes them.
+    fn lent(&mut self) -> Lent<'_> {
+        let Stores {
+            delay,
+            marks,
+            minima,
+            weights,
+            row,
+            detector,
+        } = self;
+        Lent {
+            delay,
+            marks,
+            minima,
+            weights,
+            row,
+            detector,
+        }
+    }
+}
+
+// A session under way: its head, the limiter with its stores, and the state of the samples' source.
+// Each call says whether the limiter told what was recorded.
+#[derive(Drop)]
+pub struct Session<'a> {
+    head: Head,
+    processor: KernelProcessor,
+    stores: Stores<'a>,
+    x: u64,
+}
+
+impl<'a> Session<'a> {
+    pub fn new(head: Head, stores: Stores<'a>) -> Session<'a> {
+        Session {
+            head,
+            processor: KernelProcessor::not_set_up(),
+            stores,
+            x: head.seed,
+        }
+    }
+
+    // Whether the weights are these; a NaN is the same as nothing.
+    pub fn holds(&self, weights: &[f64]) -> bool {
+        weights == &self.stores.weights[..]
+    }
+
+    // The bytes of so many frames.
+    fn bytes_of(&self, frames: usize) -> usize
+        ensures { result ≤ 32768 }
+    {
+        sample_bytes(self.head.format) * places(self.head.spec.channels, frames, 512)
+    }
+
+    // A block, on bytes that it fills.
+    pub fn block<R: io::Read>(&mut self, file: &mut R) -> io::Result<bool> {
+        let position = next(file)?;
+        let frames = next(file)? as usize;
+        let told = 3 * count(file, 64)? as usize;
+        let mut events = room::<u64, 192>(0);
+        fill(file, &mut events[..told])?;
+        let mut audio = audio_room();
+        let audio = &mut audio[..self.bytes_of(frames)];
+        let format = self.head.format;
+        self.x = samples::fill(audio, format, self.x, self.head.kind);
+        let done = self.processor.process(
+            format,
+            position,
+            frames,
+            &events[..told],
+            audio,
+            &mut self.stores.lent(),
+        );
+        let digest = samples::digest(audio, format, frames, frames);
+        answers::block_same(file, done, digest)
+    }
+
+    pub fn drain<R: io::Read>(&mut self, file: &mut R) -> io::Result<bool> {
+        let frames = next(file)? as usize;
+        let mut audio = audio_room();
+        let audio = &mut audio[..self.bytes_of(frames)];
+        let format = self.head.format;
+        let done = self
+            .processor
+            .flush(format, frames, audio, &mut self.stores.lent());
+        let written = done.map_or(0, |f| f.written);
+        let digest = samples::digest(audio, format, frames, written);
+        answers::drained_same(file, done, digest)
+    }
+
+    pub fn reset(&mut self) -> bool {
+        let Lent {
+            delay,
+            marks,
+            minima,
+            weights,
+            row,
+            detector,
+        } = self.stores.lent();
+        self.processor
+            .reset(delay, marks, minima, weights, row, detector)
+            .is_ok()
+    }
+
+    pub fn set<R: io::Read>(&mut self, file: &mut R) -> io::Result<bool> {
+        let [id, value, due] = array::<_, 3>(file)?;
+        let done = self
+            .processor
+            .set_parameter_immediate(half(id), from_bits(value));
+        Ok(done.map_or_else(u32::from, |()| 0) as u64 == due)
+    }
+
+    pub fn read<R: io::Read>(&self, file: &mut R) -> io::Result<bool> {
+        let [id, due, bits] = array::<_, 3>(file)?;
+        Ok(answers::value_same(self.processor.value(half(id)), due, bits))
+    }
+
+    pub fn gain_step<R: io::Read>(&mut self, file: &mut R) -> io::Result<bool> {
+        let gain = from_bits(next(file)?);
+        let due = array::<_, 6>(file)?;
+        let Lent {
+            delay: _,
+            marks,
+            minima,
+            weights,
+            row,
+            detector: _,
+        } = self.stores.lent();
+        let done = self.processor.step_env(gain, marks, minima, weights, row);
+        Ok(done.is_ok_and(|told| answers::step_same(told, due)))
+    }
+
+    // A setup leaves a limiter that is not set up where it is refused. The look that it derives is the recorded one.
+    pub fn setup(&mut self) -> bool {
+        let s = &mut self.stores;
+        let done = KernelProcessor::prepare(
+            self.head.settings,
+            self.head.spec,
+            s.delay,
+            s.marks,
+            s.minima,
+            s.weights,
+            s.row,
+            s.detector,
+        );
+        self.processor = done.unwrap_or(KernelProcessor::not_set_up());
+        let look = self.head.look;
+        done.is_ok_and(|p| p.limiter.env.keeper.look == look)
+    }
 }
 
 // Room for a call's audio. Eight bytes of 64 are a number over 32, and four of them one over 3, which no output is, so a place
@@ -23,251 +179,5 @@ pub struct Played {
 fn audio_room() -> [u8; 32768]
     ensures { length result ≡ 32768 }
 {
-    [64; 32768]
-}
-
-// Room for the words of 64 events.
-fn events_room() -> [u64; 192]
-    ensures { length result ≡ 192 }
-{
-    [0; 192]
-}
-
-// The next words of the file.
-fn words<R: io::Read>(file: &mut R, into: &mut [u64]) -> io::Result<()> {
-    let mut i: usize = 0;
-    while i < into.len() {
-        into[i] = next(file)?.word;
-        i += 1;
-    }
-    Ok(())
-}
-
-// Ids are words of 32 bits.
-fn id<R: io::Read>(file: &mut R) -> io::Result<u32> {
-    Ok((next(file)?.word % 4294967296) as u32)
-}
-
-// The events of a block, in the first places.
-fn events<R: io::Read>(file: &mut R, told: usize) -> io::Result<[u64; 192]>
-    requires { told ≤ 192 }
-    ensures { IfOk result (λ e. length e ≡ 192) }
-{
-    let mut events = events_room();
-    words(file, &mut events[0..told])?;
-    Ok(events)
-}
-
-// The bytes of so many samples.
-fn bytes_of(format: Format, samples: usize) -> usize
-    requires { samples ≤ 4096 }
-    ensures { result ≤ 32768 }
-{
-    sample_bytes(format) * samples
-}
-
-// A block of so many frames, on bytes that it fills.
-fn process<R: io::Read>(
-    file: &mut R,
-    h: Head,
-    p: KernelProcessor,
-    before: u64,
-    position: u64,
-    frames: usize,
-    events: &[u64],
-    audio: &mut [u8],
-    delay: &mut [f64],
-    marks: &mut [u64],
-    minima: &mut [f64],
-    weights: &[f64],
-    row: &mut [f64],
-    detector: &mut [f64],
-) -> io::Result<Played> {
-    let format = h.format;
-    let x = samples::fill(audio, format, before, h.kind);
-    let done = p.process(
-        format, position, frames, events, audio, delay, marks, minima, weights, row, detector,
-    );
-    let answer = done.answer;
-    let digest = samples::digest(audio, format, frames, frames);
-    let same = answers::block_same(file, answer, digest)?;
-    let processor = done.processor;
-    Ok(Played { processor, x, same })
-}
-
-pub fn block<R: io::Read>(
-    file: &mut R,
-    h: Head,
-    p: KernelProcessor,
-    before: u64,
-    delay: &mut [f64],
-    marks: &mut [u64],
-    minima: &mut [f64],
-    weights: &[f64],
-    row: &mut [f64],
-    detector: &mut [f64],
-) -> io::Result<Played> {
-    let position = next(file)?.word;
-    let frames = next(file)?.word as usize;
-    let told = 3 * count(file, 64)? as usize;
-    let events = events(file, told)?;
-    let format = h.format;
-    let bytes = bytes_of(format, places(h.spec.channels, frames, 512));
-    let mut audio = audio_room();
-    process(
-        file,
-        h,
-        p,
-        before,
-        position,
-        frames,
-        &events[0..told],
-        &mut audio[0..bytes],
-        delay,
-        marks,
-        minima,
-        weights,
-        row,
-        detector,
-    )
-}
-
-// A drain of so many frames into these bytes.
-fn flush<R: io::Read>(
-    file: &mut R,
-    format: Format,
-    p: KernelProcessor,
-    x: u64,
-    frames: usize,
-    audio: &mut [u8],
-    delay: &mut [f64],
-    marks: &mut [u64],
-    minima: &mut [f64],
-    weights: &[f64],
-    row: &mut [f64],
-    detector: &mut [f64],
-) -> io::Result<Played> {
-    let done = p.flush(
-        format, frames, audio, delay, marks, minima, weights, row, detector,
-    );
-    let answer = done.answer;
-    let told = answers::drained(answer);
-    let digest = samples::digest(audio, format, frames, told.written);
-    let same = answers::drained_same(file, told, digest)?;
-    let processor = done.processor;
-    Ok(Played { processor, x, same })
-}
-
-pub fn drain<R: io::Read>(
-    file: &mut R,
-    h: Head,
-    p: KernelProcessor,
-    x: u64,
-    delay: &mut [f64],
-    marks: &mut [u64],
-    minima: &mut [f64],
-    weights: &[f64],
-    row: &mut [f64],
-    detector: &mut [f64],
-) -> io::Result<Played> {
-    let frames = next(file)?.word as usize;
-    let format = h.format;
-    let bytes = bytes_of(format, places(h.spec.channels, frames, 512));
-    let mut audio = audio_room();
-    flush(
-        file,
-        format,
-        p,
-        x,
-        frames,
-        &mut audio[0..bytes],
-        delay,
-        marks,
-        minima,
-        weights,
-        row,
-        detector,
-    )
-}
-
-pub fn reset(
-    p: KernelProcessor,
-    x: u64,
-    delay: &mut [f64],
-    marks: &[u64],
-    minima: &[f64],
-    weights: &[f64],
-    row: &mut [f64],
-    detector: &mut [f64],
-) -> Played {
-    let done = p.reset(delay, marks, minima, weights, row, detector);
-    let answer = done.answer;
-    let same = answer.is_finished();
-    let processor = done.processor;
-    Played { processor, x, same }
-}
-
-pub fn set<R: io::Read>(file: &mut R, p: KernelProcessor, x: u64) -> io::Result<Played> {
-    let id = id(file)?;
-    let value = float(file)?;
-    let done = p.set_parameter_immediate(id, value);
-    let answer = done.answer;
-    let same = answers::set_number(answer) == next(file)?.word;
-    let processor = done.processor;
-    Ok(Played { processor, x, same })
-}
-
-pub fn read<R: io::Read>(file: &mut R, p: KernelProcessor, x: u64) -> io::Result<Played> {
-    let id = id(file)?;
-    let number = next(file)?.word;
-    let bits = next(file)?.word;
-    let same = answers::value_same(p.value(id), number, bits);
-    Ok(Played {
-        processor: p,
-        x,
-        same,
-    })
-}
-
-pub fn gain_step<R: io::Read>(
-    file: &mut R,
-    p: KernelProcessor,
-    x: u64,
-    marks: &mut [u64],
-    minima: &mut [f64],
-    weights: &[f64],
-    row: &mut [f64],
-) -> io::Result<Played> {
-    let gain = float(file)?;
-    let due = answers::recorded_step(file)?;
-    let done = p.step_env(gain, marks, minima, weights, row);
-    let answer = done.answer;
-    let same = answers::step_same(answer, due);
-    let processor = done.processor;
-    Ok(Played { processor, x, same })
-}
-
-// What a setup leaves; the look that it derives is the recorded one.
-fn prepared(done: SetUp, x: u64, look: usize) -> Played {
-    let answer = done.answer;
-    let processor = done.processor;
-    let l = processor.limiter;
-    let same = answers::is_set_up(answer) & (l.env.keeper.look == look);
-    Played { processor, x, same }
-}
-
-pub fn setup(
-    h: Head,
-    x: u64,
-    delay: &mut [f64],
-    marks: &mut [u64],
-    minima: &mut [f64],
-    weights: &mut [f64],
-    row: &mut [f64],
-    detector: &mut [f64],
-) -> Played {
-    let s = h.settings;
-    let spec = h.spec;
-    let done = KernelProcessor::prepare(s, spec, delay, marks, minima, weights, row, detector);
-    prepared(done, x, h.look)
+    room(64)
 }

@@ -1,10 +1,10 @@
 // The head of a recorded session: what the limiter was set up with.
 ghost use Rattle.std.specs.Prelude.{◌*◌, ◌≤◌, IfOk};
 
+use crate::samples::Kind;
 use arithmetic::pattern::from_bits;
 use audio::format::Format;
-use records::words::next;
-use settings::memory::Cap;
+use records::words::{array, next};
 use settings::{LimiterSettings, ProcessSpec};
 use std::io;
 
@@ -16,44 +16,35 @@ pub struct Head {
     pub look: usize,
     pub rows: usize,
     pub seed: u64,
-    pub kind: u64,
-}
-
-pub fn float<R: io::Read>(file: &mut R) -> io::Result<f64> {
-    Ok(from_bits(next(file)?.word))
+    pub kind: Kind,
 }
 
 // A count of at most `most`; a larger one is damage, which the answers tell.
 pub fn count<R: io::Read>(file: &mut R, most: u64) -> io::Result<u64>
     ensures { IfOk result (λ n. n ≤ most) }
 {
-    let n = next(file)?.word;
-    Ok(if n <= most { n } else { most })
+    Ok(next(file)?.min(most))
 }
 
-// So many places for each channel; none where there are more than 8 channels or `most` places.
+// So many places for each channel; none where there are more than 8 channels or `most` places: no byte is then compared, and
+// the call's refusal tells.
 pub fn places(channels: usize, n: usize, most: usize) -> usize
     requires { most ≤ 4096 }
     ensures { result ≤ 8 * most }
 {
-    if channels > 8 {
-        return 0;
-    }
-    if n > most {
+    if channels > 8 || n > most {
         return 0;
     }
     channels * n
 }
 
 fn settings<R: io::Read>(file: &mut R) -> io::Result<LimiterSettings> {
-    let threshold_db = float(file)?;
-    let true_peak_margin_db = float(file)?;
-    let lookahead_ms = float(file)?;
+    let [threshold_db, true_peak_margin_db, lookahead_ms, release_ms] = array::<_, 4>(file)?;
     Ok(LimiterSettings {
-        threshold_db,
-        true_peak_margin_db,
-        lookahead_ms,
-        release_ms: float(file)?,
+        threshold_db: from_bits(threshold_db),
+        true_peak_margin_db: from_bits(true_peak_margin_db),
+        lookahead_ms: from_bits(lookahead_ms),
+        release_ms: from_bits(release_ms),
         left_out: 0,
     })
 }
@@ -71,8 +62,8 @@ pub fn read<R: io::Read>(file: &mut R, first: u64) -> io::Result<Head>
     let s = settings(file)?;
     let look = count(file, 4096)? as usize;
     let rows = count(file, 4096)? as usize;
-    let seed = next(file)?.word;
-    let kind = next(file)?.word;
+    let seed = next(file)?;
+    let kind = Kind::from(next(file)?);
     let max_block = count(file, 65536)? as usize;
     let house = count(file, 1)? == 1;
     let left_out = count(file, 255)? as u8;
@@ -80,7 +71,7 @@ pub fn read<R: io::Read>(file: &mut R, first: u64) -> io::Result<Head>
         rate,
         channels,
         max_block,
-        cap: Cap::Unlimited,
+        cap: None,
         house,
     };
     Ok(Head {
@@ -96,25 +87,8 @@ pub fn read<R: io::Read>(file: &mut R, first: u64) -> io::Result<Head>
 
 // The weights, as the Rust computed them.
 pub fn weights<R: io::Read>(file: &mut R, into: &mut [f64]) -> io::Result<()> {
-    let mut i: usize = 0;
-    while i < into.len() {
-        into[i] = float(file)?;
-        i += 1;
+    for weight in into.iter_mut() {
+        *weight = from_bits(next(file)?);
     }
     Ok(())
-}
-
-// Whether two stores hold the same weights; a NaN is the same as nothing.
-pub fn same(a: &[f64], b: &[f64]) -> bool {
-    if a.len() != b.len() {
-        return false;
-    }
-    let mut i: usize = 0;
-    while i < a.len() {
-        if a[i] != b[i] {
-            return false;
-        }
-        i += 1;
-    }
-    true
 }

@@ -1,9 +1,8 @@
 -- The house weights: a test that is computed once over the list of stretches holds of the stretch of every rate and look that it has.
-use Rattle.std.proofs.Common.{◌≡◌, ℕ, ◌+◌, ◌<◌, ◌≤◌, Bool, true, false, cond, ◌&&◌, eqb, leb, List, [], ◌∷◌, length, get_or, take, drop, set, sym, refl, ap, ◌∙◌, subst, arith, length-drop, length-take, get_or-drop, take_all, eqb-true, leb-true}
-use lib.Ieee.{Float, nan, of_bits, lt, le}
+use Rattle.std.proofs.Common.{◌≡◌, ℕ, ◌+◌, ◌≤◌, Bool, true, false, cond, ◌&&◌, eqb, leb, List, [], ◌∷◌, length, take, drop, sym, refl, subst, arith, length-drop, length-take, eqb-true, leb-true}
+use lib.Ieee.{of_bits, lt, le}
 use borrow.Author.Tests.{eqb-false, not-true}
 use Rattle.arithmetic.proofs.Order.{and-true}
-use Rattle.arithmetic.proofs.Copy.{copied_more}
 use Rattle.settings.specs.Derived.{row_of}
 use Rattle.settings.specs.Weights.{accepted}
 use Rattle.settings.specs.HouseTable.{house, at44100, at48000, at96000, at192000}
@@ -60,14 +59,3 @@ table_length = refl
 
 pub house_length : (rate look : ℕ) → house_fits rate look ≡ true → length (house_of rate look) ≡ row_of look
 house_length rate look f = rw (length-take (row_of look) (drop (house_start rate look) house), length-drop (house_start rate look) house, table_length) (omega (arith, house_inside rate look f))
-
--- ---- a loop that copies a part of a list, an element a turn
-pub part-more : (into table : List Float) (from i : ℕ) → i < length into → from + i < length table → take i into ≡ take i (drop from table)
-    → take (i + 1) (set into i (get_or table (from + i) nan)) ≡ take (i + 1) (drop from table)
-part-more into table from i p q h = rw (← get_or-drop from table i nan) (copied_more into (drop from table) i nan p (rw (length-drop from table) (omega arith)) h)
-
--- all passed
-pub part_all : (into old table : List Float) (from i : ℕ) → length into ≡ length old → i ≤ length old → length into ≤ i → take i into ≡ take i (drop from table) → into ≡ take (length old) (drop from table)
-part_all into old table from i e m p h =
-    let n : i ≡ length old = omega arith in
-    sym (take_all i into p) ∙ h ∙ ap (λ (k : ℕ). take k (drop from table)) n

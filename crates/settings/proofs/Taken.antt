@@ -1,5 +1,5 @@
 -- Settings of which none of 8 to 14 arises pass every rule.
-use Rattle.std.proofs.Common.{◌≡◌, Bool, true, false, ◌&&◌, eqb, sym, refl, ap, ◌∙◌}
+use Rattle.std.proofs.Common.{◌≡◌, true, false, eqb, Result, Ok, sym, refl, ap, ◌∙◌}
 use Rattle.arithmetic.specs.Reply.{Reply, numbered, unless}
 use Rattle.arithmetic.proofs.Passed.{passed_unless}
 use Rattle.keeper.specs.Keeper.{look_taken}
@@ -9,8 +9,6 @@ use Rattle.settings.specs.declared.LimiterSettings.{LimiterSettings}
 use Rattle.settings.specs.declared.ProcessSpec.{ProcessSpec}
 use Rattle.settings.specs.declared.accepted.SettingsRefusal.{SettingsRefusal}
 use Rattle.settings.specs.declared.accepted.SettingsRefusal.TheVariants.{Rate, Margin, Lookahead, Release, Look, Channels, Block}
-use Rattle.settings.specs.declared.accepted.SettingsJudged.{SettingsJudged}
-use Rattle.settings.specs.declared.accepted.SettingsJudged.TheVariants.{Passed, Refused}
 
 pub record Taken (s : LimiterSettings) (spec : ProcessSpec) : Type 0 where
   pub rate_is : rate_taken spec.rate ≡ true
@@ -39,25 +37,6 @@ taken s spec h =
     let k14 = passed_unless (block_taken spec.max_block) 13 0 k13.1 in
     record { rate_is = k8.0; margin_is = k9.0; lookahead_is = k10.0; release_is = k11.0; look_is = k12.0; channels_is = k13.0; block_is = k14.0 }
 
--- the seven tests together
-none_arises : (a b c d e f g : Bool)
-    → (a && (b && (c && (d && (e && (f && g)))))) ≡ eqb (unless a 8 (unless b 9 (unless c 10 (unless d 11 (unless e 12 (unless f 13 (unless g 14 0))))))) 0
-none_arises false b c d e f g = refl
-none_arises true false c d e f g = refl
-none_arises true true false d e f g = refl
-none_arises true true true false e f g = refl
-none_arises true true true true false f g = refl
-none_arises true true true true true false g = refl
-none_arises true true true true true true false = refl
-none_arises true true true true true true true = refl
-
-pub tests_together : (s : LimiterSettings) (spec : ProcessSpec)
-    → (rate_taken spec.rate && (margin_taken s.true_peak_margin_db && (lookahead_taken s.lookahead_ms && (release_taken s.release_ms
-    && (look_taken (look_of s.lookahead_ms spec.rate) && (channels_taken spec.channels && block_taken spec.max_block)))))) ≡ eqb (refusal_of s spec) 0
-tests_together s spec =
-    none_arises (rate_taken spec.rate) (margin_taken s.true_peak_margin_db) (lookahead_taken s.lookahead_ms) (release_taken s.release_ms)
-    (look_taken (look_of s.lookahead_ms spec.rate)) (channels_taken spec.channels) (block_taken spec.max_block)
-
 -- no refusal has the number of finished work
 pub refused_number : (why : SettingsRefusal) → eqb (refusal_number why) 0 ≡ false
 refused_number Rate = refl
@@ -69,9 +48,6 @@ refused_number Channels = refl
 refused_number Block = refl
 
 -- what an answer of `refusal` says
-module _ (s : LimiterSettings) (spec : ProcessSpec) (j : SettingsJudged) (J : settings_reply j ≡ numbered (refusal_of s spec)) where
-  pub settings_passed : j ≡ Passed → refusal_of s spec ≡ 0
-  settings_passed e = ap (λ (r : Reply). r.number) (sym J ∙ ap settings_reply e)
-
-  pub settings_refused : (why : SettingsRefusal) → j ≡ Refused why → refusal_of s spec ≡ refusal_number why
-  settings_refused why e = ap (λ (r : Reply). r.number) (sym J ∙ ap settings_reply e)
+module _ (s : LimiterSettings) (spec : ProcessSpec) (j : Result (Unit {0}) SettingsRefusal) (J : settings_reply j ≡ numbered (refusal_of s spec)) where
+  pub settings_passed : (u : Unit {0}) → j ≡ Ok u → refusal_of s spec ≡ 0
+  settings_passed u e = ap (λ (r : Reply). r.number) (sym J ∙ ap settings_reply e)

@@ -1,5 +1,6 @@
 -- The loops over the first half of the weights: where the test passes at each of its places the clause holds of the list, and one place that fails refutes it.
-use Rattle.std.proofs.Common.{◌≡◌, ℕ, zero, suc, ◌+◌, ◌-◌, ◌/◌, ◌<◌, ◌≤◌, Bool, true, false, ltb, leb, List, [], ◌∷◌, reverse, length, get_or, sym, refl, ap, ◌∙◌, add-one, arith, length-take, length-take-le, get_or-take, ltb-false, ltb-true, le-leb}
+use Rattle.std.proofs.Common.{◌≡◌, ℕ, zero, suc, ◌+◌, ◌-◌, ◌/◌, ◌<◌, ◌≤◌, Bool, true, false, ltb, leb, List, [], ◌∷◌, reverse, length, get_or, take, sym, refl, ap, ◌∙◌, add-one, arith, length-take, length-take-le, get_or-take, ltb-false, ltb-true, le-leb}
+use Rattle.std.specs.List.{IsAllAdjacentAnswer}
 use mathlib.Core.Bool.{and_comm, and-false}
 use native.Mathlib.Nat.{min-le_left}
 use lib.ListN.{length-reverse}
@@ -20,15 +21,6 @@ each_unit (w ∷ ws) h = rw (h 0 (omega arith)) (each_unit ws (λ i l. h (suc i)
 -- what a loop has found out: the test passed at each place before this one
 abbrev pub Before : (ℕ → Bool) → ℕ → Type 0
 Before test i = (k : ℕ) → k < i → test k ≡ true
-
-pub before_more : (test : ℕ → Bool) (i : ℕ) → Before test i → test i ≡ true → Before test (i + 1)
-before_more test i h e k l = go (ltb k i) refl
-  where
-    go : (b : Bool) → ltb k i ≡ b → test k ≡ true
-    go true t = h k (ltb-true k i t)
-    go false t =
-        let same : k ≡ i = omega (arith, ltb-false k i t) in
-        ap test same ∙ e
 
 -- ---- mirrored places
 abbrev pub near_at : List Float → ℕ → Bool
@@ -90,6 +82,19 @@ one_falls [] i l f = absurd (omega arith)
 one_falls (v ∷ []) i l f = absurd (omega arith)
 one_falls (v ∷ w ∷ us) zero l f = rw f refl
 one_falls (v ∷ w ∷ us) (suc i) l f = rw (one_falls (w ∷ us) i (omega arith) f) (and-false (lt v w))
+
+-- what `is_sorted_by` answers of a list
+told : (us : List Float) (b : Bool) → IsAllAdjacentAnswer (λ v w c. c ≡ lt v w) us b → b ≡ rising us
+told us true h = sym (each_rises us (λ i l. rw add-one at (sym (h i nan (omega arith)))))
+told us false h = sym (one_falls us h.0 (omega (arith, h.1)) (rw add-one at (sym (h.2 nan))))
+
+-- the first half, by its length
+same_half : (ws : List Float) (n : ℕ) → n ≡ (length ws + 1) / 2 → take n ws ≡ first_half ws
+same_half [] n h = rw h refl
+same_half (w ∷ ws) n h = let e : n ≡ (length (w ∷ ws) - 1) / 2 + 1 = omega arith in ap (λ n. take n (w ∷ ws)) e
+
+pub half_told : (ws : List Float) (n : ℕ) (b : Bool) → n ≡ (length ws + 1) / 2 → IsAllAdjacentAnswer (λ v w c. c ≡ lt v w) (take n ws) b → b ≡ rising (first_half ws)
+half_told ws n b e h = told _ b h ∙ ap rising (same_half ws n e)
 
 module _ (ws : List Float) where
   abbrev places : ℕ

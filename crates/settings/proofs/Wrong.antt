@@ -1,5 +1,5 @@
 -- Inputs at which the wrong programs of ARCHITECTURE.md's table would answer otherwise: each row computes what the definition answers there, and its comment names the wrong program.
-use Rattle.std.proofs.Common.{◌≡◌, ℕ, ◌+◌, ◌-◌, ◌/◌, ◌^◌, true, false, cond, eqb, List, [], ◌∷◌, map, reverse, length, get_or, replicate, pos, refl}
+use Rattle.std.proofs.Common.{◌≡◌, ℕ, ◌+◌, ◌-◌, ◌/◌, ◌^◌, true, false, cond, eqb, List, [], ◌∷◌, map, reverse, length, get_or, replicate, pos, Some, None, Ok, Err, refl}
 use lib.Ieee.{Float, nan, binary64, add, sub, mul, div, neg, lt, le, eq, of_int, of_bits, to_bits, to_unsigned}
 use Rattle.arithmetic.specs.Number
 use Rattle.arithmetic.specs.Number.{bits, one, thousandth, largest}
@@ -13,8 +13,6 @@ use Rattle.settings.specs.HouseTable.{house, at44100, at48000, at96000, at192000
 use Rattle.settings.specs.House.{Stretch, stretches, house_start, house_fits, house_of}
 use Rattle.settings.specs.Target.{target_of}
 use Rattle.settings.specs.Accepted.{refusal_of}
-use Rattle.settings.specs.declared.memory.Cap.{Cap}
-use Rattle.settings.specs.declared.memory.CapJudged.{CapJudged}
 
 abbrev minus_one : Float
 minus_one = bits 0xbff0_0000_0000_0000
@@ -154,28 +152,28 @@ pub no_wrapped_count : needed (2 ^ 61) 11 ≡ largest
 no_wrapped_count = refl
 
 -- a cap of 0 read as no cap
-pub nothing_left : (left_of 80 (Cap.Bytes 80) ≡ Cap.Bytes 0) × (cap_judged 1 (Cap.Bytes 0) ≡ CapJudged.Over 1 0)
+pub nothing_left : (left_of 80 (Some 80) ≡ Some 0) × (cap_judged 1 (Some 0) ≡ Err (record { needed = 1; cap = 0 }))
 nothing_left = (refl, refl)
 
 -- a cap that is needed to the last byte refused
-pub cap_to_the_byte : cap_judged 4256 (Cap.Bytes 4256) ≡ CapJudged.Passed
+pub cap_to_the_byte : cap_judged 4256 (Some 4256) ≡ Ok tt
 cap_to_the_byte = refl
 
 -- ---- the refusals
 -- 9 answered where 8 arises too: rate 0 and a margin of −1
-pub eight_first : refusal_of (settings_of Number.zero minus_one one one all_count) (process_spec 0 1 64 Cap.Unlimited false) ≡ 8
+pub eight_first : refusal_of (settings_of Number.zero minus_one one one all_count) (process_spec 0 1 64 None false) ≡ 8
 unfolding lt mul of_int of_bits
 eight_first = refl
 
 -- a margin of −0.0 refused; 1.5 ms at 8,000 are 12 frames
-pub minus_zero_margin : refusal_of (settings_of Number.zero (bits 0x8000_0000_0000_0000) (bits 0x3ff8_0000_0000_0000) one all_count) (process_spec 8000 1 64 Cap.Unlimited false) ≡ 0
+pub minus_zero_margin : refusal_of (settings_of Number.zero (bits 0x8000_0000_0000_0000) (bits 0x3ff8_0000_0000_0000) one all_count) (process_spec 8000 1 64 None false) ≡ 0
 unfolding lt mul of_int of_bits
 minus_zero_margin = refl
 
 -- a release between 0 and 0.01 ms taken, and a release of 0 refused
 pub shortest_release :
-    (refusal_of (settings_of Number.zero Number.zero (bits 0x3ff8_0000_0000_0000) (bits 0x3f74_7ae1_47ae_147b) all_count) (process_spec 8000 1 64 Cap.Unlimited false) ≡ 11)
-    × (refusal_of (settings_of Number.zero Number.zero (bits 0x3ff8_0000_0000_0000) Number.zero all_count) (process_spec 8000 1 64 Cap.Unlimited false) ≡ 0)
+    (refusal_of (settings_of Number.zero Number.zero (bits 0x3ff8_0000_0000_0000) (bits 0x3f74_7ae1_47ae_147b) all_count) (process_spec 8000 1 64 None false) ≡ 11)
+    × (refusal_of (settings_of Number.zero Number.zero (bits 0x3ff8_0000_0000_0000) Number.zero all_count) (process_spec 8000 1 64 None false) ≡ 0)
 unfolding lt mul of_int of_bits
 shortest_release = (refl, refl)
 

@@ -1,5 +1,5 @@
 -- The refusals 8 to 14 of the table, and which one arises first.
-use Rattle.std.specs.Prelude.{ℕ, Bool, not, ◌&&◌, nat_le, Float}
+use Rattle.std.specs.Prelude.{ℕ, Bool, not, ◌&&◌, Result, Ok, Err, nat_le, Float}
 use Rattle.std.specs.Float.Ieee.{lt}
 use Rattle.std.specs.Float.Ieee.Scale.{finite}
 use Rattle.arithmetic.specs.Number
@@ -11,8 +11,6 @@ use Rattle.settings.specs.declared.LimiterSettings.{LimiterSettings}
 use Rattle.settings.specs.declared.ProcessSpec.{ProcessSpec}
 use Rattle.settings.specs.declared.accepted.SettingsRefusal.{SettingsRefusal}
 use Rattle.settings.specs.declared.accepted.SettingsRefusal.TheVariants.{Rate, Margin, Lookahead, Release, Look, Channels, Block}
-use Rattle.settings.specs.declared.accepted.SettingsJudged.{SettingsJudged}
-use Rattle.settings.specs.declared.accepted.SettingsJudged.TheVariants.{Passed, Refused}
 
 -- 8: rate outside 8,000 to 192,000
 abbrev pub rate_taken : ℕ → Bool
@@ -61,9 +59,9 @@ refusal_number Look = 12
 refusal_number Channels = 13
 refusal_number Block = 14
 
-abbrev pub judged_number : SettingsJudged → ℕ
-judged_number Passed = 0
-judged_number (Refused why) = refusal_number why
+abbrev pub judged_number : Result (Unit {0}) SettingsRefusal → ℕ
+judged_number (Ok u) = 0
+judged_number (Err why) = refusal_number why
 
-abbrev pub settings_reply : SettingsJudged → Reply
+abbrev pub settings_reply : Result (Unit {0}) SettingsRefusal → Reply
 settings_reply j = numbered (judged_number j)

@@ -1,10 +1,9 @@
 -- Module 5 of document 01, `memory.rs`: the byte count, and a cap.
-use Rattle.std.specs.Prelude.{ℕ, ◌+◌, ◌-◌, ◌*◌, Bool, cond, ◌&&◌, [], ◌∷◌, nat_le}
+use Rattle.std.specs.Prelude.{ℕ, ◌+◌, ◌-◌, ◌*◌, Bool, cond, ◌&&◌, [], ◌∷◌, Option, Some, None, Result, Ok, Err, nat_le}
 use Rattle.arithmetic.specs.Number.{largest}
 use Rattle.arithmetic.specs.Reply.{Reply, finished, refused, count}
 use Rattle.settings.specs.Derived.{row_of}
-use Rattle.settings.specs.declared.memory.Cap.{Cap}
-use Rattle.settings.specs.declared.memory.CapJudged.{CapJudged}
+use Rattle.settings.specs.declared.memory.OverCap.{OverCap}
 
 -- 8 × (channels × look + 2 × (look + 1) + 2 × L + 60 × channels)
 abbrev pub bytes_of : ℕ → ℕ → ℕ
@@ -19,15 +18,15 @@ abbrev pub needed : ℕ → ℕ → ℕ
 needed channels look = cond (counted channels look) (bytes_of channels look) largest
 
 -- 7 of the bank's bytes, 15 of the stores': over the cap, with needed and cap. "No cap means no limit"
-abbrev pub cap_judged : ℕ → Cap → CapJudged
-cap_judged need Cap.Unlimited = CapJudged.Passed
-cap_judged need (Cap.Bytes cap) = cond (nat_le need cap) CapJudged.Passed (CapJudged.Over need cap)
+abbrev pub cap_judged : ℕ → Option ℕ → Result (Unit {0}) OverCap
+cap_judged need None = Ok tt
+cap_judged need (Some cap) = cond (nat_le need cap) (Ok tt) (Err (record { needed = need; cap = cap }))
 
-abbrev pub cap_reply : ℕ → CapJudged → Reply
-cap_reply number CapJudged.Passed = finished []
-cap_reply number (CapJudged.Over need cap) = refused number (count need ∷ count cap ∷ [])
+abbrev pub cap_reply : ℕ → Result (Unit {0}) OverCap → Reply
+cap_reply number (Ok u) = finished []
+cap_reply number (Err over) = refused number (count over.needed ∷ count over.cap ∷ [])
 
 -- what is left of a cap once so many bytes are taken, which fit it
-abbrev pub left_of : ℕ → Cap → Cap
-left_of bytes Cap.Unlimited = Cap.Unlimited
-left_of bytes (Cap.Bytes cap) = Cap.Bytes (cap - bytes)
+abbrev pub left_of : ℕ → Option ℕ → Option ℕ
+left_of bytes None = None
+left_of bytes (Some cap) = Some (cap - bytes)

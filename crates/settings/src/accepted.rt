@@ -1,43 +1,31 @@
 // Which settings are accepted: the refusals 8 to 14.
 ghost use Rattle.std.specs.Prelude.{◌≡◌, ◌==◌};
-ghost use Rattle.arithmetic.specs.Reply.{unless, numbered};
+ghost use Rattle.arithmetic.specs.Reply.{numbered};
 ghost use Rattle.settings.specs.Accepted.{rate_taken, margin_taken, lookahead_taken, release_taken, channels_taken};
-ghost use Rattle.settings.specs.Accepted.{refusal_of, refusal_number, judged_number, settings_reply};
+ghost use Rattle.settings.specs.Accepted.{refusal_of, refusal_number, settings_reply};
 
+use crate::derived::look;
 use crate::{LimiterSettings, ProcessSpec};
 use arithmetic::number::is_finite;
 use keeper::look_taken;
 
-// The settings' refusals, 8 to 14 in the table's order.
-#[derive(Clone, Copy)]
+// The settings' refusals under document 01's numbers, in the table's order.
+#[derive(Clone, Copy, Debug, PartialEq, Eq)]
 pub enum SettingsRefusal {
-    Rate,
-    Margin,
-    Lookahead,
-    Release,
-    Look,
-    Channels,
-    Block,
+    Rate = 8,
+    Margin = 9,
+    Lookahead = 10,
+    Release = 11,
+    Look = 12,
+    Channels = 13,
+    Block = 14,
 }
 
-#[derive(Clone, Copy)]
-pub enum SettingsJudged {
-    Passed,
-    Refused(SettingsRefusal),
-}
+impl From<SettingsRefusal> for u32 {
+    ghost from_gives = { λ why n. n ≡ refusal_number why };
 
-// Document 01's number of a refusal.
-pub fn refusal_number(why: SettingsRefusal) -> u32
-    ensures { result ≡ refusal_number why }
-{
-    match why {
-        SettingsRefusal::Rate => 8,
-        SettingsRefusal::Margin => 9,
-        SettingsRefusal::Lookahead => 10,
-        SettingsRefusal::Release => 11,
-        SettingsRefusal::Look => 12,
-        SettingsRefusal::Channels => 13,
-        SettingsRefusal::Block => 14,
+    fn from(why: SettingsRefusal) -> u32 {
+        why as u32
     }
 }
 
@@ -65,67 +53,43 @@ pub fn release_taken(ms: f64) -> bool
     is_finite(ms) & !(ms < 0.0) & !(10000.0 < ms) & !((0.0 < ms) & (ms < 0.01))
 }
 
-fn channels_taken(channels: usize) -> bool
+pub(crate) fn channels_taken(channels: usize) -> bool
     ensures { result ≡ channels_taken channels }
 {
     (1 <= channels) & (channels <= 8)
 }
 
-fn unless(kept: bool, why: SettingsRefusal, later: SettingsJudged) -> SettingsJudged
-    ensures { judged_number result ≡ unless kept (refusal_number why) (judged_number later) }
-{
-    if kept {
-        later
-    } else {
-        SettingsJudged::Refused(why)
-    }
-}
-
 // The first of 8 to 14 that arises.
-pub fn refusal(s: LimiterSettings, spec: ProcessSpec) -> SettingsJudged
+pub fn refusal(s: LimiterSettings, spec: ProcessSpec) -> Result<(), SettingsRefusal>
     ensures { settings_reply result ≡ numbered (refusal_of s spec) }
 {
-    let look = crate::derived::look(s.lookahead_ms, spec.rate);
-    let block = unless(
-        spec.max_block <= 65536,
-        SettingsRefusal::Block,
-        SettingsJudged::Passed,
-    );
-    let channels = unless(
-        channels_taken(spec.channels),
-        SettingsRefusal::Channels,
-        block,
-    );
-    let looked = unless(look_taken(look as usize), SettingsRefusal::Look, channels);
-    let released = unless(
-        release_taken(s.release_ms),
-        SettingsRefusal::Release,
-        looked,
-    );
-    let ahead = unless(
-        lookahead_taken(s.lookahead_ms),
-        SettingsRefusal::Lookahead,
-        released,
-    );
-    let margin = unless(
-        margin_taken(s.true_peak_margin_db),
-        SettingsRefusal::Margin,
-        ahead,
-    );
-    unless(rate_taken(spec.rate), SettingsRefusal::Rate, margin)
+    if !rate_taken(spec.rate) {
+        return Err(SettingsRefusal::Rate);
+    }
+    if !margin_taken(s.true_peak_margin_db) {
+        return Err(SettingsRefusal::Margin);
+    }
+    if !lookahead_taken(s.lookahead_ms) {
+        return Err(SettingsRefusal::Lookahead);
+    }
+    if !release_taken(s.release_ms) {
+        return Err(SettingsRefusal::Release);
+    }
+    if !look_taken(look(s.lookahead_ms, spec.rate) as usize) {
+        return Err(SettingsRefusal::Look);
+    }
+    if !channels_taken(spec.channels) {
+        return Err(SettingsRefusal::Channels);
+    }
+    if 65536 < spec.max_block {
+        return Err(SettingsRefusal::Block);
+    }
+    Ok(())
 }
 
-// Whether none of 8 to 14 arises: every test is made, without a way out.
+// Whether none of 8 to 14 arises.
 pub fn is_accepted(s: LimiterSettings, spec: ProcessSpec) -> bool
     ensures { result ≡ (refusal_of s spec == 0) }
 {
-    let look = crate::derived::look(s.lookahead_ms, spec.rate);
-    let rate = rate_taken(spec.rate);
-    let margin = margin_taken(s.true_peak_margin_db);
-    let ahead = lookahead_taken(s.lookahead_ms);
-    let released = release_taken(s.release_ms);
-    let looked = look_taken(look as usize);
-    let channels = channels_taken(spec.channels);
-    let block = spec.max_block <= 65536;
-    rate & (margin & (ahead & (released & (looked & (channels & block)))))
+    refusal(s, spec).is_ok()
 }

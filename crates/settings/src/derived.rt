@@ -4,8 +4,6 @@ ghost use Rattle.arithmetic.specs.Number.{frames_of_ms};
 ghost use Rattle.settings.specs.Derived.{look_of, coefficient_of};
 ghost use Rattle.settings.specs.Accepted.{rate_taken, release_taken};
 
-use arithmetic::math::ExpAnswer;
-
 // Milliseconds as frames.
 fn frames(ms: f64, rate: u32) -> f64
     ensures { result ≡ frames_of_ms ms rate }
@@ -17,8 +15,7 @@ fn frames(ms: f64, rate: u32) -> f64
 pub fn look(lookahead_ms: f64, rate: u32) -> u64
     ensures { result ≡ look_of lookahead_ms rate }
 {
-    let n = arithmetic::number::round(frames(lookahead_ms, rate));
-    if n < 1 { 1 } else { n }
+    arithmetic::number::round(frames(lookahead_ms, rate)).max(1)
 }
 
 // How much of the way to a higher mean the gain goes in a frame.
@@ -31,8 +28,5 @@ pub fn release_coeff(release_ms: f64, rate: u32) -> f64
     if rel == 0.0 {
         return 1.0;
     }
-    match arithmetic::math::exp(-1.0 / rel) {
-        ExpAnswer::Value(v) => 1.0 - v,
-        ExpAnswer::OutOfDomain => 0.0,
-    }
+    1.0 - arithmetic::math::exp(-1.0 / rel).unwrap_or(1.0)
 }

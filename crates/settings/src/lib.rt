@@ -22,8 +22,6 @@ pub mod target;
 // The refusals 8 to 14.
 pub mod accepted;
 
-use crate::memory::Cap;
-
 // Construction settings of the limiter.
 #[derive(Clone, Copy)]
 pub struct LimiterSettings {
@@ -39,24 +37,25 @@ pub struct LimiterSettings {
     pub left_out: u8,
 }
 
-// What setup is told beside the settings (`ProcessSpec` of contract/spec.rs).
+// What setup is told beside the settings (`ProcessSpec` of contract/spec.rs), apart from them as in the Rust: they are kept
+// for good, and of this the cap and the house table are not.
 #[derive(Clone, Copy)]
 pub struct ProcessSpec {
     pub rate: u32,
     pub channels: usize,
     // Largest block, in frames.
     pub max_block: usize,
-    // How many bytes setup may take.
-    pub cap: Cap,
+    // How many bytes setup may take; without it there is no limit.
+    pub cap: Option<u64>,
     // Whether setup is to fill the weights store from a house table.
     pub house: bool,
 }
 
-impl LimiterSettings {
+impl Default for LimiterSettings {
+    ghost is_default = { λ s. s ≡ defaults };
+
     // −1 dBFS, 0.1 dB, 1.5 ms, 50 ms, and every channel counts.
-    pub fn new() -> Self
-        ensures { result ≡ defaults }
-    {
+    fn default() -> Self {
         LimiterSettings {
             threshold_db: -1.0,
             true_peak_margin_db: 0.1,
@@ -65,8 +64,10 @@ impl LimiterSettings {
             left_out: 0,
         }
     }
+}
 
-    // Each setter hands the settings back with one field changed.
+impl LimiterSettings {
+    // Each setter hands the settings back with one field changed; a field is nothing that one setter could be passed.
     pub fn threshold_db(mut self, threshold_db: f64) -> Self
         ensures { result ≡ settings_of threshold_db self.true_peak_margin_db self.lookahead_ms self.release_ms self.left_out }
     {

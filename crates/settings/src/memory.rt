@@ -3,15 +3,12 @@ ghost use Rattle.std.specs.Prelude.{◌≡◌, ◌≤◌};
 ghost use Rattle.settings.specs.Derived.{row_of};
 ghost use Rattle.settings.specs.Memory.{counted, bytes_of, needed, cap_judged, left_of};
 
-// How many bytes a caller allows.
-#[derive(Clone, Copy)]
-pub enum Cap {
-    Unlimited,
-    Bytes(u64),
-}
+use crate::accepted::channels_taken;
+use keeper::look_taken;
 
 // The bytes of the stores for so many channels and that look. Outside 1 to 8 channels and a look of
-// 11 to 4,096 nothing is counted: the largest number, which only the largest cap takes.
+// 11 to 4,096 nothing is counted: the largest number, which only the largest cap takes. It stays a number and no Option,
+// since the C interface gives it (`daggeryuzu_bytes_needed`).
 pub fn bytes_needed(channels: usize, look: usize) -> u64
     ensures { result ≡ needed channels look }
 {
@@ -25,7 +22,7 @@ pub fn bytes_needed(channels: usize, look: usize) -> u64
 fn is_counted(channels: usize, look: usize) -> bool
     ensures { result ≡ counted channels look }
 {
-    (1 <= channels) & (channels <= 8) & (11 <= look) & (look <= 4096)
+    channels_taken(channels) & look_taken(look)
 }
 
 // Eight bytes a number: the delay lines, marks and minima, weights and attack row, and for each
@@ -43,43 +40,29 @@ fn bytes_of(channels: usize, look: usize) -> u64
 pub fn row_len(look: usize) -> usize
     ensures { result ≡ row_of look }
 {
-    if look < 12 { 1 } else { look - 11 }
+    look.saturating_sub(11).max(1)
 }
 
-// What a cap says of bytes needed: over it, both are told.
-#[derive(Clone, Copy)]
-pub enum CapJudged {
-    Passed,
-    Over { needed: u64, cap: u64 },
+// 7 and 15: the bytes needed, and the cap that they are over.
+#[derive(Clone, Copy, Debug, PartialEq, Eq)]
+pub struct OverCap {
+    pub needed: u64,
+    pub cap: u64,
 }
 
-pub fn judge_cap(needed: u64, cap: Cap) -> CapJudged
+// Whether a cap takes the bytes needed. Without one there is no limit.
+pub fn judge_cap(needed: u64, cap: Option<u64>) -> Result<(), OverCap>
     ensures { result ≡ cap_judged needed cap }
 {
     match cap {
-        Cap::Unlimited => CapJudged::Passed,
-        Cap::Bytes(most) => {
-            if needed <= most {
-                CapJudged::Passed
-            } else {
-                CapJudged::Over { needed, cap: most }
-            }
-        }
+        Some(cap) if cap < needed => Err(OverCap { needed, cap }),
+        _ => Ok(()),
     }
 }
 
 // What is left of the cap once so many bytes are taken; nothing where they do not fit.
-pub fn left_of(bytes: u64, cap: Cap) -> Cap
+pub fn left_of(bytes: u64, cap: Option<u64>) -> Option<u64>
     ensures { result ≡ left_of bytes cap }
 {
-    match cap {
-        Cap::Unlimited => Cap::Unlimited,
-        Cap::Bytes(most) => {
-            if bytes <= most {
-                Cap::Bytes(most - bytes)
-            } else {
-                Cap::Bytes(0)
-            }
-        }
-    }
+    cap.map(|most| most.saturating_sub(bytes))
 }

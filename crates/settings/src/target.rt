@@ -3,8 +3,6 @@
 ghost use Rattle.std.specs.Prelude.{◌≡◌};
 ghost use Rattle.settings.specs.Target.{kept, target_of};
 
-use arithmetic::math::ExpAnswer;
-
 const LN_10: f64 = 2.302585092994046;
 
 // An argument above 0 or NaN counts as 0, one below −700 as −700.
@@ -22,8 +20,5 @@ pub fn target(threshold_db: f64, margin_db: f64) -> f64
     ensures { result ≡ target_of threshold_db margin_db }
 {
     let a = kept_argument((threshold_db - margin_db) * (LN_10 / 20.0));
-    match arithmetic::math::exp(a) {
-        ExpAnswer::Value(v) => v,
-        ExpAnswer::OutOfDomain => 0.0,
-    }
+    arithmetic::math::exp(a).unwrap_or(0.0)
 }

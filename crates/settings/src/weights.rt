@@ -26,17 +26,14 @@ fn sums_up(weights: &[f64]) -> bool
     let slack = 512 * (weights.len() as u64);
     let most = 1152921504606846976 + slack;
     let mut sum: u64 = 0;
-    let mut i: usize = 0;
-    while i < weights.len() {
-        let w = weights[i];
-        if !in_unit(w) {
+    for w in weights {
+        if !in_unit(*w) {
             return false;
         }
-        sum = sum + part(w);
+        sum += part(*w);
         if most < sum {
             return false;
         }
-        i += 1;
     }
     1152921504606846976 <= sum + slack
 }
@@ -57,34 +54,24 @@ fn mirrored(weights: &[f64]) -> bool
     requires { all_in_unit weights.now ≡ true }
     ensures { result ≡ mirrored weights.now }
 {
-    let half = weights.len() / 2;
-    let mut i: usize = 0;
-    while i < half {
+    // by index: `parts_near` asks of both weights what a closure over the pairs does not know
+    for i in 0..weights.len() / 2 {
         if !parts_near(weights[i], weights[weights.len() - 1 - i]) {
             return false;
         }
-        i += 1;
     }
     true
 }
 
 // Whether the weights rise strictly up to the middle place.
 fn rising(weights: &[f64]) -> bool
-    requires { length weights.now ≤ 4096 }
     ensures { result ≡ rising (first_half weights.now) }
 {
-    let half = (weights.len() + 1) / 2;
-    let mut i: usize = 0;
-    while i + 1 < half {
-        if !(weights[i] < weights[i + 1]) {
-            return false;
-        }
-        i += 1;
-    }
-    true
+    weights[..weights.len().div_ceil(2)].is_sorted_by(|v, w| v < w)
 }
 
-// Whether the weights are accepted.
+// Whether the weights are accepted. That they are few comes from `lengths_fit` before, and is a clause of the three that read
+// them: a struct of them would be made for this call alone.
 pub fn accepted(weights: &[f64]) -> bool
     requires { length weights.now ≤ 4096 }
     ensures { result ≡ accepted weights.now }

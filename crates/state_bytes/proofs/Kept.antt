@@ -52,7 +52,7 @@ use Rattle.turns.proofs.Kernel.{Kernel, block_kernel, drain_kernel}
 use Rattle.driver.specs.Calls.{Left, left, with_rest, budget_reply, setup_of, parameter_reply, parameter_of, reset_done, reset_of, gain_fits, gain_reply, gain_of, gain_done, gain_step}
 use Rattle.driver.specs.declared.state.KernelProcessor.{KernelProcessor}
 use Rattle.driver.proofs.Judged.{prepared_is as machine-prepared}
-use Rattle.driver.specs.declared.answers.Answer.{Answer}
+use Rattle.std.proofs.Common.{Ok}
 use Rattle.driver.proofs.Stepped.{gain_fit, gain_ready}
 use Rattle.state_bytes.specs.State.{state_words, is_state, state_in, never, processor_in, processor_of}
 use Rattle.state_bytes.proofs.Storable.{Fits, LimiterFits, LimiterSmall, Storable}
@@ -234,7 +234,7 @@ module _ (m : Machine) (h : Stored m) where
       let k = Order.is_in_order l s.marks s.minima s.row in
       let q = passed_unless (k && target_in_range m.bank) 18 _ f.1 in
       let o = order_is l s.marks s.minima s.row (and-true k (target_in_range m.bank) q.0).0 in
-      let after = step_in_order s.weights e l.release_coeff x (gain_ready m x Answer.Finished (ap numbered (sym z)) refl) in
+      let after = step_in_order s.weights e l.release_coeff x (gain_ready m x (Ok tt) (ap numbered (sym z)) tt refl) in
       order_small (gain_done m (gain_of m x)).machine.limiter _ _ _ (machine-prepared l m.bank p.0).kernel after.in_order after.row (sym after.weighed ∙ (gain_fit l s f.0).weights_is) o.place o.drained_most
 
   pub gain_storable : (x : Float) → Stored (gain_step m x).machine

@@ -4,12 +4,12 @@ use mathlib.Core.Logic.{◌≢◌}
 use mathlib.Core.Bool.{Bool, true, false, cond, ◌&&◌}
 use mathlib.Core.List.{List, [], ◌∷◌, ◌++◌, map, append_assoc, append-nil}
 use Prim.Native.Nat.{ℕ, zero, suc, ◌+◌, ◌-◌, ◌*◌, ◌≤◌, ◌<◌}
-use native.Mathlib.Numerals.{add-one}
 use native.Mathlib.Omega.{arith}
 use lib.Dec.{eqb}
 use lib.ListN.{length, get_or, take, drop, replicate, length-append, drop_of_length-le, take-append-drop}
-use lib.Seq.{take_all, take_at, drop-drop, drop-cons, length-take-le}
+use lib.Seq.{take_all, take_at, drop-drop, length-take-le}
 use borrow.Author.Tests.{eqb-true, eq-eqb, ne_eqb}
+use Rattle.std.proofs.Math.Bool.{and_assoc}
 use Rattle.arithmetic.proofs.Order.{and-true, same_test}
 use Rattle.audio.specs.Bytes.{word_of, bytes_of, cut, joined, words_in, bytes_out}
 use Rattle.audio.specs.Inner.{put}
@@ -26,10 +26,6 @@ use Rattle.driver.specs.Parts.{shown_of, bank_with}
 use Rattle.driver.specs.declared.state.KernelProcessor.{KernelProcessor}
 use Rattle.driver.specs.declared.state.Threshold.{Threshold}
 use Rattle.state_bytes.specs.State.{layout, state_words, state_bytes, zeros_at, holds_state, is_state, limiter_in, bank_in, state_in, limiter_out, words_out, never, processor_in, state_out}
-
-and_assoc : (a b c : Bool) → ((a && b) && c) ≡ (a && (b && c))
-and_assoc true b c = refl
-and_assoc false b c = refl
 
 -- ---- a word in its place
 word_mapped : (places : List (List ℕ)) (k : ℕ) → get_or (map word_of places) k 0 ≡ word_of (get_or places k [])
@@ -71,27 +67,13 @@ zero_words bytes (suc n) k l e =
     ∙ ap (λ (t : Bool). t && all_zero (drop 8 d)) (sym (zero_word (take 8 d)) ∙ ap (λ (w : ℕ). eqb w 0) (word_in bytes state_words k (omega (arith, e))))
     ∙ ap (λ (t : Bool). eqb (get_or (words_in 8 state_words bytes) k 0) 0 && t) (ap all_zero (drop-drop 8 (8 * k) bytes ∙ ap (λ (i : ℕ). drop i bytes) next) ∙ zero_words bytes n (k + 1) l (omega (arith, e)))
 
--- as the code reads it: byte by byte, from word 35 on
-module _ (bytes : List ℕ) (l : length bytes ≡ state_bytes) (i : ℕ) (p : Bool) (e : p && all_zero (drop i bytes) ≡ all_zero (drop 280 bytes)) where
-  pub zeros_more : i < state_bytes → (p && eqb (get_or bytes i 0) 0) && all_zero (drop (i + 1) bytes) ≡ all_zero (drop 280 bytes)
-  zeros_more h = go p e
-    where
-      split : drop i bytes ≡ get_or bytes i 0 ∷ drop (i + 1) bytes
-      split = rw (add-one i) (drop-cons bytes i 0 (omega (arith, l)))
-
-      go : (p : Bool) → p && all_zero (drop i bytes) ≡ all_zero (drop 280 bytes) → (p && eqb (get_or bytes i 0) 0) && all_zero (drop (i + 1) bytes) ≡ all_zero (drop 280 bytes)
-      go true e = rw split at e
-      go false e = e
-
-  pub zeros_done : state_bytes ≤ i → p ≡ zeros_at (words_in 8 state_words bytes) 35 29
-  zeros_done h = go p e ∙ zero_words bytes 29 35 l refl
-    where
-      past : length bytes ≤ i
-      past = omega (arith, l)
-
-      go : (p : Bool) → p && all_zero (drop i bytes) ≡ all_zero (drop 280 bytes) → p ≡ all_zero (drop 280 bytes)
-      go true e = rw (drop_of_length-le bytes {i = i} past) at e
-      go false e = e
+-- as the code reads it, from word 35 on: an answer with nothing left to read
+pub zeros_done : (bytes rest : List ℕ) (i : ℕ) (p : Bool) → length bytes ≡ state_bytes → p && all_zero (drop i rest) ≡ all_zero (drop 280 bytes) → length rest ≤ i → p ≡ zeros_at (words_in 8 state_words bytes) 35 29
+zeros_done bytes rest i p l e h = go p e ∙ zero_words bytes 29 35 l refl
+  where
+    go : (p : Bool) → p && all_zero (drop i rest) ≡ all_zero (drop 280 bytes) → p ≡ all_zero (drop 280 bytes)
+    go true e = rw (drop_of_length-le rest {i = i} h) at e
+    go false e = e
 
 -- ---- reading
 -- by what it holds with any stores
@@ -99,17 +81,13 @@ pub never_is : (p : KernelProcessor) → ((stores : Stores) → machine_at p sto
 never_is p h = ap (λ (m : Machine). record { limiter = m.limiter; bank = m.bank }) (h (stores_at [] [] [] [] [] []))
 
 module _ (bytes : List ℕ) where
-  pub is_short : length bytes ≢ state_bytes → false ≡ is_state bytes
+  pub is_short : length bytes ≢ state_bytes → eqb (length bytes) state_bytes ≡ is_state bytes
   unfolding is_state
-  is_short h = sym (rw (ne_eqb (length bytes) state_bytes h) refl)
+  is_short h = rw (ne_eqb (length bytes) state_bytes h) refl
 
   pub is_held : length bytes ≡ state_bytes → (r : Bool) → r ≡ holds_state (words_in 8 state_words bytes) → r ≡ is_state bytes
   unfolding is_state
   is_held h r R = R ∙ sym (rw (eq-eqb (length bytes) state_bytes h) refl)
-
-  pub state_long : is_state bytes ≡ true → length bytes ≡ state_bytes
-  unfolding is_state
-  state_long h = eqb-true (length bytes) state_bytes (and-true (eqb (length bytes) state_bytes) (holds_state (words_in 8 state_words bytes)) h).0
 
   pub read_other : is_state bytes ≡ false → processor_in bytes ≡ never
   unfolding processor_in

@@ -3,7 +3,8 @@
 ghost use Rattle.std.specs.Prelude.{◌≡◌, true, []};
 ghost use Rattle.bank.specs.Smoother.{stepped};
 ghost use Rattle.bank.specs.Bank.{all_changed};
-ghost use Rattle.limiter.specs.Stores.{stores_at};
+ghost use Rattle.frame.specs.Lent.{Stays};
+ghost use Rattle.limiter.specs.Stores.{stores_in};
 ghost use Rattle.turns.specs.Machine.{machine_of};
 ghost use Rattle.frame.specs.Run.{peaks_of_frames};
 ghost use Rattle.frame.specs.Place.{place_found_at, place_told};
@@ -17,18 +18,20 @@ use bank::smoother_bank::SmootherBank;
 use driver::ready::shown;
 use driver::state::Threshold;
 use frame::highest::Seat;
+use frame::stores::Lent;
 use limiter::state::Limiter;
 use settings::target::target;
 use turns::drive::{drive_still, drive_turns};
 
-// What a block leaves beside audio and stores: the limiter, and what its bank shows.
+// What a block leaves beside audio and stores: the limiter, and what its bank shows. One type with `Driven`, over what is
+// kept of the bank, would not say which of the two a field holds.
 #[derive(Clone, Copy)]
 pub struct RenderedBlock {
     pub limiter: Limiter,
     pub threshold: Threshold,
     // the first frame with its highest linked peak, 0 where there is none or nobody asked, and where that sat
     pub frame: usize,
-    pub seat: Seat,
+    pub seat: Option<Seat>,
 }
 
 // The bank that shows this and holds no other parameter.
@@ -61,24 +64,20 @@ fn render_still(
     position: u64,
     frames: usize,
     audio: &mut [u8],
-    delay: &mut [f64],
-    marks: &mut [u64],
-    minima: &mut [f64],
-    weights: &[f64],
-    row: &mut [f64],
-    detector: &mut [f64],
+    lent: &mut Lent,
     asked: bool,
 ) -> RenderedBlock
-    requires block_asked { BlockAsked (machine_of l (bank_with t) (stores_at delay.old marks.old minima.old weights.now row.old detector.old)) format position frames audio.old }
+    requires block_asked { BlockAsked (machine_of l (bank_with t) (stores_in lent.old)) format position frames audio.old }
     requires at_rest { all_changed stepped (bank_with t) ≡ bank_with t }
-    ensures shown { rendered_at result (stores_at delay.new marks.new minima.new weights.now row.new detector.new)
-        ≡ showing (driven format (machine_of l (bank_with t) (stores_at delay.old marks.old minima.old weights.now row.old detector.old)) position frames
+    ensures stays { Stays lent.old lent.new }
+    ensures shown { rendered_at result (stores_in lent.new)
+        ≡ showing (driven format (machine_of l (bank_with t) (stores_in lent.old)) position frames
         [] audio.old).machine }
     ensures audio_after { audio.new
-        ≡ (driven format (machine_of l (bank_with t) (stores_at delay.old marks.old minima.old weights.now row.old detector.old)) position frames
+        ≡ (driven format (machine_of l (bank_with t) (stores_in lent.old)) position frames
         [] audio.old).bytes }
     ensures seat_value { place_found_at result.frame result.seat
-        ≡ place_told asked (peaks_of_frames (driven format (machine_of l (bank_with t) (stores_at delay.old marks.old minima.old weights.now row.old detector.old)) position frames
+        ≡ place_told asked (peaks_of_frames (driven format (machine_of l (bank_with t) (stores_in lent.old)) position frames
         [] audio.old).frames) }
 {
     let settings = l.settings;
@@ -90,12 +89,7 @@ fn render_still(
         position,
         frames,
         audio,
-        delay,
-        marks,
-        minima,
-        weights,
-        row,
-        detector,
+        lent,
         asked,
     );
     let limiter = moved.limiter;
@@ -119,31 +113,24 @@ pub fn render_block(
     frames: usize,
     events: &[u64],
     audio: &mut [u8],
-    delay: &mut [f64],
-    marks: &mut [u64],
-    minima: &mut [f64],
-    weights: &[f64],
-    row: &mut [f64],
-    detector: &mut [f64],
+    lent: &mut Lent,
     asked: bool,
 ) -> RenderedBlock
-    requires { BlockAsked (machine_of l (bank_with t) (stores_at delay.old marks.old minima.old weights.now row.old detector.old)) format position frames audio.old }
-    ensures shown { rendered_at result (stores_at delay.new marks.new minima.new weights.now row.new detector.new)
-        ≡ showing (driven format (machine_of l (bank_with t) (stores_at delay.old marks.old minima.old weights.now row.old detector.old)) position frames
+    requires { BlockAsked (machine_of l (bank_with t) (stores_in lent.old)) format position frames audio.old }
+    ensures stays { Stays lent.old lent.new }
+    ensures shown { rendered_at result (stores_in lent.new)
+        ≡ showing (driven format (machine_of l (bank_with t) (stores_in lent.old)) position frames
         events.now audio.old).machine }
     ensures audio_after { audio.new
-        ≡ (driven format (machine_of l (bank_with t) (stores_at delay.old marks.old minima.old weights.now row.old detector.old)) position frames
+        ≡ (driven format (machine_of l (bank_with t) (stores_in lent.old)) position frames
         events.now audio.old).bytes }
     ensures seat_value { place_found_at result.frame result.seat
-        ≡ place_told asked (peaks_of_frames (driven format (machine_of l (bank_with t) (stores_at delay.old marks.old minima.old weights.now row.old detector.old)) position frames
+        ≡ place_told asked (peaks_of_frames (driven format (machine_of l (bank_with t) (stores_in lent.old)) position frames
         events.now audio.old).frames) }
 {
     // most blocks: no whole event, and a bank at rest
     if (events.len() < 3) & rests(t) {
-        return render_still(
-            l, t, format, position, frames, audio, delay, marks, minima, weights, row, detector,
-            asked,
-        );
+        return render_still(l, t, format, position, frames, audio, lent, asked);
     }
     let left = drive_turns(
         l,
@@ -153,12 +140,7 @@ pub fn render_block(
         frames,
         events,
         audio,
-        delay,
-        marks,
-        minima,
-        weights,
-        row,
-        detector,
+        lent,
         asked,
     );
     let limiter = left.limiter;

@@ -1,4 +1,5 @@
-// A state into its buffer: its words part by part, each from its place on.
+// A state into its buffer: its words part by part, each from its place on. The buffer is lent to be written, so that it has
+// 512 bytes is a clause, and no fact of a type.
 ghost use Rattle.std.specs.Prelude.{◌≡◌, ◌+◌, ◌*◌, ◌≤◌, length};
 ghost use Rattle.audio.specs.Bytes.{bytes_out};
 ghost use Rattle.audio.specs.Inner.{put};
@@ -8,7 +9,7 @@ ghost use Rattle.state_bytes.specs.State.{state_bytes, limiter_out, state_out};
 
 use arithmetic::pattern::to_bits;
 use audio::words::write_words;
-use bank::words::{flag, smoother_out};
+use bank::words::smoother_out;
 use driver::ready::shown;
 use driver::state::{KernelProcessor, Threshold};
 use limiter::state::Limiter;
@@ -64,7 +65,7 @@ pub fn write_parts(state: &mut [u8], limiter: Limiter, t: Threshold)
         &[
             t.count as u64,
             t.rate as u64,
-            flag(t.ready),
+            u64::from(t.ready),
             settings.left_out as u64,
         ],
     );

@@ -93,7 +93,7 @@ module _ (format : Format) (position frames : ℕ) (bytes₀ : List ℕ) (l₀ :
         -- a run of frames at this target is a turn
         given : (b : SmootherBank) → AtRest l₀ target b → TurnGiven (machine_of l b s) (block first h) format [] bytes run (machine_of after b stores) (block (first + n) g) bytes' run'
         given b z =
-            turn_given (machine_of l b s) (block first h) format [] bytes run (asks b z) n N (record { bank = b; cursor = 0 }) (still_before b z.still (position + first) first) (omega arith) target (target_of_lem b z) after stores bytes' run' g r
+            turn_given (machine_of l b s) (block first h) format [] bytes run (asks b z) n N b 0 (still_before b z.still (position + first) first) (omega arith) target (target_of_lem b z) after stores bytes' run' g r
 
         pub going_more : Going (first + n) g after stores bytes' run'
         going_more b z =

@@ -22,7 +22,6 @@ use Rattle.turns.specs.Machine.{Machine, machine_of, threshold_of}
 use Rattle.turns.specs.Events.{Latched}
 use Rattle.turns.specs.Block.{rendered_in, run_at, outputs_of}
 use Rattle.turns.specs.Inner.{waiting_at, latched_at, before_run, RunAsked, RunGiven, frames_left, stands_at, TurnAsked, TurnGiven}
-use Rattle.turns.specs.declared.events.LatchedTo.{LatchedTo}
 use Rattle.turns.specs.declared.turn.Unfinished.{Unfinished}
 
 module _ (m : Machine) (block : Unfinished) (format : Format) (words bytes : List ℕ) (run : List Float) (a : TurnAsked m block format words bytes run) (n : ℕ) (N : n ≡ run_at (stands_at block) (frames_left block)) where
@@ -41,20 +40,20 @@ module _ (m : Machine) (block : Unfinished) (format : Format) (words bytes : Lis
     inside = turn_inside.2;
   }
 
-  module _ (l : LatchedTo) (B : latched_at l words ≡ before_run (stands_at block) block.rendered (waiting_at words block.latched) m.bank) (few : l.cursor ≤ length words / 3)
-      (target : Float) (T : target ≡ target_of (threshold_of l.bank).cur m.limiter.settings.true_peak_margin_db) (after : Limiter) (stores : Stores) (bytes' : List ℕ) (run' : List Float) (highest : Highest)
+  module _ (b : SmootherBank) (cursor : ℕ) (B : latched_at b cursor words ≡ before_run (stands_at block) block.rendered (waiting_at words block.latched) m.bank) (few : cursor ≤ length words / 3)
+      (target : Float) (T : target ≡ target_of (threshold_of b).cur m.limiter.settings.true_peak_margin_db) (after : Limiter) (stores : Stores) (bytes' : List ℕ) (run' : List Float) (highest : Highest)
       (r : RunGiven m.limiter format target block.frames block.rendered n m.stores bytes run after stores bytes' run' block.highest highest) where
     abbrev now : SmootherBank
     now = (before_run (stands_at block) block.rendered (waiting_at words block.latched) m.bank).bank
 
-    bank_is : l.bank ≡ now
+    bank_is : b ≡ now
     bank_is = ap (λ (x : Latched). x.bank) B
 
     abbrev due : Float
     due = target_of (threshold_of now).cur m.limiter.settings.true_peak_margin_db
 
     target_is : target ≡ due
-    target_is = T ∙ ap (λ (b : SmootherBank). target_of (threshold_of b).cur m.limiter.settings.true_peak_margin_db) bank_is
+    target_is = T ∙ ap (λ (x : SmootherBank). target_of (threshold_of x).cur m.limiter.settings.true_peak_margin_db) bank_is
 
     abbrev frames : ℕ → List (List Float)
     frames i = frames_at nan block.frames m.limiter.channels block.rendered i (samples_of format bytes)
@@ -68,7 +67,7 @@ module _ (m : Machine) (block : Unfinished) (format : Format) (words bytes : Lis
     abbrev High : ℕ → Float → Type 0
     High i x = highest ≡ highest_from block.rendered block.highest (peaks_of_frames (rendered_in format m m.limiter m.stores x (frames i)).frames)
 
-    pub turn_given : TurnGiven m block format words bytes run (machine_of after l.bank stores) (record { position = block.position; frames = block.frames; rendered = block.rendered + n; latched = l.cursor; highest = highest }) bytes' run'
+    pub turn_given : TurnGiven m block format words bytes run (machine_of after b stores) (record { position = block.position; frames = block.frames; rendered = block.rendered + n; latched = cursor; highest = highest }) bytes' run'
     turn_given = record {
       machine_is = rw (r.limiter_is, r.stores_are, target_is, bank_is, N) refl;
       waiting_is = ap (λ (x : Latched). x.waiting) B;

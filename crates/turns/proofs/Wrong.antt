@@ -23,6 +23,7 @@ use Rattle.bank.specs.Smoother.{stepped}
 use Rattle.bank.specs.Bank.{unset, first_mapped, all_changed}
 use Rattle.bank.specs.declared.smoother.Smoother.{Smoother}
 use Rattle.bank.specs.declared.smoother_bank.SmootherBank.{SmootherBank}
+use Rattle.std.specs.Prelude.{Some}
 use Rattle.frame.specs.declared.highest.Seat.{Seat}
 use Rattle.turns.specs.Machine.{Machine, machine_of}
 use Rattle.turns.specs.Events.{Event, latched_one, latched, latched_all, events_reply}
@@ -31,7 +32,7 @@ use Rattle.turns.specs.Drain.{drain_done}
 
 -- ---- renderers that give out 1.0 in each frame of their one channel, and move nothing: what a call writes is seen by it alone. The peaks that they show are 1.0, or the samples
 abbrev loud_frame : Limiter → Stores → Float → Framed
-loud_frame l s p = record { at = record { peak = p; seat = Seat.OnSample 0 }; floor = one; dropped = 0; mean = one; gain = one; outputs = one ∷ []; moving = moving_of l s }
+loud_frame l s p = record { at = record { peak = p; seat = Some (Seat.OnSample 0) }; floor = one; dropped = 0; mean = one; gain = one; outputs = one ∷ []; moving = moving_of l s }
 
 abbrev loud : Renderer
 loud l s target fs = record { limiter = l; stores = s; frames = map (λ (xs : List Float). loud_frame l s one) fs }
@@ -62,8 +63,8 @@ both_runs_written = refl
 
 -- a frame counted from its run's start: of two runs the second has the higher peak. The highest so far lost between runs: it is only as high
 pub place_in_block :
-    (place_of (peaks_of_frames (block_done heard F64 (machine 0) 31 2 [] (silent 8 ++ one_bytes)).frames) ≡ place_found_at 1 (Seat.OnSample 0))
-    × (place_of (peaks_of_frames (block_done loud F64 (machine 0) 31 2 [] (silent 16)).frames) ≡ place_found_at 0 (Seat.OnSample 0))
+    (place_of (peaks_of_frames (block_done heard F64 (machine 0) 31 2 [] (silent 8 ++ one_bytes)).frames) ≡ place_found_at 1 (Some (Seat.OnSample 0)))
+    × (place_of (peaks_of_frames (block_done loud F64 (machine 0) 31 2 [] (silent 16)).frames) ≡ place_found_at 0 (Some (Seat.OnSample 0)))
 unfolding bytewise runs_from runs_through latched latched_all first_mapped place_of highest_of first_with lt eq of_bits
 place_in_block = (refl, refl)
 

@@ -1,5 +1,5 @@
 -- A block: its turns, what it refuses, and what it leaves.
-use Rattle.std.specs.Prelude.{ℕ, zero, suc, ◌+◌, ◌-◌, ◌*◌, ◌%◌, ◌^◌, min, Bool, cond, ◌&&◌, List, [], ◌∷◌, ◌++◌, map, eqb, leb, take, drop, Float}
+use Rattle.std.specs.Prelude.{ℕ, zero, suc, ◌+◌, ◌-◌, ◌*◌, ◌%◌, ◌^◌, min, Bool, cond, ◌&&◌, List, [], ◌∷◌, ◌++◌, map, Option, Some, None, eqb, leb, take, drop, Float}
 use Rattle.std.specs.Float.{nan}
 use Rattle.arithmetic.specs.Reply.{Reply, finished, numbered, count, and_then, must}
 use Rattle.audio.specs.Planar.{frames_at}
@@ -116,10 +116,10 @@ unfoldable pub block_reply : Machine → ℕ → ℕ → List Event → ℕ → 
 block_reply m position frames events size = and_then (numbered (ready_refusal m)) (call_reply m position frames events size)
 
 -- ---- Change 5: what a finished block tells. On a sample: 1, the frame, the channel; between two samples: 2, the frame, the channel, the phase; where there is no place, nothing
-abbrev pub placed : ℕ → Seat → Reply
-placed i Seat.Nowhere = finished []
-placed i (Seat.OnSample c) = finished (count 1 ∷ count i ∷ count c ∷ [])
-placed i (Seat.Between c phase) = finished (count 2 ∷ count i ∷ count c ∷ count phase ∷ [])
+abbrev pub placed : ℕ → Option Seat → Reply
+placed i None = finished []
+placed i (Some (Seat.OnSample c)) = finished (count 1 ∷ count i ∷ count c ∷ [])
+placed i (Some (Seat.Between c phase)) = finished (count 2 ∷ count i ∷ count c ∷ count phase ∷ [])
 
 abbrev pub place_reply : Place → Reply
 place_reply p = placed p.frame p.seat

@@ -24,7 +24,6 @@ use Rattle.turns.specs.Machine.{Machine, machine_of, threshold_of}
 use Rattle.turns.specs.Events.{Event, events_from, events_of, Latched, latched}
 use Rattle.turns.specs.Block.{Rendered, rendered, rendered_in, run_at, bank_at, Turn, turn_by, farthest, Outcome, outputs_of, block_done}
 use Rattle.turns.specs.Drain.{silence}
-use Rattle.turns.specs.declared.events.LatchedTo.{LatchedTo}
 use Rattle.turns.specs.declared.turn.Unfinished.{Unfinished}
 
 -- ---- events
@@ -33,8 +32,8 @@ abbrev pub waiting_at : List ℕ → ℕ → List Event
 waiting_at words cursor = events_from words cursor (length words / 3 - cursor)
 
 -- as the code hands them on: the cursor is the index of the first event that waits
-abbrev pub latched_at : LatchedTo → List ℕ → Latched
-latched_at r words = record { bank = r.bank; waiting = waiting_at words r.cursor }
+abbrev pub latched_at : SmootherBank → ℕ → List ℕ → Latched
+latched_at b cursor words = record { bank = b; waiting = waiting_at words cursor }
 
 -- latch, then step
 abbrev pub before_run : ℕ → ℕ → List Event → SmootherBank → Latched

@@ -1,7 +1,9 @@
-// The turns of a block (driver.rs: `drive`).
+// The turns of a block (driver.rs: `drive`). What is asked of one stays in parameters: a struct of it would hold the loan of
+// its audio, and want a clause for that in each function.
 ghost use Rattle.std.specs.Prelude.{◌≡◌, []};
 ghost use Rattle.bank.specs.declared.smoother_bank.SmootherBank.{SmootherBank};
-ghost use Rattle.limiter.specs.Stores.{stores_at};
+ghost use Rattle.frame.specs.Lent.{Stays};
+ghost use Rattle.limiter.specs.Stores.{stores_in};
 ghost use Rattle.turns.specs.Machine.{machine_of};
 ghost use Rattle.frame.specs.Run.{peaks_of_frames};
 ghost use Rattle.frame.specs.Place.{place_found_at, place_in, place_told};
@@ -12,6 +14,7 @@ use crate::turn::{Unfinished, render_frames, run_length, run_room, target_now, t
 use audio::format::Format;
 use bank::smoother_bank::SmootherBank;
 use frame::highest::{Seat, start_of};
+use frame::stores::Lent;
 use limiter::run::Moved;
 use limiter::state::Limiter;
 
@@ -22,7 +25,7 @@ pub struct Driven {
     pub bank: SmootherBank,
     // the first frame with its highest linked peak, 0 where there is none or nobody asked, and where that sat
     pub frame: usize,
-    pub seat: Seat,
+    pub seat: Option<Seat>,
 }
 
 // A block with no event, at the target of a bank that a step leaves alone: every run has that target. The bank, which
@@ -34,23 +37,19 @@ pub fn drive_still(
     position: u64,
     frames: usize,
     audio: &mut [u8],
-    delay: &mut [f64],
-    marks: &mut [u64],
-    minima: &mut [f64],
-    weights: &[f64],
-    row: &mut [f64],
-    detector: &mut [f64],
+    lent: &mut Lent,
     asked: bool,
 ) -> Moved
-    requires { StillAsked limiter target (stores_at delay.old marks.old minima.old weights.now row.old detector.old) format position frames audio.old }
-    ensures machine_after { (b : SmootherBank) → AtRest limiter target b → machine_of result.limiter b (stores_at delay.new marks.new minima.new weights.now row.new detector.new)
-        ≡ (driven format (machine_of limiter b (stores_at delay.old marks.old minima.old weights.now row.old detector.old)) position frames
+    requires { StillAsked limiter target (stores_in lent.old) format position frames audio.old }
+    ensures stays { Stays lent.old lent.new }
+    ensures machine_after { (b : SmootherBank) → AtRest limiter target b → machine_of result.limiter b (stores_in lent.new)
+        ≡ (driven format (machine_of limiter b (stores_in lent.old)) position frames
         [] audio.old).machine }
     ensures audio_after { (b : SmootherBank) → AtRest limiter target b → audio.new
-        ≡ (driven format (machine_of limiter b (stores_at delay.old marks.old minima.old weights.now row.old detector.old)) position frames
+        ≡ (driven format (machine_of limiter b (stores_in lent.old)) position frames
         [] audio.old).bytes }
     ensures highest_value { (b : SmootherBank) → AtRest limiter target b → place_in result.highest
-        ≡ place_told asked (peaks_of_frames (driven format (machine_of limiter b (stores_at delay.old marks.old minima.old weights.now row.old detector.old)) position frames
+        ≡ place_told asked (peaks_of_frames (driven format (machine_of limiter b (stores_in lent.old)) position frames
         [] audio.old).frames) }
 {
     let mut run = run_room();
@@ -59,14 +58,14 @@ pub fn drive_still(
         limiter,
         highest: start_of(asked),
     };
+    // no range has these steps: a run ends at a multiple of 32 of the position
     let mut first: usize = 0;
     while first < frames {
         let n = run_length(position + first as u64, frames - first);
         let l = moved.limiter;
         let best = moved.highest;
         moved = render_frames(
-            l, format, target, frames, first, n, audio, &mut run, delay, marks, minima, weights,
-            row, detector, best,
+            l, format, target, frames, first, n, audio, &mut run, lent, best,
         );
         first += n;
     }
@@ -82,23 +81,19 @@ pub fn drive_turns(
     frames: usize,
     events: &[u64],
     audio: &mut [u8],
-    delay: &mut [f64],
-    marks: &mut [u64],
-    minima: &mut [f64],
-    weights: &[f64],
-    row: &mut [f64],
-    detector: &mut [f64],
+    lent: &mut Lent,
     asked: bool,
 ) -> Driven
-    requires { BlockAsked (machine_of limiter bank (stores_at delay.old marks.old minima.old weights.now row.old detector.old)) format position frames audio.old }
-    ensures machine_after { machine_of result.limiter result.bank (stores_at delay.new marks.new minima.new weights.now row.new detector.new)
-        ≡ (driven format (machine_of limiter bank (stores_at delay.old marks.old minima.old weights.now row.old detector.old)) position frames
+    requires { BlockAsked (machine_of limiter bank (stores_in lent.old)) format position frames audio.old }
+    ensures stays { Stays lent.old lent.new }
+    ensures machine_after { machine_of result.limiter result.bank (stores_in lent.new)
+        ≡ (driven format (machine_of limiter bank (stores_in lent.old)) position frames
         events.now audio.old).machine }
     ensures audio_after { audio.new
-        ≡ (driven format (machine_of limiter bank (stores_at delay.old marks.old minima.old weights.now row.old detector.old)) position frames
+        ≡ (driven format (machine_of limiter bank (stores_in lent.old)) position frames
         events.now audio.old).bytes }
     ensures seat_value { place_found_at result.frame result.seat
-        ≡ place_told asked (peaks_of_frames (driven format (machine_of limiter bank (stores_at delay.old marks.old minima.old weights.now row.old detector.old)) position frames
+        ≡ place_told asked (peaks_of_frames (driven format (machine_of limiter bank (stores_in lent.old)) position frames
         events.now audio.old).frames) }
 {
     let mut run = run_room();
@@ -112,11 +107,9 @@ pub fn drive_turns(
         latched: 0,
         highest,
     };
+    // no range has these steps: each turn tells how far it came
     while block.rendered < frames {
-        let t = turn(
-            l, b, block, format, events, audio, &mut run, delay, marks, minima, weights, row,
-            detector,
-        );
+        let t = turn(l, b, block, format, events, audio, &mut run, lent);
         l = t.limiter;
         b = t.bank;
         block = t.block;
@@ -124,18 +117,10 @@ pub fn drive_turns(
     let highest = block.highest;
     let frame = highest.frame;
     let seat = highest.seat;
-    // mostly nothing is left to latch: a bank is large, and is handed on as it came
-    if events.len() / 3 <= block.latched {
-        return Driven {
-            limiter: l,
-            bank: b,
-            frame,
-            seat,
-        };
-    }
+    latch_rest(&mut b, events, block.latched);
     Driven {
         limiter: l,
-        bank: latch_rest(b, events, block.latched),
+        bank: b,
         frame,
         seat,
     }
@@ -150,23 +135,19 @@ pub fn drive(
     frames: usize,
     events: &[u64],
     audio: &mut [u8],
-    delay: &mut [f64],
-    marks: &mut [u64],
-    minima: &mut [f64],
-    weights: &[f64],
-    row: &mut [f64],
-    detector: &mut [f64],
+    lent: &mut Lent,
     asked: bool,
 ) -> Driven
-    requires { BlockAsked (machine_of limiter bank (stores_at delay.old marks.old minima.old weights.now row.old detector.old)) format position frames audio.old }
-    ensures machine_after { machine_of result.limiter result.bank (stores_at delay.new marks.new minima.new weights.now row.new detector.new)
-        ≡ (driven format (machine_of limiter bank (stores_at delay.old marks.old minima.old weights.now row.old detector.old)) position frames
+    requires { BlockAsked (machine_of limiter bank (stores_in lent.old)) format position frames audio.old }
+    ensures stays { Stays lent.old lent.new }
+    ensures machine_after { machine_of result.limiter result.bank (stores_in lent.new)
+        ≡ (driven format (machine_of limiter bank (stores_in lent.old)) position frames
         events.now audio.old).machine }
     ensures audio_after { audio.new
-        ≡ (driven format (machine_of limiter bank (stores_at delay.old marks.old minima.old weights.now row.old detector.old)) position frames
+        ≡ (driven format (machine_of limiter bank (stores_in lent.old)) position frames
         events.now audio.old).bytes }
     ensures seat_value { place_found_at result.frame result.seat
-        ≡ place_told asked (peaks_of_frames (driven format (machine_of limiter bank (stores_at delay.old marks.old minima.old weights.now row.old detector.old)) position frames
+        ≡ place_told asked (peaks_of_frames (driven format (machine_of limiter bank (stores_in lent.old)) position frames
         events.now audio.old).frames) }
 {
     // most blocks: no whole event, and a bank at rest
@@ -178,12 +159,7 @@ pub fn drive(
             position,
             frames,
             audio,
-            delay,
-            marks,
-            minima,
-            weights,
-            row,
-            detector,
+            lent,
             asked,
         );
         let limiter = moved.limiter;
@@ -197,7 +173,6 @@ pub fn drive(
         };
     }
     drive_turns(
-        limiter, bank, format, position, frames, events, audio, delay, marks, minima, weights, row,
-        detector, asked,
+        limiter, bank, format, position, frames, events, audio, lent, asked,
     )
 }

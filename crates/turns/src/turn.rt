@@ -1,6 +1,7 @@
 // One turn of a block: latch, step the bank, render one run (driver.rs: a turn of `drive`).
 ghost use Rattle.std.specs.Prelude.{◌≡◌, length};
-ghost use Rattle.limiter.specs.Stores.{stores_at};
+ghost use Rattle.frame.specs.Lent.{Stays};
+ghost use Rattle.limiter.specs.Stores.{stores_in};
 ghost use Rattle.settings.specs.Target.{target_of};
 ghost use Rattle.turns.specs.Machine.{threshold_of, machine_of};
 ghost use Rattle.turns.specs.Block.{run_at};
@@ -11,6 +12,7 @@ use audio::format::Format;
 use audio::planar::{gather, scatter};
 use bank::smoother_bank::SmootherBank;
 use frame::highest::Highest;
+use frame::stores::Lent;
 use limiter::run::Moved;
 use limiter::state::Limiter;
 use settings::target::target;
@@ -38,8 +40,7 @@ pub struct Turned {
 pub fn run_length(position: u64, left: usize) -> usize
     ensures { result ≡ run_at position left }
 {
-    let rest = 32 - (position % 32) as usize;
-    if left < rest { left } else { rest }
+    (32 - (position % 32) as usize).min(left)
 }
 
 // Where a run is rendered: 32 places for each of 8 channels.
@@ -68,23 +69,17 @@ pub fn render_frames(
     n: usize,
     audio: &mut [u8],
     run: &mut [f64],
-    delay: &mut [f64],
-    marks: &mut [u64],
-    minima: &mut [f64],
-    weights: &[f64],
-    row: &mut [f64],
-    detector: &mut [f64],
+    lent: &mut Lent,
     best: Highest,
 ) -> Moved
-    requires { RunAsked limiter format target width first n (stores_at delay.old marks.old minima.old weights.now row.old detector.old) audio.old run.old }
-    ensures { RunGiven limiter format target width first n (stores_at delay.old marks.old minima.old weights.now row.old detector.old) audio.old
-        run.old result.limiter (stores_at delay.new marks.new minima.new weights.now row.new detector.new) audio.new run.new best result.highest }
+    requires { RunAsked limiter format target width first n (stores_in lent.old) audio.old run.old }
+    ensures stays { Stays lent.old lent.new }
+    ensures given { RunGiven limiter format target width first n (stores_in lent.old) audio.old
+        run.old result.limiter (stores_in lent.new) audio.new run.new best result.highest }
 {
     let channels = limiter.channels;
     gather(format, channels, n, width, first, audio, run);
-    let after = limiter.render(
-        format, target, n, run, delay, marks, minima, weights, row, detector, first, best,
-    );
+    let after = limiter.render(format, target, n, run, lent, first, best);
     scatter(format, channels, n, run, width, first, audio);
     after
 }
@@ -99,23 +94,19 @@ pub fn turn(
     events: &[u64],
     audio: &mut [u8],
     run: &mut [f64],
-    delay: &mut [f64],
-    marks: &mut [u64],
-    minima: &mut [f64],
-    weights: &[f64],
-    row: &mut [f64],
-    detector: &mut [f64],
+    lent: &mut Lent,
 ) -> Turned
-    requires { TurnAsked (machine_of limiter bank (stores_at delay.old marks.old minima.old weights.now row.old detector.old)) block format events.now audio.old run.old }
-    ensures { TurnGiven (machine_of limiter bank (stores_at delay.old marks.old minima.old weights.now row.old detector.old)) block format
+    requires { TurnAsked (machine_of limiter bank (stores_in lent.old)) block format events.now audio.old run.old }
+    ensures stays { Stays lent.old lent.new }
+    ensures given { TurnGiven (machine_of limiter bank (stores_in lent.old)) block format
         events.now audio.old run.old
-        (machine_of result.limiter result.bank (stores_at delay.new marks.new minima.new weights.now row.new detector.new)) result.block audio.new run.new }
+        (machine_of result.limiter result.bank (stores_in lent.new)) result.block audio.new run.new }
 {
     let first = block.rendered;
     let at = block.position + first as u64;
     let n = run_length(at, block.frames - first);
-    let before = before_run(bank, events, block.latched, at, first as u64);
-    let stepped = before.bank;
+    let mut stepped = bank;
+    let latched = before_run(&mut stepped, events, block.latched, at, first as u64);
     let best = block.highest;
     let after = render_frames(
         limiter,
@@ -126,12 +117,7 @@ pub fn turn(
         n,
         audio,
         run,
-        delay,
-        marks,
-        minima,
-        weights,
-        row,
-        detector,
+        lent,
         best,
     );
     let moved = after.limiter;
@@ -143,7 +129,7 @@ pub fn turn(
             position: block.position,
             frames: block.frames,
             rendered: first + n,
-            latched: before.cursor,
+            latched,
             highest,
         },
     }

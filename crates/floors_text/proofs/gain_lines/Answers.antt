@@ -1,92 +1,68 @@
--- `gain_lines`: the invariant is Going, whose laws say what a turn, a malformed line and the end of the input make of it. The measure is what is left of the input.
-use mathlib.Core.Path.{◌≡◌, sym, ap, ◌∙◌}
-use Prim.Native.Nat.{ℕ, ◌+◌, ◌≤◌, ◌<◌}
+-- `gain_lines`: the invariant is Going, whose laws say what a turn, a malformed line and the end of the text make of it. The measure is what is left of the text.
+use mathlib.Core.Path.{sym, ap, ◌∙◌}
 use native.Mathlib.Omega.{arith}
-use mathlib.Core.List.{List}
-use lib.ListN.{length}
-use Rattle.keeper.specs.Keeper.{Keeping, keeping_at, KeeperLeft}
-use Rattle.floors_text.proofs.Turns.{line_length, line-is, line_ends}
-use Rattle.floors_text.proofs.Going.{going_start, going_few, going_ready, going_done, going_stops, left_whole, left_stopped, refusal_room, frame_room, going_turn, setup_opened}
-use Rattle.floors_text.proofs.Puts.{put_length}
+use Rattle.keeper.specs.Keeper.{Keeping}
+use Rattle.floors_text.proofs.Cuts.{first_within}
+use Rattle.floors_text.proofs.Turns.{text_some, text_none, line_some}
+use Rattle.floors_text.proofs.Going.{setup_opened, setup_ok, setup_keeper, going_start, going_few, going_ready, going_done, going_stops, left_whole, left_stopped, refusal_room, frame_room, going_turn}
 use Rattle.floors_text.proofs.gain_lines.Goals as goal
 
--- a line that is cut out ends within the input, past its start
-line_within : (input : List ℕ) (at end : ℕ) → at < length input → end ≡ at + line_length input at → (at < end) × (end ≤ length input)
-line_within input at end h e = let w = line_ends input at h in omega arith
+pub unwrap-keeper-requires : goal.unwrap-keeper-requires
+unwrap-keeper-requires c =
+    let t = c.requires.taken in
+    let s = c.requires.stores_long in
+    setup_ok _ _ _ _ (c.setup.ensures ∙ setup_opened _ _ _ t.1 t.2 s.0 s.1)
 
-pub loop-at-init : goal.loop-at-init
-loop-at-init c =
-    going_start c.args.input.now c.args.from c.args.look c.args.output.now c.requires.taken.0 c.requires.taken.3 c.requires.taken.1 (keeping_at c.setup-ready.result.keeper c.setup-ready.new.marks c.setup-ready.new.minima) (ap (λ (o : KeeperLeft). o.keeping) (c.setup-ready.ensures ∙ setup_opened c.args.look c.args.marks.now c.args.minima.now c.requires.taken.2 c.requires.taken.3 c.requires.stores_long.0 c.requires.stores_long.1))
+pub loop-rest-init : goal.loop-rest-init
+loop-rest-init c =
+    let t = c.requires.taken in
+    let s = c.requires.stores_long in
+    going_start _ _ _ t.0 t.2 _ (setup_keeper _ _ _ _ (c.setup.ensures ∙ setup_opened _ _ _ t.1 t.2 s.0 s.1) _ c.unwrap-keeper.ensures)
 
-pub line_end-end-requires : goal.line_end-end-requires
-line_end-end-requires c = c.loop-at.invariant.within
-
-pub slice_bounds-gain_of-end : goal.slice_bounds-gain_of-end
-slice_bounds-gain_of-end c =
-    (line_within _ _ _ c.loop-at-test.true c.line_end-end.ensures).1
+pub split_at-requires : goal.split_at-requires
+split_at-requires c = omega (arith, first_within c.loop-rest.rest.now, c.line_length.ensures)
 
 pub put_refusal-requires : goal.put_refusal-requires
 put_refusal-requires c =
-    omega (arith, refusal_room c.loop-at.invariant c.loop-at-test.true _ (line-is _ _ _ c.line_end-end.ensures) (sym c.gain_of.ensures ∙ c.in-Malformed.is))
+    let s = c.split_at.ensures in
+    omega (arith, refusal_room c.loop-rest.invariant (text_some _ c.loop-rest-test.ensures) _ _ _ c.line_length.ensures s.front s.back (sym c.gain_of.ensures ∙ c.in_default.is))
 
-pub shape_of-marks-in-Malformed : goal.shape_of-marks-in-Malformed
-shape_of-marks-in-Malformed c =
-    omega (arith, c.loop-at.invariant.steady.marks_fit, c.loop-at.invariant.same_look, c.requires.stores_long.0)
-
-pub shape_of-minima-in-Malformed : goal.shape_of-minima-in-Malformed
-shape_of-minima-in-Malformed c =
-    omega (arith, c.loop-at.invariant.steady.minima_fit, c.loop-at.invariant.same_look, c.requires.stores_long.1)
-
-pub returns-in-Malformed : goal.returns-in-Malformed
-returns-in-Malformed c =
-    let cut = line-is _ _ _ c.line_end-end.ensures in
-    let e = sym c.gain_of.ensures ∙ c.in-Malformed.is in
-    let k = left_stopped c.loop-at.invariant c.loop-at-test.true _ cut e in
+pub returns-in_default : goal.returns-in_default
+returns-in_default c =
+    let s = c.split_at.ensures in
+    let e = sym c.gain_of.ensures ∙ c.in_default.is in
+    let k = left_stopped c.loop-rest.invariant (text_some _ c.loop-rest-test.ensures) _ _ _ c.line_length.ensures s.front s.back e in
     record {
-      put = going_stops c.loop-at.invariant c.loop-at-test.true _ cut e _ _ c.put_refusal.ensures;
+      put = going_stops c.loop-rest.invariant (text_some _ c.loop-rest-test.ensures) _ _ _ c.line_length.ensures s.front s.back e _ _ c.put_refusal.ensures;
       marks_after = ap (λ (j : Keeping). j.marks) k;
       minima_after = ap (λ (j : Keeping). j.minima) k;
     }
 
-pub shape_of-output-in-Malformed : goal.shape_of-output-in-Malformed
-shape_of-output-in-Malformed c = put_length (returns-in-Malformed c).put
-
-pub step_line-turn-requires : goal.step_line-turn-requires
-step_line-turn-requires c =
+pub step_line-next-requires : goal.step_line-next-requires
+step_line-next-requires c =
+    let s = c.split_at.ensures in
     record {
-      ready = going_ready c.loop-at.invariant;
-      room = omega (arith, frame_room c.loop-at.invariant c.loop-at-test.true _ (line-is _ _ _ c.line_end-end.ensures) _ (sym c.gain_of.ensures ∙ c.in-Number.is));
+      ready = going_ready c.loop-rest.invariant;
+      room = omega (arith, frame_room c.loop-rest.invariant (text_some _ c.loop-rest-test.ensures) _ _ _ c.line_length.ensures s.front s.back _ (sym c.gain_of.ensures ∙ c.in-Some.is));
     }
 
 pub overflow_add-number : goal.overflow_add-number
-overflow_add-number c =
-    let h = going_few c.loop-at.invariant in
-    omega (arith, c.loop-at.invariant.numbered)
+overflow_add-number c = let h = going_few c.loop-rest.invariant in omega (arith, c.loop-rest.invariant.numbered)
 
-pub loop-at-smaller : goal.loop-at-smaller
-loop-at-smaller c =
-    omega (arith, line_within _ _ _ c.loop-at-test.true c.line_end-end.ensures)
+pub loop-rest-smaller : goal.loop-rest-smaller
+loop-rest-smaller c = let n = line_some _ _ _ _ c.line_length.ensures c.split_at.ensures.front c.split_at.ensures.back (text_some _ c.loop-rest-test.ensures) in omega (arith, c.split_at.ensures.back_len)
 
-pub loop-at-preserved : goal.loop-at-preserved
-loop-at-preserved c =
-    let t = c.step_line-turn in
-    going_turn c.loop-at.invariant c.loop-at-test.true _ (line-is _ _ _ c.line_end-end.ensures) _ (sym c.gain_of.ensures ∙ c.in-Number.is) _ _ t.ensures.put _ t.ensures.keeping_after _ c.line_end-end.ensures
-
-pub shape_of-marks : goal.shape_of-marks
-shape_of-marks c = omega (arith, c.loop-at.invariant.steady.marks_fit, c.loop-at.invariant.same_look, c.requires.stores_long.0)
-
-pub shape_of-minima : goal.shape_of-minima
-shape_of-minima c =
-    omega (arith, c.loop-at.invariant.steady.minima_fit, c.loop-at.invariant.same_look, c.requires.stores_long.1)
-
-pub shape_of-output : goal.shape_of-output
-shape_of-output c = c.loop-at.invariant.same_length
+pub loop-rest-preserved : goal.loop-rest-preserved
+loop-rest-preserved c =
+    let s = c.split_at.ensures in
+    let t = c.step_line-next.ensures in
+    going_turn c.loop-rest.invariant (text_some _ c.loop-rest-test.ensures) _ _ _ c.line_length.ensures s.front s.back _ (sym c.gain_of.ensures ∙ c.in-Some.is) _ _ t.put _ t.keeping_after
 
 pub returns : goal.returns
 returns c =
-    let k = left_whole c.loop-at.invariant c.loop-at-test.false in
+    let k = left_whole c.loop-rest.invariant (text_none _ c.loop-rest-test.ensures) in
     record {
-      put = going_done c.loop-at.invariant c.loop-at-test.false;
+      put = going_done c.loop-rest.invariant (text_none _ c.loop-rest-test.ensures);
       marks_after = ap (λ (j : Keeping). j.marks) k;
       minima_after = ap (λ (j : Keeping). j.minima) k;
     }

@@ -1,12 +1,8 @@
 -- `exp`: within the domain the answer is `exp_at`'s, and 26 on the two ways past it.
 use Rattle.std.proofs.Common.{refl}
 use lib.Ieee.{of_bits, neg}
-use Rattle.arithmetic.proofs.Exp.{not_nan, in_domain_lem, replied, refused_below, refused_above}
+use Rattle.arithmetic.proofs.Exp.{in_domain_lem, replied, refused_below, refused_above}
 use Rattle.arithmetic.proofs.math.exp.Goals as goal
-
-pub float_to_bits-h : goal.float_to_bits-h
-unfolding of_bits neg
-float_to_bits-h c = not_nan c.args.x c.if-x-2.true
 
 pub exp_at-requires : goal.exp_at-requires
 unfolding of_bits neg

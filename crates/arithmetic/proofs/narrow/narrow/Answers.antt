@@ -11,15 +11,6 @@ returns-then-x c = narrow_nan c.args.x c.if-x.true
 pub float_to_bits-b : goal.float_to_bits-b
 float_to_bits-b c = writes_number c.args.x c.if-x.false
 
-pub narrow_normal-requires : goal.narrow_normal-requires
-narrow_normal-requires c = c.if-m.true
-
-pub returns-then-m : goal.returns-then-m
-returns-then-m c = c.narrow_normal.ensures
-
-pub narrow_small-requires : goal.narrow_small-requires
-narrow_small-requires c = c.if-m-lt-LEAST_NORMAL.true
-
 pub returns-then-m-lt-LEAST_NORMAL : goal.returns-then-m-lt-LEAST_NORMAL
 returns-then-m-lt-LEAST_NORMAL c = let s = c in c.narrow_small.ensures ∙ ap narrowed (read_back s.args.x s.well_formed.0.1)
 

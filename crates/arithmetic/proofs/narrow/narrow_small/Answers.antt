@@ -15,9 +15,6 @@ closest_to-count-requires c =
 few : (c : goal.After-closest_to-count) → c.closest_to-count.result ≤ 2 ^ 23
 few c = count_few c.args.b c.requires c.ranges.b.fits c.if-exponent-lt873.false c.closest_to-count.result c.closest_to-count.ensures
 
-pub overflow_add-sign : goal.overflow_add-sign
-overflow_add-sign c = omega (arith, few c)
-
 pub overflow_cast-sign-2 : goal.overflow_cast-sign-2
 overflow_cast-sign-2 c = omega (arith, few c)
 

@@ -1,5 +1,5 @@
 -- `to_bits32`: only a NaN differs from itself; any other value that an f32 holds is cast to it as it is.
-use Rattle.std.proofs.Common.{not, refl}
+use Rattle.std.proofs.Common.{not}
 use lib.Ieee.{binary32, fits, is_nan, to_bits}
 use lib.Ieee.Fits.{and_i}
 use Rattle.arithmetic.proofs.NanPattern.{writes_nan, writes_number}
@@ -17,6 +17,3 @@ float_to_float-result c =
 
 pub float_to_bits-result : goal.float_to_bits-result
 float_to_bits-result c = writes_number c.args.x c.if-x.false
-
-pub returns-else-x : goal.returns-else-x
-returns-else-x c = refl

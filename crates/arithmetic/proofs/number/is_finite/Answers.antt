@@ -1,8 +1,7 @@
--- `is_finite`: only a finite number less itself is 0.
-use lib.Ieee.{of_bits}
-use Rattle.arithmetic.proofs.Cases.{finite_test}
+-- `is_finite`: std's word for it.
+use Rattle.std.proofs.Common.{◌∙◌}
+use Rattle.arithmetic.proofs.Cases.{finite_same}
 use Rattle.arithmetic.proofs.number.is_finite.Goals as goal
 
 pub returns : goal.returns
-unfolding of_bits
-returns c = finite_test c.args.x
+returns c = c.is_finite.ensures.value ∙ finite_same c.args.x

@@ -3,9 +3,6 @@ use Rattle.std.proofs.Common.{sym, ◌∙◌}
 use Rattle.arithmetic.proofs.Cases.{ne_nan}
 use Rattle.arithmetic.proofs.number.max.Goals as goal
 
-pub returns-then-a-b : goal.returns-then-a-b
-returns-then-a-b c = simp c.if-a-b.true
-
 pub returns-then-a : goal.returns-then-a
 returns-then-a c = simp (c.if-a-b.false, sym (ne_nan c.args.a) ∙ c.if-a.true)
 

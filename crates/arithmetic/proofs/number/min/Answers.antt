@@ -3,9 +3,6 @@ use Rattle.std.proofs.Common.{sym, ◌∙◌}
 use Rattle.arithmetic.proofs.Cases.{ne_nan}
 use Rattle.arithmetic.proofs.number.min.Goals as goal
 
-pub returns-then-b-a : goal.returns-then-b-a
-returns-then-b-a c = simp c.if-b-a.true
-
 pub returns-then-a : goal.returns-then-a
 returns-then-a c = simp (c.if-b-a.false, sym (ne_nan c.args.a) ∙ c.if-a.true)
 

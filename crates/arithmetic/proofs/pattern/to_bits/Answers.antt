@@ -1,5 +1,4 @@
 -- `to_bits`: only a NaN differs from itself.
-use Rattle.std.proofs.Common.{refl}
 use lib.Ieee.{binary64, to_bits}
 use Rattle.arithmetic.proofs.NanPattern.{writes_nan, writes_number}
 use Rattle.arithmetic.proofs.pattern.to_bits.Goals as goal
@@ -10,6 +9,3 @@ returns-then-x c = writes_nan binary64 c.args.x c.if-x.true
 
 pub float_to_bits-result : goal.float_to_bits-result
 float_to_bits-result c = writes_number c.args.x c.if-x.false
-
-pub returns-else-x : goal.returns-else-x
-returns-else-x c = refl

@@ -1,18 +1,10 @@
 -- `size_of`: the test of the definition.
 use mathlib.Core.Path.{◌≡◌, refl}
-use native.Mathlib.Omega.{arith}
 use Prim.Native.Nat.{◌%◌}
 use lib.ListN.{length}
 use borrow.Author.Tests.{eq-eqb, ne_eqb}
 use Rattle.audio.specs.Format.{sample_bytes, size_of}
-use Rattle.audio.proofs.Places.{sample_some}
 use Rattle.audio.proofs.format.size_of.Goals as goal
-
-pub nonzero_rem-n : goal.nonzero_rem-n
-nonzero_rem-n c = rw c.sample_bytes-each.ensures (omega (arith, sample_some c.args.format))
-
-pub nonzero_div-result : goal.nonzero_div-result
-nonzero_div-result c = rw c.sample_bytes-each.ensures (omega (arith, sample_some c.args.format))
 
 pub returns-then-n-each-eq0 : goal.returns-then-n-each-eq0
 unfolding size_of

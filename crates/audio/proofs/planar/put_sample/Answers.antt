@@ -3,14 +3,14 @@ use mathlib.Core.Path.{◌≡◌, ap, subst, ◌∙◌}
 use mathlib.Core.List.{List}
 use Prim.Native.Nat.{ℕ, ◌*◌, ◌<◌}
 use native.Mathlib.Omega.{arith}
-use lib.Dec.{T}
 use lib.ListN.{length, set}
-use lib.Ieee.{Float, fits, to_bits}
+use lib.Ieee.{Float, to_bits}
 use Rattle.audio.specs.Bytes.{bytes_of}
 use Rattle.audio.specs.Format.{binary_of, sample_bytes, bytes_for, places_of}
 use Rattle.audio.specs.Inner.{put}
 use Rattle.audio.specs.declared.format.Format.{Format}
 use Rattle.audio.specs.declared.format.Format.TheVariants.{F64, F32}
+use Rattle.audio.proofs.Numbers.{le_bytes}
 use Rattle.audio.proofs.Places.{room_of, bytes_for_length, place_put}
 use Rattle.audio.proofs.planar.put_sample.Goals as goal
 
@@ -37,13 +37,8 @@ pub overflow_mul-i-in-F32 : goal.overflow_mul-i-in-F32
 overflow_mul-i-in-F32 c =
     omega (arith, room_of c.args.format c.args.bytes.now c.args.i c.requires.inside F32 c.in-F32.is)
 
-pub to_bits32-requires : goal.to_bits32-requires
-to_bits32-requires c =
-    subst (λ (f : Format). T (fits (binary_of f) c.args.x)) c.in-F32.is c.requires.held
-
-pub put_word32-requires : goal.put_word32-requires
-put_word32-requires c =
-    room_of c.args.format c.args.bytes.now c.args.i c.requires.inside F32 c.in-F32.is
+pub put_bytes-requires : goal.put_bytes-requires
+put_bytes-requires c = rw c.to_le_bytes.ensures (room_of c.args.format c.args.bytes.now c.args.i c.requires.inside F32 c.in-F32.is)
 
 pub returns-in-F64 : goal.returns-in-F64
 returns-in-F64 c =
@@ -55,6 +50,6 @@ returns-in-F64 c =
 pub returns-in-F32 : goal.returns-in-F32
 returns-in-F32 c =
     let a = c.args in
-    ap (places_of a.format) c.put_word32.ensures
+    ap (places_of a.format) (c.put_bytes.ensures ∙ ap (λ (new : List ℕ). put a.bytes.now (4 * a.i) new) (c.to_le_bytes.ensures ∙ le_bytes 4 c.to_bits32.result))
     ∙ ap (λ (w : ℕ). places_of a.format (put a.bytes.now (4 * a.i) (bytes_of 4 w))) c.to_bits32.ensures
     ∙ stored_of a.format a.bytes.now a.i a.x c.requires.inside F32 c.in-F32.is

@@ -5,11 +5,13 @@ use Prim.Native.Nat.{ℕ, ◌*◌, ◌<◌}
 use native.Mathlib.Omega.{arith}
 use lib.ListN.{length, get_or, take, drop}
 use lib.Ieee.{Float, nan, binary32, binary64, of_bits}
+use Rattle.std.specs.Int.{w32, from_le_bytes}
 use Rattle.arithmetic.specs.Sanitize.{finite_or_zero}
 use Rattle.audio.specs.Bytes.{word_of}
 use Rattle.audio.specs.Format.{binary_of, sample_bytes, sample_of, places_of, sounds_of}
 use Rattle.audio.specs.declared.format.Format.{Format}
 use Rattle.audio.specs.declared.format.Format.TheVariants.{F64, F32}
+use Rattle.audio.proofs.Numbers.{le_word_at}
 use Rattle.audio.proofs.Places.{room_of, place_at, sample_at, sound_at}
 use Rattle.audio.proofs.planar.sample.Goals as goal
 
@@ -30,8 +32,8 @@ word-requires c = room_of c.args.format c.args.bytes.now c.args.i c.requires F64
 pub overflow_mul-i : goal.overflow_mul-i
 overflow_mul-i c = omega (arith, room_of c.args.format c.args.bytes.now c.args.i c.requires F64 c.in-F64.is)
 
-pub word32-requires : goal.word32-requires
-word32-requires c = room_of c.args.format c.args.bytes.now c.args.i c.requires F32 c.in-F32.is
+pub bytes_at-requires : goal.bytes_at-requires
+bytes_at-requires c = (omega arith, room_of c.args.format c.args.bytes.now c.args.i c.requires F32 c.in-F32.is)
 
 pub overflow_mul-i-in-F32 : goal.overflow_mul-i-in-F32
 overflow_mul-i-in-F32 c = omega (arith, room_of c.args.format c.args.bytes.now c.args.i c.requires F32 c.in-F32.is)
@@ -44,6 +46,8 @@ returns-in-F64 c =
 
 pub returns-in-F32 : goal.returns-in-F32
 returns-in-F32 c =
+    let a = c.args in
+    let here = room_of a.format a.bytes.now a.i c.requires F32 c.in-F32.is in
     c.finite_widen.ensures
-    ∙ ap (λ (n : ℕ). finite_or_zero (of_bits binary32 n)) c.word32.ensures
-    ∙ value_of c.args.format c.args.bytes.now c.args.i c.requires F32 c.in-F32.is
+    ∙ ap (λ (n : ℕ). finite_or_zero (of_bits binary32 n)) (c.from_le_bytes.ensures ∙ ap (from_le_bytes w32) c.bytes_at.ensures ∙ le_word_at 3 (4 * a.i) a.bytes.now here)
+    ∙ value_of a.format a.bytes.now a.i c.requires F32 c.in-F32.is

@@ -1,8 +1,5 @@
 -- `scatter`: the channels passed are carried.
-use mathlib.Core.Path.{◌≡◌}
 use mathlib.Core.List.{map}
-use Prim.Native.Nat.{◌-◌, ◌≤◌}
-use lib.ListN.{length}
 use lib.Ieee.{nan}
 use Rattle.audio.specs.Format.{bytes_for, places_of}
 use Rattle.audio.specs.Inner.{PlacesCarried}
@@ -10,7 +7,4 @@ use Rattle.audio.proofs.planar.scatter.Given as goal
 
 abbrev pub invariant-loop-c : goal.invariant-loop-c
 invariant-loop-c l =
-    (l.c ≤ l.channels) × (length l.bytes ≡ length l.initial.bytes) × PlacesCarried (bytes_for l.format nan) l.c l.n 32 0 (map (bytes_for l.format) l.run) l.width l.first (places_of l.format l.initial.bytes) (places_of l.format l.bytes)
-
-abbrev pub decreases-loop-c : goal.decreases-loop-c
-decreases-loop-c l = l.channels - l.c
+    PlacesCarried (bytes_for l.format nan) l.c l.n 32 0 (map (bytes_for l.format) l.run) l.width l.first (places_of l.format l.initial.bytes) (places_of l.format l.bytes)

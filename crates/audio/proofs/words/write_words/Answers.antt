@@ -1,24 +1,14 @@
 -- `write_words`: the bytes passed, and those of the words that are left.
 use mathlib.Core.Path.{refl, ◌∙◌}
 use native.Mathlib.Omega.{arith}
-use borrow.Author.Rules.{rules}
 use Rattle.audio.proofs.Numbers.{write_more, write_done}
 use Rattle.audio.proofs.words.write_words.Goals as goal
 
-pub loop-i-init : goal.loop-i-init
-loop-i-init c = (search rules, refl, search rules, refl)
-
 pub loop-i-preserved : goal.loop-i-preserved
 loop-i-preserved c =
-    let a = c.args in (
-      search rules,
-      c.loop-i.invariant.1,
-      c.put_word.auto.bytes ∙ c.loop-i.invariant.2,
-      rw c.put_word.ensures
-          (write_more c.loop-i.bytes a.words.now c.loop-i.i _ (omega arith) (omega arith) refl ∙ c.loop-i.invariant.3),
-    )
+    rw c.put_word.ensures (write_more c.loop-i.bytes c.args.words.now c.loop-i.i _ (omega arith) (omega arith) refl ∙ c.loop-i.invariant)
 
 pub returns : goal.returns
 returns c =
     let a = c.args in
-    write_done c.loop-i.bytes a.words.now c.loop-i.i (omega arith) (omega arith) ∙ c.loop-i.invariant.3
+    write_done c.loop-i.bytes a.words.now c.loop-i.i (omega arith) (omega arith) ∙ c.loop-i.invariant

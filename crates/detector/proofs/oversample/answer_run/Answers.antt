@@ -1,6 +1,6 @@
 -- `answer_run`: the code's table is that of specs/ woven, by its bits.
 use mathlib.Core.Path.{◌∙◌}
-use native.Mathlib.Omega.{arith}
+use borrow.Author.Rules.{rules}
 use lib.Ieee.{of_bits, neg}
 use Rattle.detector.specs.Taps.{phase0, phase1, phase2, phase3, taps}
 use Rattle.detector.specs.Oversample.{remembered, sums_of}
@@ -13,4 +13,4 @@ pub returns : goal.returns
 unfolding of_bits neg taps phase0 phase1 phase2 phase3
 returns c =
     let a = c.args in
-    c.answer_all.ensures ∙ answers_same (sums_by (woven remembered taps)) (sums_of taps) table_sums a.store.now a.run.now (omega (arith, c.requires.store_len))
+    c.answer_all.ensures ∙ answers_same (sums_by (woven remembered taps)) (sums_of taps) table_sums a.store.now a.run.now (search rules)

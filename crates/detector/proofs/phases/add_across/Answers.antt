@@ -1,4 +1,5 @@
 -- `add_across`: the run, the store behind it, and the last three.
+use borrow.Author.Rules.{rules}
 use Rattle.detector.proofs.Fours.{across}
 use Rattle.detector.proofs.phases.add_across.Goals as goal
 
@@ -8,4 +9,4 @@ returns c =
     let b = c.add_store in
     let r = c.add_run in
     let a = c.args in
-    across a.table.now c.requires.table_len a.run.now a.at c.requires.at_in_bounds a.store.now a.sums.now r.new.sums b.new.sums l.new.sums c.requires.store_len c.requires.at_bound r.ensures b.ensures l.ensures
+    across a.table.now (search rules) a.run.now a.at c.requires.at_in_bounds a.store.now a.sums.now r.new.sums b.new.sums l.new.sums (search rules) c.requires.at_bound r.ensures b.ensures l.ensures

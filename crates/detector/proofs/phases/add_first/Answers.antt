@@ -1,20 +1,6 @@
 -- `add_first`: the sums of the three answers ahead, one after the other.
-use mathlib.Core.Path.{ap}
-use borrow.Author.Rules.{rules}
-use lib.ListN.{length}
-use lib.Ieee.{Float}
-use mathlib.Core.List.{List}
 use Rattle.detector.proofs.Fours.{laid_first}
 use Rattle.detector.proofs.phases.add_first.Goals as goal
-
-pub slice_bounds-add_run-end : goal.slice_bounds-add_run-end
-slice_bounds-add_run-end c = let n = ap (λ (l : List Float). length l) c.requires.sums_zero in search (rules, n)
-
-pub slice_bounds-add_run-end-2 : goal.slice_bounds-add_run-end-2
-slice_bounds-add_run-end-2 c = let n = ap (λ (l : List Float). length l) c.requires.sums_zero in search (rules, n)
-
-pub slice_bounds-add_run-end-3 : goal.slice_bounds-add_run-end-3
-slice_bounds-add_run-end-3 c = let n = ap (λ (l : List Float). length l) c.requires.sums_zero in search (rules, n)
 
 pub returns : goal.returns
 returns c =

@@ -1,31 +1,20 @@
--- `phase_of`: what the sums from p on answer stays what they all do.
+-- `phase_of`: the first place that has the peak, as `position` tells it.
+use mathlib.Core.Path.{◌∙◌}
 use lib.Ieee.{Float, eq, of_bits}
-use mathlib.Core.Path.{refl, sym, ap, ◌∙◌}
-use borrow.Author.Rules.{rules}
-use Rattle.detector.proofs.Push.{phase_passed, phase_found, phase_none}
+use Rattle.std.proofs.Common.{rules, tests}
+use Rattle.std.proofs.lemmas.Iterator.{YieldsList-from_slice}
+use Rattle.std.proofs.lemmas.Iterator.Search.{position_from_yields_List}
+use Rattle.arithmetic.specs.Number.{abs_of}
+use Rattle.detector.proofs.Push.{phase_found}
 use Rattle.detector.proofs.phases.phase_of.Goals as goal
 
 pub returns-then-peak : goal.returns-then-peak
 unfolding of_bits
 returns-then-peak c = rw c.if-peak.true
 
-pub loop-p-init : goal.loop-p-init
-loop-p-init c = (search rules, refl)
-
-pub returns-then-abs-peak : goal.returns-then-abs-peak
-unfolding of_bits
-returns-then-abs-peak c =
-    let a = c.args in
-    rw c.if-peak.false
-    (phase_found a.sums.now a.peak c.loop-p.p (search rules) (ap (λ (z : Float). eq z a.peak) (sym c.abs.ensures) ∙ c.if-abs-peak.true) ∙ c.loop-p.invariant.1)
-
-pub loop-p-preserved : goal.loop-p-preserved
-loop-p-preserved c =
-    let a = c.args in
-    (search rules, phase_passed a.sums.now a.peak c.loop-p.p (search rules) (ap (λ (z : Float). eq z a.peak) (sym c.abs.ensures) ∙ c.if-abs-peak.false) ∙ c.loop-p.invariant.1)
-
 pub returns : goal.returns
 unfolding of_bits
 returns c =
     let a = c.args in
-    rw c.if-peak.false (phase_none a.sums.now a.peak c.loop-p.p (search rules) ∙ c.loop-p.invariant.1)
+    rw c.if-peak.false
+    (position_from_yields_List (λ (s : Float). eq (abs_of s) a.peak) _ _ c.position.result c.position.ensures.ran (YieldsList-from_slice a.sums.now (cc)) (λ x b q k. search (rules, tests)) ∙ phase_found a.sums.now a.peak)

@@ -1,11 +1,8 @@
 -- `judge`: 18, then 16, then 19.
-use mathlib.Core.Path.{refl, sym, ap}
+use mathlib.Core.Path.{refl, sym, ap, ◌∙◌}
 use mathlib.Core.Bool.{true, false}
-use Rattle.limiter.specs.Stores.{stores_at, lengths_of}
-use Rattle.limiter.proofs.Judge.{fit}
-use Rattle.bank.specs.Bank.{unset}
+use Rattle.limiter.specs.Stores.{lengths_fit}
 use Rattle.bank.proofs.Tests.{held, failed}
-use Rattle.turns.specs.Machine.{machine_of, fits}
 use Rattle.driver.specs.Parts.{bank_with}
 use Rattle.driver.specs.declared.state.Threshold.{Threshold}
 use Rattle.driver.proofs.Judged.{prepared_is, not_set_up_lem, wrong_length, order_judged, threshold_in_range}
@@ -20,21 +17,14 @@ stores_fit-requires c =
     (prepared_is c.args.l b (held (c.is_set_up.ensures b refl) c.if-not-is_set_up.false)).kernel
 
 pub returns-then-not-stores_fit : goal.returns-then-not-stores_fit
-returns-then-not-stores_fit c b e = wrong_length _ (held (c.is_set_up.ensures b e) c.if-not-is_set_up.false) (failed c.stores_fit.ensures c.if-not-stores_fit.true)
-
-pub in_order-kernel-requires : goal.in_order-kernel-requires
-in_order-kernel-requires c =
-    let a = c.args in
-    let m = machine_of a.l unset (stores_at a.delay.now a.marks.now a.minima.now a.weights.now a.row.now a.detector.now) in
-    let f = fit m.limiter.channels m.limiter.env.keeper.look (lengths_of m.stores) (held {t = fits m} c.stores_fit.ensures c.if-not-stores_fit.false) in
-    (f.marks_is, f.minima_is)
+returns-then-not-stores_fit c b e = wrong_length _ (held (c.is_set_up.ensures b e) c.if-not-is_set_up.false) (failed (c.stores_fit.ensures ∙ ap (lengths_fit c.args.l.channels c.args.l.env.keeper.look) c.lengths_of-lengths.ensures) c.if-not-stores_fit.true)
 
 pub returns-then-kernel-target_in_range : goal.returns-then-kernel-target_in_range
 returns-then-kernel-target_in_range c b e =
-    order_judged _ (held (c.is_set_up.ensures b e) c.if-not-is_set_up.false) (held c.stores_fit.ensures c.if-not-stores_fit.false)
+    order_judged _ (held (c.is_set_up.ensures b e) c.if-not-is_set_up.false) (held (c.stores_fit.ensures ∙ ap (lengths_fit c.args.l.channels c.args.l.env.keeper.look) c.lengths_of-lengths.ensures) c.if-not-stores_fit.false)
     _ _ c.in_order-kernel.ensures (threshold_in_range b _ (ap (λ (t : Threshold). t.smoother) (sym e)) _ c.target_in_range.ensures) true c.if-kernel-target_in_range.true
 
 pub returns-else-kernel-target_in_range : goal.returns-else-kernel-target_in_range
 returns-else-kernel-target_in_range c b e =
-    order_judged _ (held (c.is_set_up.ensures b e) c.if-not-is_set_up.false) (held c.stores_fit.ensures c.if-not-stores_fit.false)
+    order_judged _ (held (c.is_set_up.ensures b e) c.if-not-is_set_up.false) (held (c.stores_fit.ensures ∙ ap (lengths_fit c.args.l.channels c.args.l.env.keeper.look) c.lengths_of-lengths.ensures) c.if-not-stores_fit.false)
     _ _ c.in_order-kernel.ensures (threshold_in_range b _ (ap (λ (t : Threshold). t.smoother) (sym e)) _ c.target_in_range.ensures) false c.if-kernel-target_in_range.false

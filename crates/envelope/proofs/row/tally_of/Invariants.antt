@@ -1,12 +1,9 @@
--- `tally_of`: the count so far and the tally of the rest are the tally of the whole.
+-- `tally_of`: the count so far is the tally of the floors passed.
 use mathlib.Core.Path.{◌≡◌}
-use Prim.Native.Nat.{◌+◌, ◌-◌, ◌≤◌}
-use lib.ListN.{length, drop}
+use Prim.Native.Nat.{◌+◌, ◌≤◌}
+use lib.ListN.{drop}
 use Rattle.envelope.specs.Row.{tally_of}
 use Rattle.envelope.proofs.row.tally_of.Given as goal
 
-abbrev pub invariant-loop-i : goal.invariant-loop-i
-invariant-loop-i l = (l.i ≤ length l.row) × (l.n ≤ l.i) × (l.n + tally_of (drop l.i l.row) ≡ tally_of l.row)
-
-abbrev pub decreases-loop-i : goal.decreases-loop-i
-decreases-loop-i l = length l.row - l.i
+abbrev pub invariant-loop-floor : goal.invariant-loop-floor
+invariant-loop-floor l = (l.n ≤ l.floor-index) × (l.n + tally_of (drop l.floor-index l.row) ≡ tally_of l.row)

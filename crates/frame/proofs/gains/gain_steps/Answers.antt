@@ -7,12 +7,6 @@ use Rattle.envelope.specs.Run.{means_at, follows_at}
 use Rattle.frame.proofs.Steps.{floors_unit, passes_done, lone_done}
 use Rattle.frame.proofs.gains.gain_steps.Goals as goal
 
-pub floors_in_order-kept-requires : goal.floors_in_order-kept-requires
-floors_in_order-kept-requires c = record {
-  ready = c.requires.env_ready.keeper;
-  gains_bound = c.requires.gains_bound;
-}
-
 pub means-pushed-requires : goal.means-pushed-requires
 means-pushed-requires c =
     let a = c.args in

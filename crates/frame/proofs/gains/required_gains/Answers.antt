@@ -1,8 +1,6 @@
 -- `required_gains`: 1 where nothing was heard, else the gains passed, and those of the peaks that are left.
-use mathlib.Core.Path.{refl, ◌∙◌}
+use mathlib.Core.Path.{◌∙◌}
 use native.Mathlib.Omega.{arith}
-use borrow.Author.Rules.{rules}
-use lib.ListN.{length-set}
 use lib.Ieee.{Float, of_bits}
 use Rattle.frame.specs.Frame.{required_gain}
 use Rattle.frame.proofs.Alike.{unheard_gains}
@@ -13,20 +11,14 @@ pub returns-then-heard-target : goal.returns-then-heard-target
 unfolding of_bits
 returns-then-heard-target c =
     let a = c.args in
-    unheard_gains a.heard a.target a.peaks.now c.fill.new.s c.requires c.if-heard-target.true c.fill.ensures
-
-pub loop-i-init : goal.loop-i-init
-loop-i-init c = (search rules, refl, refl)
+    unheard_gains a.heard a.target a.peaks.now c.fill.new.self c.requires c.if-heard-target.true (c.fill.ensures.after (λ y h. h))
 
 pub loop-i-preserved : goal.loop-i-preserved
 loop-i-preserved c =
-    let a = c.args in (
-      search rules,
-      simp length-set c.loop-i.invariant.1,
-      map_more (λ (p : Float). required_gain a.target p) c.loop-i.peaks c.loop-i.i c.required_gain.result (omega arith) c.required_gain.ensures ∙ c.loop-i.invariant.2,
-    )
+    let a = c.args in
+    map_more (λ (p : Float). required_gain a.target p) c.loop-i.peaks c.loop-i.i c.required_gain.result (omega arith) c.required_gain.ensures ∙ c.loop-i.invariant
 
 pub returns : goal.returns
 returns c =
     let a = c.args in
-    map_done (λ (p : Float). required_gain a.target p) c.loop-i.peaks c.loop-i.i (omega arith) ∙ c.loop-i.invariant.2
+    map_done (λ (p : Float). required_gain a.target p) c.loop-i.peaks c.loop-i.i (omega arith) ∙ c.loop-i.invariant

@@ -1,11 +1,7 @@
 -- `start_of`: the literals.
-use lib.Ieee.{of_bits, nan_bits}
+use lib.Ieee.{of_bits}
 use mathlib.Core.Path.{refl}
 use Rattle.frame.proofs.highest.start_of.Goals as goal
-
-pub float_from_bits-peak : goal.float_from_bits-peak
-unfolding nan_bits
-float_from_bits-peak c = tt
 
 pub returns-then-asked : goal.returns-then-asked
 unfolding of_bits

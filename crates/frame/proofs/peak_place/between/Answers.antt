@@ -12,7 +12,7 @@ use Rattle.frame.proofs.peak_place.between.Goals as goal
 pub loop-c-init : goal.loop-c-init
 loop-c-init c =
     let a = c.args in
-    (search rules, ap (between_from a.peak 0) (all_voices a.settings a.channels a.at a.detector.now a.audio.now))
+    ap (between_from a.peak 0) (all_voices a.span.settings a.span.channels a.at a.detector.now a.audio.now)
 
 pub returns-then-counts_in-answer : goal.returns-then-counts_in-answer
 returns-then-counts_in-answer c =
@@ -22,9 +22,9 @@ returns-then-counts_in-answer c =
     let i = c.loop-c.c in
     let d = a.detector.now in
     let x = a.audio.now in
-    let here = answers_here a.settings a.channels a.at d x a.n i (i * 12 + 12 - i * 12) (i * 32 + a.n - i * 32) (search rules) (omega arith) (omega arith) in
-    between_found a.settings a.channels a.at d x a.peak i o.result.phase c.heard_by.result (search rules)
-    (counted_test k.result _ true o.result.peak _ a.peak k.ensures (o.ensures.peak_value ∙ ap (λ (p : Pushed). p.peak) here) c.if-counts_in-answer.true) (o.ensures.phase_value ∙ ap (λ (p : Pushed). p.phase) here) c.heard_by.ensures ∙ c.loop-c.invariant.1
+    let here = answers_here a.span.settings a.span.channels a.at d x a.span.n i 12 a.span.n (search rules) (omega arith) (omega arith) in
+    between_found a.span.settings a.span.channels a.at d x a.peak i o.result.phase c.heard_by.result (search rules)
+    (counted_test k.result _ true o.result.peak _ a.peak k.ensures ((rw (c.store.ensures, c.samples.ensures.value) at o.ensures.peak_value) ∙ ap (λ (p : Pushed). p.peak) here) c.if-counts_in-answer.true) ((rw (c.store.ensures, c.samples.ensures.value) at o.ensures.phase_value) ∙ ap (λ (p : Pushed). p.phase) here) c.heard_by.ensures ∙ c.loop-c.invariant
 
 pub loop-c-preserved : goal.loop-c-preserved
 loop-c-preserved c =
@@ -34,13 +34,11 @@ loop-c-preserved c =
     let i = c.loop-c.c in
     let d = a.detector.now in
     let x = a.audio.now in
-    let here = answers_here a.settings a.channels a.at d x a.n i (i * 12 + 12 - i * 12) (i * 32 + a.n - i * 32) (search rules) (omega arith) (omega arith) in (
-      search rules,
-      between_passed a.settings a.channels a.at d x a.peak i (search rules)
-          (counted_test k.result _ false o.result.peak _ a.peak k.ensures (o.ensures.peak_value ∙ ap (λ (p : Pushed). p.peak) here) c.if-counts_in-answer.false) ∙ c.loop-c.invariant.1,
-    )
+    let here = answers_here a.span.settings a.span.channels a.at d x a.span.n i 12 a.span.n (search rules) (omega arith) (omega arith) in
+    between_passed a.span.settings a.span.channels a.at d x a.peak i (search rules)
+    (counted_test k.result _ false o.result.peak _ a.peak k.ensures ((rw (c.store.ensures, c.samples.ensures.value) at o.ensures.peak_value) ∙ ap (λ (p : Pushed). p.peak) here) c.if-counts_in-answer.false) ∙ c.loop-c.invariant
 
 pub returns : goal.returns
 returns c =
     let a = c.args in
-    between_none a.settings a.channels a.at a.detector.now a.audio.now a.peak c.loop-c.c (search rules) ∙ c.loop-c.invariant.1
+    between_none a.span.settings a.span.channels a.at a.detector.now a.audio.now a.peak c.loop-c.c (search rules) ∙ c.loop-c.invariant

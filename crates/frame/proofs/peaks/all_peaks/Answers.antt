@@ -5,7 +5,7 @@ use Rattle.frame.specs.Passes.{peaks_pass}
 use Rattle.frame.specs.Rules.{linking_of}
 use native.Mathlib.Omega.{arith}
 use Prim.Native.Nat.{◌+◌, ◌-◌, ◌*◌}
-use mathlib.Core.Path.{refl, sym, ◌∙◌}
+use mathlib.Core.Path.{refl, ◌∙◌}
 use borrow.Author.Rules.{rules}
 use Rattle.frame.proofs.peaks.all_peaks.Goals as goal
 
@@ -13,39 +13,32 @@ pub loop-c-init : goal.loop-c-init
 loop-c-init c =
     let a = c.args in
     let z = c.requires.peaks_zero in
-    (search rules, zeros_length a.n a.peaks.now z, sharing_start a.settings a.ceiling a.channels a.n a.detector.now a.audio.now a.peaks.now z, λ h. refl)
+    (sharing_start a.span.settings a.ceiling a.span.channels a.span.n a.detector.now a.audio.now a.peaks.now z, λ h. refl)
 
-pub hear_or_pass-some-requires : goal.hear_or_pass-some-requires
-hear_or_pass-some-requires c =
-    let k = c.loop-c.invariant.2 in
-    record {
-      store_len = search rules;
-      samples_len = search rules;
-      run_short = search rules;
-      from_zero = alike_from_zero c.args.ceiling c.loop-c.peaks k.whole k.alike;
-      c_bound = search rules;
-    }
+pub hear_or_pass-some-requires-clause-from_zero : goal.hear_or_pass-some-requires-clause-from_zero
+hear_or_pass-some-requires-clause-from_zero c =
+    let k = c.loop-c.invariant.0 in
+    alike_from_zero c.args.ceiling c.loop-c.peaks k.whole k.alike
+
+pub hear_or_pass-some-requires-clause-samples_len : goal.hear_or_pass-some-requires-clause-samples_len
+hear_or_pass-some-requires-clause-samples_len c =
+    let many = c.loop-c.auto.peaks ∙ zeros_length c.args.span.n c.args.peaks.now c.requires.peaks_zero in
+    search (rules, many)
 
 pub loop-c-preserved : goal.loop-c-preserved
 loop-c-preserved c =
     let o = c.hear_or_pass-some in
     let a = c.args in (
-      search rules,
-      o.auto.peaks ∙ c.loop-c.invariant.1,
-      sharing_more a.settings a.ceiling a.channels a.n a.detector.now a.audio.now c.loop-c.c (c.loop-c.c * 12 + 12 - c.loop-c.c * 12) (c.loop-c.c * 32 + a.n - c.loop-c.c * 32) c.level_below-level.result c.loop-c.peaks
-          o.new.peaks (peaks_pass (linking_of a.settings) 0 a.channels a.n a.peaks.now a.detector.now a.audio.now).peaks
-          c.loop-c.invariant.2 (search rules) (omega arith) (omega arith) c.level_below-level.ensures o.ensures.all_alike,
-      unheard_more c.loop-c.heard o.result a.peaks.now c.loop-c.peaks o.new.peaks c.loop-c.invariant.3 o.ensures.peaks_unchanged,
+      sharing_more a.span.settings a.ceiling a.span.channels a.span.n a.detector.now a.audio.now c.loop-c.c 12 a.span.n c.level_below-level.result c.loop-c.peaks
+          o.new.peaks (peaks_pass (linking_of a.span.settings) 0 a.span.channels a.span.n a.peaks.now a.detector.now a.audio.now).peaks
+          c.loop-c.invariant.0 (search rules) (omega arith) (omega arith) c.level_below-level.ensures (rw (c.store.ensures, c.samples.ensures.value) at o.ensures.all_alike),
+      unheard_more c.loop-c.heard o.result a.peaks.now c.loop-c.peaks o.new.peaks c.loop-c.invariant.1 o.ensures.peaks_unchanged,
     )
-
-pub shape_of-peaks : goal.shape_of-peaks
-shape_of-peaks c =
-    c.loop-c.invariant.1 ∙ sym (zeros_length c.args.n c.args.peaks.now c.requires.peaks_zero)
 
 pub returns : goal.returns
 returns c =
     let a = c.args in record {
-      all_alike = sharing_done a.settings a.ceiling a.channels a.n a.detector.now a.audio.now c.loop-c.c c.loop-c.peaks (peaks_pass (linking_of a.settings) 0 a.channels a.n a.peaks.now a.detector.now a.audio.now).peaks
-          (search rules) c.loop-c.invariant.2;
-      peaks_unchanged = c.loop-c.invariant.3;
+      all_alike = sharing_done a.span.settings a.ceiling a.span.channels a.span.n a.detector.now a.audio.now c.loop-c.c c.loop-c.peaks (peaks_pass (linking_of a.span.settings) 0 a.span.channels a.span.n a.peaks.now a.detector.now a.audio.now).peaks
+          (search rules) c.loop-c.invariant.0;
+      peaks_unchanged = c.loop-c.invariant.1;
     }

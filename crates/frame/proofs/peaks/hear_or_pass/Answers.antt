@@ -23,16 +23,8 @@ returns-then-lies_within c =
       peaks_unchanged = λ h. refl;
     }
 
-pub channel_peaks-requires : goal.channel_peaks-requires
-channel_peaks-requires c =
-    let k = c.counts_in in
-    record {
-      store_len = c.requires.store_len;
-      samples_len = c.requires.samples_len;
-      run_short = c.requires.run_short;
-      from_zero = c.requires.from_zero;
-      counted = sym k.ensures ∙ c.if-not-counts_in.false;
-    }
+pub channel_peaks-requires-clause-counted : goal.channel_peaks-requires-clause-counted
+channel_peaks-requires-clause-counted c = sym c.counts_in.ensures ∙ c.if-not-counts_in.false
 
 pub returns : goal.returns
 returns c =

@@ -10,20 +10,17 @@ use Rattle.frame.proofs.peaks.remember_all.Goals as goal
 pub loop-c-init : goal.loop-c-init
 loop-c-init c =
     let a = c.args in
-    (search rules, search rules, λ settings peaks. storing_start settings a.channels a.n peaks a.detector.now a.audio.now)
+    λ settings peaks. storing_start settings a.span.channels a.span.n peaks a.detector.now a.audio.now
 
 pub loop-c-preserved : goal.loop-c-preserved
 loop-c-preserved c =
     let o = c.remember in
-    let a = c.args in (
-      search rules,
-      search rules,
-      λ settings peaks.
-          storing_more settings a.channels a.n c.loop-c.c (c.loop-c.c * 12 + 12 - c.loop-c.c * 12) (c.loop-c.c * 32 + a.n - c.loop-c.c * 32) c.loop-c.detector a.audio.now o.new.store
-          (peaks_pass (linking_of settings) 0 a.channels a.n peaks a.detector.now a.audio.now) (c.loop-c.invariant.2 settings peaks) (search rules) c.loop-c.invariant.1 (omega arith) (omega arith) o.auto.store o.ensures,
-    )
+    let a = c.args in
+    λ settings peaks.
+    storing_more settings a.span.channels a.span.n c.loop-c.c (c.loop-c.c * 12 + 12 - c.loop-c.c * 12) a.span.n c.loop-c.detector a.audio.now o.new.store
+    (peaks_pass (linking_of settings) 0 a.span.channels a.span.n peaks a.detector.now a.audio.now) (c.loop-c.invariant settings peaks) (search rules) (search rules) (omega arith) (omega arith) o.auto.store (rw c.samples.ensures.value at o.ensures)
 
 pub returns : goal.returns
 returns c =
     let a = c.args in
-    λ peaks. storing_done a.settings a.channels a.n c.loop-c.c c.loop-c.detector a.audio.now (peaks_pass (linking_of a.settings) 0 a.channels a.n peaks a.detector.now a.audio.now) (search rules) (c.loop-c.invariant.2 a.settings peaks)
+    λ peaks. storing_done a.span.settings a.span.channels a.span.n c.loop-c.c c.loop-c.detector a.audio.now (peaks_pass (linking_of a.span.settings) 0 a.span.channels a.span.n peaks a.detector.now a.audio.now) (search rules) (c.loop-c.invariant a.span.settings peaks)

@@ -4,16 +4,9 @@ use Rattle.frame.specs.Passes.{peaks_pass}
 use Rattle.frame.specs.Rules.{linking_of}
 use Rattle.settings.specs.declared.LimiterSettings.{LimiterSettings}
 use lib.Ieee.{Float}
-use lib.ListN.{length}
-use Prim.Native.Nat.{◌-◌, ◌*◌, ◌≤◌}
 use mathlib.Core.List.{List}
-use mathlib.Core.Path.{◌≡◌}
 use Rattle.frame.proofs.peaks.remember_all.Given as goal
 
 abbrev pub invariant-loop-c : goal.invariant-loop-c
 invariant-loop-c l =
-    (l.c ≤ l.channels) × (length l.detector ≡ l.channels * 12)
-    × ((settings : LimiterSettings) (peaks : List Float) → Storing (linking_of settings) l.channels l.n l.c l.detector l.audio (peaks_pass (linking_of settings) 0 l.channels l.n peaks l.initial.detector l.audio))
-
-abbrev pub decreases-loop-c : goal.decreases-loop-c
-decreases-loop-c l = l.channels - l.c
+    (settings : LimiterSettings) (peaks : List Float) → Storing (linking_of settings) l.span.channels l.span.n l.c l.detector l.audio (peaks_pass (linking_of settings) 0 l.span.channels l.span.n peaks l.initial.detector l.audio)

@@ -1,28 +1,30 @@
--- `rearrange`: refused or one channel, or through the rooms.
-use Rattle.interleaving.proofs.Facts.{taken, call_transposed}
-use Rattle.interleaving.proofs.Answers.{moving, unmoved}
+-- `rearrange`: refused, one channel, or through.
+use mathlib.Core.Path.{ap, ◌∙◌}
+use Rattle.std.specs.Prelude.{Result, Err}
+use Rattle.std.proofs.lemmas.Result.{err_from_is_err_and}
+use Rattle.interleaving.specs.Calls.{outcome}
+use Rattle.interleaving.specs.declared.calls.RearrangeRefusal.{RearrangeRefusal}
+use Rattle.interleaving.proofs.Answers.{answer_refused, answer_single, answer_fills, answer_moved}
 use Rattle.interleaving.proofs.calls.rearrange.Goals as goal
 
-pub returns-then-number-channels : goal.returns-then-number-channels
-returns-then-number-channels c =
+pub returns-in_err-shape : goal.returns-in_err-shape
+returns-in_err-shape c =
     let a = c.args in
-    let bytes = a.bytes.now in
-    let judge = c.judge-answer in
-    let number = c.number in
-    unmoved a.format a.channels bytes judge.result (judge.ensures a.format bytes c.size_of-samples.ensures) number.result number.ensures a.direction c.if-number-channels.true
+    let handed = err_from_is_err_and c.from_residual.result c.from_residual.ensures.1 in
+    ap (λ (r : Result Unit RearrangeRefusal). outcome r a.bytes.now) (handed.1 ∙ ap (λ (why : RearrangeRefusal). Err why) handed.2)
+    ∙ answer_refused a.direction a.format a.channels a.bytes.now _ (c.in_err-shape.ensures.refused a.bytes.now c.size_of.ensures)
 
-pub nonzero_div-samples : goal.nonzero_div-samples
-nonzero_div-samples c = (taken _ _ _ (moving _ _ _ _ (c.judge-answer.ensures _ _ c.size_of-samples.ensures) _ c.number.ensures c.if-number-channels.false)).some
+pub returns-then-channels-eq1 : goal.returns-then-channels-eq1
+returns-then-channels-eq1 c = let a = c.args in answer_single a.direction a.format a.channels a.bytes.now (c.in_ok-shape.ensures.refused a.bytes.now c.size_of.ensures) c.if-channels-eq1.true
 
 pub through-requires : goal.through-requires
 through-requires c =
-    record {
-      taken = rw c.size_of-samples.ensures (taken _ _ _ (moving _ _ _ _ (c.judge-answer.ensures _ _ c.size_of-samples.ensures) _ c.number.ensures c.if-number-channels.false));
-      rooms = record { room_long = c.tile_room-room.ensures; kept_long = c.tile_room-kept.ensures; done_long = c.row_bits-done.ensures.bytes; none = c.row_bits-done.ensures.clear };
-    }
+    let a = c.args in
+    let told = c.in_ok-shape.ensures in
+    answer_fills a.direction a.format a.channels a.bytes.now (told.refused a.bytes.now c.size_of.ensures) c.in_ok-shape.shape (rw c.size_of.ensures at told.shape)
 
 pub returns : goal.returns
 returns c =
     let a = c.args in
-    let through = c.through in
-    call_transposed a.direction a.format a.channels a.bytes.now (moving _ _ _ _ (c.judge-answer.ensures _ _ c.size_of-samples.ensures) _ c.number.ensures c.if-number-channels.false) through.new.bytes through.auto.bytes (rw c.size_of-samples.ensures at through.ensures)
+    let told = c.in_ok-shape.ensures in
+    answer_moved a.direction a.format a.channels a.bytes.now (told.refused a.bytes.now c.size_of.ensures) c.in_ok-shape.shape (rw c.size_of.ensures at told.shape) c.through.new.bytes c.through.auto.bytes c.through.ensures

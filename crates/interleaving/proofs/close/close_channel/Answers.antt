@@ -1,28 +1,31 @@
 -- `close_channel`: the samples left aside, then the slide.
-use mathlib.Core.Path.{ap, ◌∙◌}
-use Prim.Native.Nat.{ℕ, ◌+◌, ◌*◌}
+use mathlib.Core.Path.{◌≡◌, ap, ◌∙◌}
+use Prim.Native.Nat.{ℕ, ◌+◌, ◌-◌, ◌*◌}
 use native.Mathlib.Omega.{arith}
+use lib.ListN.{take, drop}
 use Rattle.audio.specs.Inner.{put}
-use Rattle.interleaving.specs.Inner.{run}
-use Rattle.interleaving.proofs.Spreading.{spans, slid_rows}
+use Rattle.interleaving.specs.Inner.{run, slid}
+use Rattle.interleaving.proofs.Spreading.{spans_in}
 use Rattle.interleaving.proofs.close.close_channel.Goals as goal
 
-pub overflow_mul-whole : goal.overflow_mul-whole
-overflow_mul-whole c = omega (arith, c.requires.lengths.bounded)
+pub slice_bounds-keep-end : goal.slice_bounds-keep-end
+slice_bounds-keep-end c = omega (arith, spans_in c.args.shape c.args.bytes.now c.requires.fills c.args.c _ c.requires.c_lt_channels c.sample_bytes-s.ensures)
 
-pub overflow_add-frames : goal.overflow_add-frames
-overflow_add-frames c = omega (arith, c.requires.lengths.bounded, c.requires.lengths.short)
-
-pub copy_bytes-requires-clause-from_inside : goal.copy_bytes-requires-clause-from_inside
-copy_bytes-requires-clause-from_inside c = omega (arith, spans _ _ _ _ _ c.requires.lengths _ _ c.requires.c_lt_channels c.sample_bytes-s.ensures)
-
-pub returns : goal.returns
-returns c =
+pub returns-clause-aside : goal.returns-clause-aside
+returns-clause-aside c =
     let a = c.args in
-    let whole = 64 * a.tiles in
-    let all = whole + a.left in
-    let e = c.sample_bytes-s.ensures in
-    let bytes = a.bytes.now in record {
-      aside = c.copy_bytes.ensures ∙ ap (λ (x : ℕ). put a.kept.now (x * (a.c * a.left)) (run x a.left (a.c * all + whole) bytes)) e;
-      closer = c.slide_down.ensures ∙ slid_rows _ c.sample_bytes-s.result a.tiles (a.c * all) (a.c * whole) bytes e;
-    }
+    let shape = a.shape in
+    let whole = 64 * shape.tiles in
+    let frames = whole + shape.left in
+    let s = c.sample_bytes-s.result in
+    let behind = s * (a.c * frames + whole) in
+    let e : behind + s * shape.left - behind ≡ s * shape.left = omega arith in
+    c.keep.ensures
+    ∙ ap (λ (n : ℕ). put a.kept.now.bytes (s * (a.c * shape.left)) (take n (drop behind a.bytes.now))) e
+    ∙ ap (λ (x : ℕ). put a.kept.now.bytes (x * (a.c * shape.left)) (run x shape.left (a.c * frames + whole) a.bytes.now)) c.sample_bytes-s.ensures
+
+pub returns-clause-closer : goal.returns-clause-closer
+returns-clause-closer c =
+    let a = c.args in
+    let whole = 64 * a.shape.tiles in
+    c.carry.ensures ∙ ap (λ (x : ℕ). slid x whole (a.c * (whole + a.shape.left)) (a.c * whole) a.bytes.now) c.sample_bytes-s.ensures

@@ -1,16 +1,15 @@
--- `setup`: each answer by the tests that lead to it. What a test found is the definition's, by `cc`.
-use Rattle.keeper.proofs.Calls.{look_most, setup_12, setup_16, setup_0}
+-- `setup`: each answer by what is judged.
+use lib.Ieee.{of_bits}
+use Rattle.std.proofs.lemmas.Result.{err_from_is_err_and}
+use Rattle.keeper.proofs.Calls.{setup_refused, setup_finished}
 use Rattle.keeper.proofs.FloorKeeper.setup.Goals as goal
 
-pub returns-then-not-look_taken : goal.returns-then-not-look_taken
-returns-then-not-look_taken c = rw c.fresh.ensures (setup_12 _ _ _ (cc))
-
-pub stores_fit-requires : goal.stores_fit-requires
-stores_fit-requires c = look_most _ (cc)
-
-pub returns-then-not-stores_fit : goal.returns-then-not-stores_fit
-returns-then-not-stores_fit c = rw c.fresh-then-not-stores_fit.ensures (setup_16 _ _ _ (cc) (cc))
+pub returns-in_err-judge_stores : goal.returns-in_err-judge_stores
+returns-in_err-judge_stores c =
+    let p = err_from_is_err_and c.from_residual.result c.from_residual.ensures.1 in
+    rw (p.1, p.2) (setup_refused _ _ _ _ c.in_err-judge_stores.ensures)
 
 pub returns : goal.returns
+unfolding of_bits
 returns c =
-    rw c.fresh-2.ensures (setup_0 _ _ _ (cc) (cc) _ _ c.clear_marks.ensures c.clear_minima.ensures)
+    rw c.fresh.ensures (setup_finished _ _ _ c.in_ok-judge_stores.ensures _ _ (c.fill.ensures.after (λ y e. e)) (c.fill-2.ensures.after (λ y e. e)))

@@ -1,30 +1,15 @@
--- `step`: each answer by the tests that lead to it; the finished one is the inner step's. What a test found is the definition's, by `cc`.
+-- `step`: each answer by what is judged; the finished one is the inner step's.
+use Rattle.std.proofs.lemmas.Result.{err_from_is_err_and}
 use Rattle.keeper.specs.Keeper.{inner_at}
-use Rattle.keeper.proofs.Calls.{look_most, both_fit, step_12, step_16, step_19, step_22, step_ready, step_0}
+use Rattle.keeper.proofs.Calls.{step_refused, step_finished}
 use Rattle.keeper.proofs.FloorKeeper.step.Goals as goal
 
-pub returns-then-not-look_taken : goal.returns-then-not-look_taken
-returns-then-not-look_taken c = step_12 _ _ (cc)
-
-pub stores_fit-requires : goal.stores_fit-requires
-stores_fit-requires c = look_most _ (cc)
-
-pub returns-then-not-stores_fit : goal.returns-then-not-stores_fit
-returns-then-not-stores_fit c = step_16 _ _ (cc) (cc)
-
-pub in_order-requires : goal.in_order-requires
-in_order-requires c = both_fit c.args.self.look c.args.marks.now c.args.minima.now (cc)
-
-pub returns-then-not-in_order : goal.returns-then-not-in_order
-returns-then-not-in_order c = step_19 _ _ (cc) (cc) (cc)
-
-pub returns-then-self-ge-MOST_FRAMES : goal.returns-then-self-ge-MOST_FRAMES
-returns-then-self-ge-MOST_FRAMES c = step_22 _ _ (cc) (cc) (cc) c.if-self-ge-MOST_FRAMES.true
-
-pub step_in_order-done-requires : goal.step_in_order-done-requires
-step_in_order-done-requires c = step_ready _ c.args.gain (cc) (cc) (cc) c.if-self-ge-MOST_FRAMES.false
+pub returns-in_err-judge : goal.returns-in_err-judge
+returns-in_err-judge c =
+    let p = err_from_is_err_and c.from_residual.result c.from_residual.ensures.1 in
+    rw (p.1, p.2) (step_refused _ _ _ c.in_err-judge.ensures)
 
 pub returns : goal.returns
 returns c =
-    let d = c.step_in_order-done in
-    step_0 _ _ (cc) (cc) (cc) c.if-self-ge-MOST_FRAMES.false (inner_at d.result d.new.marks d.new.minima) d.ensures
+    let d = c.step_in_order in
+    rw d.ensures.kept (step_finished _ _ c.in_ok-judge.ensures (inner_at d.result d.new.self d.new.marks d.new.minima) d.ensures.stepped)

@@ -1,7 +1,9 @@
 -- `bank_in`: slot by slot.
-use mathlib.Core.Path.{refl}
+use Rattle.std.proofs.Common.{ℕ, ◌*◌, refl, rules}
+use Rattle.bank.specs.Words.{smoother_in}
+use Rattle.probe.proofs.Arrays.{from_fn_built}
 use Rattle.probe.proofs.smoothers.bank_in.Goals as goal
 
 pub returns : goal.returns
 returns c =
-    rw (c.smoother_in-s0.ensures, c.smoother_in-s1.ensures, c.smoother_in-s2.ensures, c.smoother_in-s3.ensures, c.smoother_in-s4.ensures, c.smoother_in-s5.ensures, c.smoother_in-s6.ensures, c.smoother_in-s7.ensures, c.half_in.ensures) refl
+    rw (from_fn_built _ (λ (i : ℕ). smoother_in c.args.words.now (12 * i)) _ (λ i y q k. search rules) _ 8 c.from_fn.ensures.items, c.half_in.ensures) refl

@@ -1,7 +1,9 @@
 -- `infos_in`: slot by slot.
-use mathlib.Core.Path.{refl}
+use Rattle.std.proofs.Common.{ℕ, ◌*◌, rules}
+use Rattle.bank.specs.Smoother.{info_of}
+use Rattle.bank.specs.Words.{smoother_in}
+use Rattle.probe.proofs.Arrays.{from_fn_built}
 use Rattle.probe.proofs.smoothers.infos_in.Goals as goal
 
 pub returns : goal.returns
-returns c =
-    rw (c.info-p0.ensures, c.smoother_in.ensures, c.info-p1.ensures, c.smoother_in-2.ensures, c.info-p2.ensures, c.smoother_in-3.ensures, c.info-p3.ensures, c.smoother_in-4.ensures, c.info-p4.ensures, c.smoother_in-5.ensures, c.info-p5.ensures, c.smoother_in-6.ensures, c.info-p6.ensures, c.smoother_in-7.ensures, c.info-p7.ensures, c.smoother_in-8.ensures) refl
+returns c = from_fn_built _ (λ (i : ℕ). info_of (smoother_in c.args.words.now (12 * i))) _ (λ i y q k. search rules) _ 8 c.from_fn.ensures.items

@@ -1,56 +1,32 @@
--- `lay_slots`: at each turn the slots that are left make of what stands there what all of them make of the start.
-use Prim.Native.Nat.{ℕ, suc, ◌+◌, ◌*◌, ◌≤◌, ◌<◌}
-use mathlib.Core.Path.{◌≡◌, refl, sym, ap, ◌∙◌}
-use mathlib.Core.List.{List, [], ◌∷◌, ◌++◌}
-use native.Mathlib.Nat.{add-zero}
-use native.Mathlib.Numerals.{add-one}
-use native.Mathlib.Omega.{arith}
-use lib.ListN.{length, set, drop, drop_of_length-le}
-use lib.Seq.{sets, drop-cons}
-use Rattle.bank.specs.Smoother.{vacant}
-use Rattle.bank.specs.Bank.{slot_at}
+-- `lay_slots`: the slots' words, one slot's behind another's.
+use borrow.Rule.Slice.PartMut.{post_of}
+use Rattle.std.proofs.Common.{◌≡◌, ℕ, ◌*◌, ◌≤◌, List, [], ◌∷◌, ◌++◌, map, length, refl, ap, ◌∙◌, arith, rules, length-append}
+use Rattle.std.specs.List.{flat_map}
+use Rattle.std.proofs.lemmas.List.Concat.{flat_map-cons}
+use Rattle.std.proofs.lemmas.List.Edits.{sets, sets-eq}
 use Rattle.bank.specs.Words.{smoother_out}
 use Rattle.bank.specs.declared.smoother.Smoother.{Smoother}
 use Rattle.probe.specs.Smoothers.{slots_out}
+use Rattle.probe.proofs.Arrays.{map_mapped}
 use Rattle.probe.proofs.smoothers.lay_slots.Goals as goal
 
--- some words, then others
-sets_append : (l : List ℕ) (i : ℕ) (xs ys : List ℕ) → sets l i (xs ++ ys) ≡ sets (sets l i xs) (i + length xs) ys
-sets_append l i [] ys = rw (add-zero i) refl
-sets_append l i (x ∷ xs) ys =
-    let e : suc i + length xs ≡ i + suc (length xs) = omega arith in
-    sets_append (set l i x) (suc i) xs ys ∙ ap (λ (k : ℕ). sets (sets (set l i x) (suc i) xs) k ys) e
+flat : (ss : List Smoother) → flat_map (λ ws. ws) (map smoother_out ss) ≡ slots_out ss
+unfolding slots_out
+flat [] = refl
+flat (s ∷ ss) = flat_map-cons (λ ws. ws) (smoother_out s) (map smoother_out ss) ∙ ap (λ ws. smoother_out s ++ ws) (flat ss)
 
-module _ (old ws : List ℕ) (ss : List Smoother) (i : ℕ) (e : sets ws (12 * i) (slots_out (drop i ss)) ≡ sets old 0 (slots_out ss)) where
-  laid_more : (xs : List ℕ) (s : Smoother) → i < length ss → xs ≡ sets ws (12 * i) (smoother_out s) → s ≡ slot_at i ss → sets xs (12 * (i + 1)) (slots_out (drop (i + 1) ss)) ≡ sets old 0 (slots_out ss)
-  unfolding slots_out
-  laid_more xs s h f g =
-      let next : 12 * (i + 1) ≡ 12 * i + 12 = omega arith in
-      let r = slots_out (drop (suc i) ss) in
-      rw (next, add-one i, f, g) (sym (sets_append ws (12 * i) (smoother_out (slot_at i ss)) r) ∙ ap (λ (t : List Smoother). sets ws (12 * i) (slots_out t)) (sym (drop-cons ss i vacant h)) ∙ e)
+long : (ss : List Smoother) → length (slots_out ss) ≡ 12 * length ss
+unfolding slots_out
+long [] = refl
+long (s ∷ ss) = length-append (smoother_out s) (slots_out ss) ∙ omega (arith, long ss)
 
-  laid-all : length ss ≤ i → ws ≡ sets old 0 (slots_out ss)
-  unfolding slots_out
-  laid-all h = ap (λ (t : List Smoother). sets ws (12 * i) (slots_out t)) (sym (drop_of_length-le ss {i = i} h)) ∙ e
-
-pub loop-i-init : goal.loop-i-init
-loop-i-init c = (omega arith, refl)
-
-pub slot-requires : goal.slot-requires
-slot-requires c = omega arith
-
-pub lay_slot-requires : goal.lay_slot-requires
-lay_slot-requires c = omega arith
-
-pub overflow_step-i : goal.overflow_step-i
-overflow_step-i c = omega arith
-
-pub loop-i-smaller : goal.loop-i-smaller
-loop-i-smaller c = omega arith
-
-pub loop-i-preserved : goal.loop-i-preserved
-loop-i-preserved c =
-    (omega arith, laid_more _ _ _ _ c.loop-i.invariant.1 _ _ (omega (arith, c.well_formed.1.0.1.0.1)) c.lay_slot.ensures c.slot.ensures)
+-- words over the first 96
+laid : (ws new out : List ℕ) → length out ≡ 96 → 96 ≤ length ws → new ≡ out → new ++ post_of 0 96 ws ≡ sets ws 0 out
+laid ws new out n l e = rw (sets-eq out ws 0 (omega arith), n, e) refl
 
 pub returns : goal.returns
-returns c = laid-all _ _ c.args.slots c.loop-i.i c.loop-i.invariant.1 (omega (arith, c.well_formed.1.0.1.0.1))
+returns c =
+    let ss = c.args.slots in
+    let mapped : c.map.result ≡ map smoother_out ss = map_mapped _ smoother_out _ (λ s y q k. search rules) _ _ 8 (search rules) c.map.ensures.items in
+    laid c.args.words.now _ (slots_out ss) (omega (arith, long ss)) (omega arith)
+    (c.copy_from_slice.ensures.after ∙ c.as_flattened.ensures.value ∙ ap (flat_map (λ ws. ws)) mapped ∙ flat ss)

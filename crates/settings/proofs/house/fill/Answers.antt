@@ -1,12 +1,9 @@
 -- `fill`: the stretch lies inside the table.
-use Rattle.std.proofs.Common.{refl, ◌∙◌, arith}
+use Rattle.std.proofs.Common.{arith}
 use Rattle.settings.proofs.Stretches.{house_inside}
 use Rattle.settings.proofs.house.fill.Goals as goal
 
 pub copy_house-requires : goal.copy_house-requires
 copy_house-requires c =
-    omega (arith, c.start.ensures, c.requires.weights_len, house_inside c.args.rate c.args.look c.requires.housed)
-
-pub returns : goal.returns
-returns c =
-    c.copy_house.ensures ∙ rw (c.start.ensures, c.requires.weights_len) refl
+    let e = rw c.unwrap.ensures at c.start.ensures.value in
+    omega (arith, e, c.requires.weights_len, house_inside c.args.rate c.args.look c.requires.housed)

@@ -2,7 +2,7 @@
 use Rattle.std.proofs.Common.{◌≡◌, true, ap, ◌∙◌}
 use lib.Ieee.{Float}
 use Rattle.arithmetic.specs.Exp.{in_domain, exp_of}
-use Rattle.arithmetic.proofs.Exp.{arm_value, arm_refused}
+use Rattle.arithmetic.proofs.Exp.{value_or}
 use Rattle.settings.specs.Target.{kept, target_of}
 use Rattle.settings.proofs.Domain.{kept_within}
 use Rattle.settings.proofs.target.target.Goals as goal
@@ -11,12 +11,8 @@ use Rattle.settings.proofs.target.target.Goals as goal
 result_within : (a : Float) {r : Float} → r ≡ kept a → in_domain r ≡ true
 result_within a e = rw e (kept_within a)
 
-pub returns-in-Value : goal.returns-in-Value
+pub returns : goal.returns
 unfolding target_of
-returns-in-Value c =
+returns c =
     let k = c.kept_argument-a in
-    arm_value _ (result_within _ k.ensures) _ c.exp.ensures _ c.in-Value.is ∙ ap exp_of k.ensures
-
-pub returns-in-OutOfDomain : goal.returns-in-OutOfDomain
-returns-in-OutOfDomain c =
-    arm_refused _ (result_within _ c.kept_argument-a.ensures) _ c.exp.ensures c.in-OutOfDomain.is
+    c.unwrap_or.ensures ∙ value_or _ (result_within _ k.ensures) _ _ c.exp.ensures ∙ ap exp_of k.ensures

@@ -1,27 +1,13 @@
 -- `write_parts`: the parts, one after the other.
-use mathlib.Core.Path.{◌∙◌}
-use native.Mathlib.Omega.{arith}
+use mathlib.Core.Path.{◌≡◌, refl, ◌∙◌}
+use mathlib.Core.Bool.{Bool, true, false, cond}
+use Rattle.std.specs.Int.{from_bool}
 use Rattle.state_bytes.proofs.Stored.{written}
 use Rattle.state_bytes.proofs.write.write_parts.Goals as goal
 
-pub put_words-requires-5 : goal.put_words-requires-5
-put_words-requires-5 c =
-    omega (
-      arith,
-      c.put_words-4.auto.state,
-      c.put_words-3.auto.state,
-      c.put_words-2.auto.state,
-      c.put_words.auto.state,
-      c.requires,
-    )
-
-pub shape_of-state : goal.shape_of-state
-shape_of-state c =
-    c.put_words-5.auto.state
-    ∙ c.put_words-4.auto.state
-    ∙ c.put_words-3.auto.state
-    ∙ c.put_words-2.auto.state
-    ∙ c.put_words.auto.state
+flag_is : (b : Bool) → from_bool b ≡ cond b 1 0
+flag_is true = refl
+flag_is false = refl
 
 pub returns : goal.returns
 returns c =
@@ -32,6 +18,6 @@ returns c =
     c.put_words-2.ensures
     c.smoother_out.ensures
     c.put_words-3.ensures
-    c.flag.ensures
+    (c.from.ensures ∙ flag_is c.args.t.ready)
     c.put_words-4.ensures
     c.put_words-5.ensures

@@ -2,14 +2,15 @@
 use mathlib.Core.Path.{◌≡◌}
 use Prim.Native.Nat.{◌-◌}
 use lib.ListN.{length}
-use Rattle.limiter.specs.Stores.{stores_at}
+use Rattle.frame.specs.Lent.{Stays}
+use Rattle.limiter.specs.Stores.{stores_in}
 use Rattle.turns.proofs.Draining.{Drained}
 use Rattle.turns.proofs.drain.drain_frames.Given as goal
 
 abbrev pub invariant-loop-first : goal.invariant-loop-first
 invariant-loop-first l =
-    Drained l.format l.initial.l l.n l.width (stores_at l.initial.delay l.initial.marks l.initial.minima l.weights l.initial.row l.initial.detector) l.initial.audio l.first l.l (stores_at l.delay l.marks l.minima l.weights l.row l.detector) l.audio l.run
-    × (length l.audio ≡ length l.initial.audio) × (length l.delay ≡ length l.initial.delay) × (length l.marks ≡ length l.initial.marks) × (length l.minima ≡ length l.initial.minima) × (length l.row ≡ length l.initial.row) × (length l.detector ≡ length l.initial.detector)
+    Drained l.format l.initial.l l.n l.width (stores_in l.initial.lent) l.initial.audio l.first l.l (stores_in l.lent) l.audio l.run
+    × (length l.audio ≡ length l.initial.audio) × Stays l.initial.lent l.lent
 
 abbrev pub decreases-loop-first : goal.decreases-loop-first
 decreases-loop-first l =

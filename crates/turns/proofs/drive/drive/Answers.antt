@@ -36,27 +36,13 @@ drive_still-moved-requires c =
 pub shape_of-audio-then-events-is_still : goal.shape_of-audio-then-events-is_still
 shape_of-audio-then-events-is_still c = c.drive_still-moved.auto.audio
 
-pub shape_of-delay-then-events-is_still : goal.shape_of-delay-then-events-is_still
-shape_of-delay-then-events-is_still c = c.drive_still-moved.auto.delay
-
-pub shape_of-marks-then-events-is_still : goal.shape_of-marks-then-events-is_still
-shape_of-marks-then-events-is_still c = c.drive_still-moved.auto.marks
-
-pub shape_of-minima-then-events-is_still : goal.shape_of-minima-then-events-is_still
-shape_of-minima-then-events-is_still c = c.drive_still-moved.auto.minima
-
-pub shape_of-row-then-events-is_still : goal.shape_of-row-then-events-is_still
-shape_of-row-then-events-is_still c = c.drive_still-moved.auto.row
-
-pub shape_of-detector-then-events-is_still : goal.shape_of-detector-then-events-is_still
-shape_of-detector-then-events-is_still c = c.drive_still-moved.auto.detector
-
 pub returns-then-events-is_still : goal.returns-then-events-is_still
 returns-then-events-is_still c =
     let a = c.args in
     let z = at_rest a.limiter c.target_now.result a.bank c.target_now.ensures _ _ c.is_still.ensures c.if-events-is_still.true in
     let r = c.drive_still-moved.ensures in
     record {
+      stays = c.drive_still-moved.ensures.stays;
       machine_after = same_machine _ _ _ _ _ _ _ c.if-events-is_still.true _ (r.machine_after a.bank z);
       audio_after = same_bytes _ _ _ _ _ _ _ c.if-events-is_still.true _ (r.audio_after a.bank z);
       seat_value = same_place _ _ _ _ _ _ _ c.if-events-is_still.true _ _ (r.highest_value a.bank z);
@@ -68,24 +54,10 @@ drive_turns-requires c = c.requires
 pub shape_of-audio : goal.shape_of-audio
 shape_of-audio c = c.drive_turns.auto.audio
 
-pub shape_of-delay : goal.shape_of-delay
-shape_of-delay c = c.drive_turns.auto.delay
-
-pub shape_of-marks : goal.shape_of-marks
-shape_of-marks c = c.drive_turns.auto.marks
-
-pub shape_of-minima : goal.shape_of-minima
-shape_of-minima c = c.drive_turns.auto.minima
-
-pub shape_of-row : goal.shape_of-row
-shape_of-row c = c.drive_turns.auto.row
-
-pub shape_of-detector : goal.shape_of-detector
-shape_of-detector c = c.drive_turns.auto.detector
-
 pub returns : goal.returns
 returns c =
     record {
+      stays = c.drive_turns.ensures.stays;
       machine_after = c.drive_turns.ensures.machine_after;
       audio_after = c.drive_turns.ensures.audio_after;
       seat_value = c.drive_turns.ensures.seat_value;

@@ -1,11 +1,7 @@
 -- `latch`: what the events from i on make of the bank now, all make of it.
-use mathlib.Core.Path.{◌≡◌}
-use Prim.Native.Nat.{◌-◌, ◌≤◌}
+use Rattle.std.proofs.Common.{◌≡◌, ◌-◌}
 use Rattle.turns.specs.Events.{events_from, latched}
 use Rattle.turns.proofs.events.latch.Given as goal
 
 abbrev pub invariant-loop-i : goal.invariant-loop-i
-invariant-loop-i l = (l.i ≤ l.n) × (latched l.first (events_from l.events l.i (l.n - l.i)) l.b ≡ latched l.first (events_from l.events l.cursor (l.n - l.cursor)) l.initial.b)
-
-abbrev pub decreases-loop-i : goal.decreases-loop-i
-decreases-loop-i l = l.n - l.i
+invariant-loop-i l = latched l.first (events_from l.events l.i (l.n - l.i)) l.bank ≡ latched l.first (events_from l.events l.cursor (l.n - l.cursor)) l.initial.bank

@@ -1,7 +1,7 @@
 -- `render_frames`: gathered, rendered, scattered.
 use mathlib.Core.Path.{sym, ◌∙◌}
 use native.Mathlib.Omega.{arith}
-use Rattle.limiter.specs.Stores.{stores_at}
+use Rattle.limiter.specs.Stores.{stores_in}
 use Rattle.limiter.proofs.Frames.{bounds_of}
 use Rattle.turns.proofs.Rendering.{kernel_asks, render_held, run_clean, run_given}
 use Rattle.turns.proofs.turn.render_frames.Goals as goal
@@ -41,7 +41,7 @@ scatter-requires c =
       run_short = omega (arith, p.short);
       run_len = r.auto.audio ∙ fit;
       held_all = render_held _ _ _ _ _ _ (kernel_asks _ _ _ _ p.ready p.some p.short fit) _
-          (stores_at r.new.delay r.new.marks r.new.minima c.args.weights.now r.new.row r.new.detector) _ r.ensures.run_done;
+          (stores_in r.new.lent) _ r.ensures.run_done;
     }
 
 pub shape_of-audio : goal.shape_of-audio
@@ -50,24 +50,12 @@ shape_of-audio c = c.scatter.auto.bytes
 pub shape_of-run : goal.shape_of-run
 shape_of-run c = c.render-after.auto.audio ∙ c.gather.auto.run
 
-pub shape_of-delay : goal.shape_of-delay
-shape_of-delay c = c.render-after.auto.delay
-
-pub shape_of-marks : goal.shape_of-marks
-shape_of-marks c = c.render-after.auto.marks
-
-pub shape_of-minima : goal.shape_of-minima
-shape_of-minima c = c.render-after.auto.minima
-
-pub shape_of-row : goal.shape_of-row
-shape_of-row c = c.render-after.auto.row
-
-pub shape_of-detector : goal.shape_of-detector
-shape_of-detector c = c.render-after.auto.detector
-
 pub returns : goal.returns
 returns c =
     let g = c.gather in
     let r = c.render-after in
-    run_given _ _ _ _ _ _ _ _ _ _ _ _ _ (stores_at r.new.delay r.new.marks r.new.minima c.args.weights.now r.new.row r.new.detector) _ _
-    c.requires g.auto.run g.ensures r.ensures.run_done r.ensures.highest_value c.scatter.ensures
+    record {
+      stays = r.ensures.stays;
+      given = run_given _ _ _ _ _ _ _ _ _ _ _ _ _ (stores_in r.new.lent) _ _
+          c.requires g.auto.run g.ensures r.ensures.run_done r.ensures.highest_value c.scatter.ensures;
+    }

@@ -1,6 +1,6 @@
 -- `turn`: the run's length, what latches before it, its target, and its frames.
 use native.Mathlib.Omega.{arith}
-use Rattle.limiter.specs.Stores.{stores_at}
+use Rattle.limiter.specs.Stores.{stores_in}
 use Rattle.turns.specs.Machine.{threshold_of}
 use Rattle.turns.proofs.Turning.{turn_asks, turn_given}
 use Rattle.turns.proofs.turn.turn.Goals as goal
@@ -14,15 +14,15 @@ overflow_sub-block c = omega (arith, c.requires.more)
 pub run_length-n-requires : goal.run_length-n-requires
 run_length-n-requires c = tt
 
-pub before_run-before-requires : goal.before_run-before-requires
-before_run-before-requires c = c.requires.events_left
+pub before_run-latched-requires : goal.before_run-latched-requires
+before_run-latched-requires c = c.requires.events_left
 
 pub target_now-requires : goal.target_now-requires
 target_now-requires c = tt
 
 pub render_frames-after-requires : goal.render_frames-after-requires
 render_frames-after-requires c =
-    turn_asks _ _ _ _ _ _ c.requires _ c.run_length-n.ensures _ (threshold_of c.before_run-before.result.bank).cur c.args.limiter.settings.true_peak_margin_db c.target_now.ensures
+    turn_asks _ _ _ _ _ _ c.requires _ c.run_length-n.ensures _ (threshold_of c.before_run-latched.new.bank).cur c.args.limiter.settings.true_peak_margin_db c.target_now.ensures
 
 pub overflow_add-result : goal.overflow_add-result
 overflow_add-result c =
@@ -34,24 +34,12 @@ shape_of-audio c = c.render_frames-after.auto.audio
 pub shape_of-run : goal.shape_of-run
 shape_of-run c = c.render_frames-after.auto.run
 
-pub shape_of-delay : goal.shape_of-delay
-shape_of-delay c = c.render_frames-after.auto.delay
-
-pub shape_of-marks : goal.shape_of-marks
-shape_of-marks c = c.render_frames-after.auto.marks
-
-pub shape_of-minima : goal.shape_of-minima
-shape_of-minima c = c.render_frames-after.auto.minima
-
-pub shape_of-row : goal.shape_of-row
-shape_of-row c = c.render_frames-after.auto.row
-
-pub shape_of-detector : goal.shape_of-detector
-shape_of-detector c = c.render_frames-after.auto.detector
-
 pub returns : goal.returns
 returns c =
-    let b = c.before_run-before in
+    let b = c.before_run-latched in
     let r = c.render_frames-after in
-    turn_given _ _ _ _ _ _ c.requires _ c.run_length-n.ensures b.result b.ensures.events_value b.ensures.cursor_in_bounds _ c.target_now.ensures _
-    (stores_at r.new.delay r.new.marks r.new.minima c.args.weights.now r.new.row r.new.detector) _ _ _ r.ensures
+    record {
+      stays = r.ensures.stays;
+      given = turn_given _ _ _ _ _ _ c.requires _ c.run_length-n.ensures b.new.bank b.result b.ensures.events_value b.ensures.cursor_in_bounds _ c.target_now.ensures _
+          (stores_in r.new.lent) _ _ _ r.ensures.given;
+    }

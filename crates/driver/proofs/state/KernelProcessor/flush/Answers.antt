@@ -1,40 +1,34 @@
 -- `flush`: refused, or runs of silence.
 use mathlib.Core.Path.{refl}
-use native.Mathlib.Omega.{arith}
-use Rattle.limiter.specs.Stores.{stores_at}
-use Rattle.driver.proofs.Refusing.{drain_left_lem, drain_may, drain_asked, drain_finished}
+use Rattle.limiter.specs.Stores.{stores_in}
+use Rattle.frame.proofs.Lent.{stays_here}
+use Rattle.driver.proofs.Refusing.{handed_on, drain_left_lem, drain_may, drain_asked, drain_finished}
 use Rattle.driver.proofs.state.KernelProcessor.flush.Goals as goal
 
-pub size_of-size-requires : goal.size_of-size-requires
-size_of-size-requires c = tt
-
-pub judge_drain-answer-requires : goal.judge_drain-answer-requires
-judge_drain-answer-requires c = tt
-
-pub returns-in-Refused : goal.returns-in-Refused
-returns-in-Refused c =
+pub returns-in_err-judge_drain : goal.returns-in_err-judge_drain
+returns-in_err-judge_drain c =
     let a = c.args in
-    drain_left_lem a.format _ a.frames a.audio.now _ c.size_of-size.ensures _ c.judge_drain-answer.ensures _ c.in-Refused.is
+    record {
+      stays = stays_here _;
+      left = rw (handed_on _ _ c.from_residual.ensures.1) (drain_left_lem a.format _ a.frames a.audio.now _ c.size_of-size.ensures _ c.judge_drain.ensures _ c.in_err-judge_drain.was);
+    }
 
-pub drainable-n-requires : goal.drainable-n-requires
-drainable-n-requires c =
+pub drainable-written-requires : goal.drainable-written-requires
+drainable-written-requires c =
     let a = c.args in
-    (drain_may a.format _ a.frames a.audio.now _ c.size_of-size.ensures _ c.judge_drain-answer.ensures c.in_default.is).drained_most
+    (drain_may a.format _ a.frames a.audio.now _ c.size_of-size.ensures _ c.judge_drain.ensures _ c.in_ok-judge_drain.was).drained_most
 
-pub overflow_add-done : goal.overflow_add-done
-overflow_add-done c =
+pub drain_frames-self-requires : goal.drain_frames-self-requires
+drain_frames-self-requires c =
     let a = c.args in
-    let d = drain_may a.format _ a.frames a.audio.now _ c.size_of-size.ensures _ c.judge_drain-answer.ensures c.in_default.is in
-    omega (arith, d.drained_most, d.look_most, c.drainable-n.ensures)
-
-pub drain_frames-after-requires : goal.drain_frames-after-requires
-drain_frames-after-requires c =
-    let a = c.args in
-    drain_asked a.format _ a.frames a.audio.now _ c.size_of-size.ensures _ c.judge_drain-answer.ensures c.in_default.is _ c.drainable-n.ensures
+    drain_asked a.format _ a.frames a.audio.now _ c.size_of-size.ensures _ c.judge_drain.ensures _ c.in_ok-judge_drain.was _ c.drainable-written.ensures
 
 pub returns : goal.returns
 returns c =
     let a = c.args in
-    let d = c.drain_frames-after in
-    drain_finished a.format _ a.frames a.audio.now _ c.size_of-size.ensures _ c.judge_drain-answer.ensures c.in_default.is _ _ d.result
-    (stores_at d.new.delay d.new.marks d.new.minima a.weights.now d.new.row d.new.detector) d.new.audio c.drainable-n.ensures refl d.ensures.value d.ensures.stores_after d.ensures.audio_after
+    let d = c.drain_frames-self in
+    record {
+      stays = d.ensures.stays;
+      left = drain_finished a.format _ a.frames a.audio.now _ c.size_of-size.ensures _ c.judge_drain.ensures _ c.in_ok-judge_drain.was _ _ d.result
+          (stores_in d.new.lent) d.new.audio c.drainable-written.ensures refl d.ensures.value d.ensures.stores_after d.ensures.audio_after;
+    }

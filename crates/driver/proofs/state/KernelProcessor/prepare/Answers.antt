@@ -1,19 +1,26 @@
--- `prepare`: the bank's refusal, 7, or what the limiter answers.
+-- `prepare`: the bank's refusal, 7, the limiter's, or both set up.
 use mathlib.Core.Path.{sym, ◌∙◌}
 use Rattle.limiter.specs.Stores.{stores_at}
-use Rattle.limiter.specs.Prepare.{prepared_at}
-use Rattle.driver.proofs.Started.{bank_refused, over_budget, limiter_told}
+use Rattle.driver.proofs.Refusing.{handed_on}
+use Rattle.driver.proofs.Started.{bank_refused, over_budget, limiter_refused, limiter_told}
 use Rattle.driver.proofs.state.KernelProcessor.prepare.Goals as goal
 
-pub returns-in-Refused : goal.returns-in-Refused
-returns-in-Refused c = bank_refused _ _ _ _ c.bank_of-set.ensures _ c.in-Refused.is _ (c.refused.ensures _)
+pub returns-in_err-bank : goal.returns-in_err-bank
+returns-in_err-bank c = rw (handed_on _ _ c.from_residual.ensures.1) (bank_refused _ _ _ _ c.bank_of.ensures _ c.in_err-bank.was)
 
-pub returns-in-Over : goal.returns-in-Over
-returns-in-Over c =
-    over_budget _ _ _ _ c.bank_of-set.ensures c.in_default.is _ _ (sym c.judge_cap-budget.ensures ∙ c.in-Over.is) _ (c.refused-in-Over.ensures _)
+pub returns-in_err-judge_cap : goal.returns-in_err-judge_cap
+returns-in_err-judge_cap c =
+    rw (handed_on _ _ c.from_residual-in_err-judge_cap.ensures.1) (over_budget _ _ _ _ c.bank_of.ensures _ c.in_ok-bank.was _ (sym c.judge_cap.ensures ∙ c.in_err-judge_cap.was))
+
+pub returns-in_err-limiter : goal.returns-in_err-limiter
+returns-in_err-limiter c =
+    let p = c.prepare in
+    rw (handed_on _ _ c.from_residual-in_err-limiter.ensures.1)
+    (limiter_refused _ _ _ _ c.bank_of.ensures _ c.in_ok-bank.was _ (sym c.judge_cap.ensures ∙ c.in_ok-judge_cap.was) _ c.with_rest.ensures
+    p.result (stores_at p.new.delay p.new.marks p.new.minima p.new.weights p.new.row p.new.detector) p.ensures _ c.in_err-limiter.was)
 
 pub returns : goal.returns
 returns c =
-    let p = c.prepare-p in
-    limiter_told _ _ _ _ c.bank_of-set.ensures c.in_default.is (sym c.judge_cap-budget.ensures ∙ c.in_default-budget.is) _ c.with_rest.ensures
-    (prepared_at p.result (stores_at p.new.delay p.new.marks p.new.minima p.new.weights p.new.row p.new.detector)) p.ensures _ c.kept-bank.ensures
+    let p = c.prepare in
+    limiter_told _ _ _ _ c.bank_of.ensures _ c.in_ok-bank.was _ (sym c.judge_cap.ensures ∙ c.in_ok-judge_cap.was) _ c.with_rest.ensures
+    p.result (stores_at p.new.delay p.new.marks p.new.minima p.new.weights p.new.row p.new.detector) p.ensures _ c.in_ok-limiter.was

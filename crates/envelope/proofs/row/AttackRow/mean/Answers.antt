@@ -2,8 +2,9 @@
 use mathlib.Core.Path.{sym, ◌∙◌}
 use native.Mathlib.Omega.{arith}
 use lib.Ieee.{of_bits}
-use Rattle.envelope.proofs.Tally.{ordered}
-use Rattle.envelope.proofs.Weighted.{mean_one, mean_sum}
+use lib.Seq.{length-take-le}
+use Rattle.envelope.proofs.Tally.{ordered, placed}
+use Rattle.envelope.proofs.Weighted.{mean_one, mean_parts}
 use Rattle.envelope.proofs.row.AttackRow.mean.Goals as goal
 
 pub returns-then-self-eq0 : goal.returns-then-self-eq0
@@ -12,22 +13,14 @@ returns-then-self-eq0 c =
     let o = ordered _ _ c.requires.row_ordered in
     mean_one c.args.weights.now c.args.row.now c.args.self.pos (omega (arith, o.place)) (sym o.true_tally ∙ c.if-self-eq0.true)
 
-pub weighted-newer-requires : goal.weighted-newer-requires
-weighted-newer-requires c =
-    let place = (ordered _ _ c.requires.row_ordered).place in
-    record { row_inside = omega (arith, c.requires.weights_len); weights_inside = omega (arith, c.requires.weights_len) }
+pub slice_bounds-weighted-end : goal.slice_bounds-weighted-end
+slice_bounds-weighted-end c = sym (length-take-le _ _ (let p = placed _ _ c.requires.row_ordered in omega (arith, c.requires.weights_len)))
 
-pub overflow_sub-row : goal.overflow_sub-row
-overflow_sub-row c = omega (arith, (ordered _ _ c.requires.row_ordered).place)
-
-pub weighted-requires : goal.weighted-requires
-weighted-requires c =
-    let place = (ordered _ _ c.requires.row_ordered).place in
-    record { row_inside = omega (arith, c.requires.weights_len); weights_inside = omega (arith, c.requires.weights_len) }
+pub slice_bounds-weighted-end-2 : goal.slice_bounds-weighted-end-2
+slice_bounds-weighted-end-2 c = sym (length-take-le _ _ (let p = placed _ _ c.requires.row_ordered in omega arith))
 
 pub returns : goal.returns
 unfolding of_bits
 returns c =
     let o = ordered _ _ c.requires.row_ordered in
-    mean_sum c.args.weights.now c.args.row.now c.args.self.pos c.weighted-newer.result c.weighted.result (omega (arith, o.place)) c.requires.weights_len (λ z. c.if-self-eq0.false (o.true_tally ∙ z))
-    c.weighted-newer.ensures c.weighted.ensures
+    mean_parts _ _ _ (omega (arith, o.place)) c.requires.weights_len _ _ (λ z. c.if-self-eq0.false (o.true_tally ∙ z)) c.weighted-newer.ensures c.weighted.ensures

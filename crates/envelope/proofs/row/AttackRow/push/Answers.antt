@@ -4,18 +4,6 @@ use lib.ListN.{length-set}
 use Rattle.envelope.proofs.Tally.{ordered, counted, bounded, one_more, pushed_is}
 use Rattle.envelope.proofs.row.AttackRow.push.Goals as goal
 
-pub offset_bounds-row-pos : goal.offset_bounds-row-pos
-offset_bounds-row-pos c = omega (arith, (ordered _ _ c.requires).place)
-
-pub bounds-row-pos : goal.bounds-row-pos
-bounds-row-pos c = (ordered _ _ c.requires).place
-
-pub offset_bounds-row-pos-2 : goal.offset_bounds-row-pos-2
-offset_bounds-row-pos-2 c = omega (arith, (ordered _ _ c.requires).place)
-
-pub bounds-row-pos-2 : goal.bounds-row-pos-2
-bounds-row-pos-2 c = (ordered _ _ c.requires).place
-
 pub next_pos-requires : goal.next_pos-requires
 next_pos-requires c = simp length-set (ordered _ _ c.requires).place
 

@@ -8,14 +8,10 @@ pub returns-then-not-is_accepted : goal.returns-then-not-is_accepted
 returns-then-not-is_accepted c =
     refused_settings c.args.self c.spec.result c.spec.ensures c.is_accepted.result c.is_accepted.ensures c.if-not-is_accepted.true
 
-pub release_coeff-coeff-requires : goal.release_coeff-coeff-requires
-release_coeff-coeff-requires c =
+pub release_coeff-coeff-requires-clause-release_taken : goal.release_coeff-coeff-requires-clause-release_taken
+release_coeff-coeff-requires-clause-release_taken c =
     let l = c.args.self in
-    let t = taken l.settings (spec_of l) (passed_settings l c.spec.result c.spec.ensures c.is_accepted.result c.is_accepted.ensures c.if-not-is_accepted.false) in
-    record {
-      release_taken = t.release_is;
-      rate_taken = t.rate_is;
-    }
+    (taken l.settings (spec_of l) (passed_settings l c.spec.result c.spec.ensures c.is_accepted.result c.is_accepted.ensures c.if-not-is_accepted.false)).release_is
 
 pub returns : goal.returns
 returns c =

@@ -16,4 +16,4 @@ started-requires c =
 pub returns : goal.returns
 unfolding of_bits reset_of
 returns c marks minima weights =
-    rw (c.started.ensures, c.spec.ensures, c.fill-3.ensures, c.fill-2.ensures, c.fill.ensures) refl
+    rw (c.started.ensures, c.spec.ensures, c.fill-3.ensures.after (λ y h. h), c.fill-2.ensures.after (λ y h. h), c.fill.ensures.after (λ y h. h)) refl

@@ -1,5 +1,4 @@
 -- `stores_fit`: the stores' lengths, judged.
-use mathlib.Core.Path.{refl}
 use Rattle.limiter.proofs.Frames.{bounds_of}
 use Rattle.limiter.proofs.state.Limiter.stores_fit.Goals as goal
 
@@ -10,6 +9,3 @@ lengths_fit-requires c =
       channels_bound = b.most;
       look_bound = b.look_most;
     }
-
-pub returns : goal.returns
-returns c = rw (c.lengths_fit.ensures, c.lengths_of-l.ensures) refl

@@ -1,6 +1,0 @@
--- `apply_at`: the slots that the callee answers.
-use mathlib.Core.Path.{refl}
-use Rattle.bank.proofs.smoother_bank.SmootherBank.apply_at.Goals as goal
-
-pub returns : goal.returns
-returns c = rw c.change_at-slots.ensures refl

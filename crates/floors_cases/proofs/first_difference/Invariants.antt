@@ -1,9 +1,0 @@
--- proofs/first_difference/Invariants.antt
-use Rattle.std.proofs.Common.{length, ◌-◌, ◌≤◌}
-use Rattle.floors_cases.proofs.first_difference.Given as goal
-
-abbrev pub invariant-loop-i : goal.invariant-loop-i
-invariant-loop-i l = l.i ≤ length l.a
-
-abbrev pub decreases-loop-i : goal.decreases-loop-i
-decreases-loop-i l = length l.a - l.i

@@ -1,9 +1,0 @@
--- `of_flush`: the match tells which answer it was.
-use mathlib.Core.Path.{refl}
-use Rattle.host.proofs.answer.of_flush.Goals as goal
-
-pub returns-in-Finished : goal.returns-in-Finished
-returns-in-Finished c = rw (c.pair.ensures, c.flag.ensures, c.in-Finished.is) refl
-
-pub returns-in-Refused : goal.returns-in-Refused
-returns-in-Refused c = rw (c.of_refusal.ensures, c.in-Refused.is) refl

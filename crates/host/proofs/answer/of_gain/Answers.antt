@@ -1,9 +1,0 @@
--- `of_gain`: the match tells which answer it was.
-use mathlib.Core.Path.{refl}
-use Rattle.host.proofs.answer.of_gain.Goals as goal
-
-pub returns-in-Finished : goal.returns-in-Finished
-returns-in-Finished c = rw (c.to_bits-in-Finished-2.ensures, c.to_bits-in-Finished.ensures, c.to_bits.ensures, c.in-Finished.is) refl
-
-pub returns-in-Refused : goal.returns-in-Refused
-returns-in-Refused c = rw (c.of_refusal.ensures, c.in-Refused.is) refl

@@ -1,9 +1,0 @@
--- proofs/calls/words/Invariants.antt
-use Rattle.std.proofs.Common.{length, ◌-◌, ◌≤◌}
-use Rattle.session_calls.proofs.calls.words.Given as goal
-
-abbrev pub invariant-loop-i : goal.invariant-loop-i
-invariant-loop-i g l = l.i ≤ length l.into
-
-abbrev pub decreases-loop-i : goal.decreases-loop-i
-decreases-loop-i g l = length l.initial.into - l.i
