@@ -18,11 +18,7 @@ use Rattle.envelope.specs.Mean.{is_all_one}
 use Rattle.envelope.specs.declared.row.AttackRow.{AttackRow}
 use Rattle.envelope.proofs.Tally.{all_one}
 
--- ---- the tests of every floor are std's
-pub all_unit_is : (row : List Float) → list_all (within Number.zero one) row ≡ all_unit row
-all_unit_is [] = refl
-all_unit_is (x ∷ xs) = ap (λ (b : Bool). within Number.zero one x && b) (all_unit_is xs)
-
+-- ---- the test of every floor is std's
 pub all_one_is : (row : List Float) → list_all (λ (f : Float). eq f one) row ≡ is_all_one row
 all_one_is [] = refl
 all_one_is (x ∷ xs) = ap (λ (b : Bool). eq x one && b) (all_one_is xs)

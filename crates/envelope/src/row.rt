@@ -45,11 +45,15 @@ fn weighted(acc: f64, weights: &[f64], floors: &[f64]) -> f64
     sum
 }
 
-// Whether every floor lies within 0 and 1.
+// Whether every floor lies within 0 and 1. It reads the whole row, without a way out: by `all`, a third slower.
 fn all_unit(row: &[f64]) -> bool
     ensures { result ≡ all_unit row.now }
 {
-    row.iter().all(|floor| unit(*floor))
+    let mut ok = true;
+    for floor in row {
+        ok &= unit(*floor);
+    }
+    ok
 }
 
 // How many floors are other than 1.

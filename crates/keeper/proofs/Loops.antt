@@ -26,27 +26,33 @@ back_turn cap marks minima head (suc n) at gain some e h =
     rw k (back_goes gain (entry_at marks minima (wrap cap (head + n))) (ring_of cap marks minima head n) (rw place at h))
 
 -- ---- drop_front: the entry at the front of those that are left stays or goes
-module _ (look head len frame : ℕ) (marks : List ℕ) (inside : head ≤ look) (few : len ≤ look + 1) where
-  -- the entries behind the first n
-  abbrev pub behind : ℕ → List Float → List Entry
-  behind n minima = ring_of (look + 1) marks minima (wrap (look + 1) (head + n)) (len - n)
+module _ (look head len frame : ℕ) (marks : List ℕ) (inside : head ≤ look) (few : len ≤ look + 1) (n at next : ℕ) (some : n < len) (place : at ≡ wrap (look + 1) (head + n)) (on : next ≡ wrap (look + 1) (at + 1)) where
+  -- the entries behind the first n, and those behind one more
+  abbrev here : List Float → List Entry
+  here minima = ring_of (look + 1) marks minima at (len - n)
 
-  module _ (n at : ℕ) (some : n < len) (place : at ≡ wrap (look + 1) (head + n)) where
-    -- the front, as the code counts
-    front_first : (minima : List Float) → behind n minima ≡ behind (n + 1) minima ++ (entry_at marks minima at ∷ [])
-    front_first minima =
-        let left : len - n ≡ suc (len - (n + 1)) = omega arith in
-        let on : head + n + 1 ≡ head + (n + 1) = omega arith in
-        rw (left, ring_front (look + 1) marks minima (wrap (look + 1) (head + n)) (len - (n + 1)) (wrap_below (look + 1) (head + n) (omega arith)) (omega arith), wrap_wrap (look + 1) (head + n) 1 (omega arith), on, place) refl
+  abbrev behind : List Float → List Entry
+  behind minima = ring_of (look + 1) marks minima next (len - (n + 1))
 
-    pub front_done : frame - look ≤ get_or marks at 0 → (minima : List Float) → ring_of (look + 1) marks minima at (len - n) ≡ drop_front look frame (behind n minima)
-    front_done h minima =
-        let e = front_first minima in
-        rw place (e ∙ sym (ap (drop_front look frame) e ∙ front_kept look frame (behind (n + 1) minima) (entry_at marks minima at) (le-ltb look (frame - get_or marks at 0) (omega arith))))
+  front_first : (minima : List Float) → here minima ≡ behind minima ++ (entry_at marks minima at ∷ [])
+  front_first minima =
+      let left : len - n ≡ suc (len - (n + 1)) = omega arith in
+      let k : at < look + 1 = rw place (wrap_below (look + 1) (head + n) (omega arith)) in
+      rw (left, on) (ring_front (look + 1) marks minima at (len - (n + 1)) k (omega arith))
 
-    pub front_turn : get_or marks at 0 < frame - look → (minima : List Float) → drop_front look frame (behind (n + 1) minima) ≡ drop_front look frame (behind n minima)
-    front_turn h minima =
-        sym (ap (drop_front look frame) (front_first minima) ∙ front_dropped look frame (behind (n + 1) minima) (entry_at marks minima at) (lt-ltb look (frame - get_or marks at 0) (omega arith)))
+  pub front_done : frame - look ≤ get_or marks at 0 → (minima : List Float) → here minima ≡ drop_front look frame (here minima)
+  front_done h minima =
+      let e = front_first minima in
+      e ∙ sym (ap (drop_front look frame) e ∙ front_kept look frame (behind minima) (entry_at marks minima at) (le-ltb look (frame - get_or marks at 0) (omega arith)))
+
+  pub front_turn : get_or marks at 0 < frame - look → (minima : List Float) → drop_front look frame (behind minima) ≡ drop_front look frame (here minima)
+  front_turn h minima =
+      sym (ap (drop_front look frame) (front_first minima) ∙ front_dropped look frame (behind minima) (entry_at marks minima at) (lt-ltb look (frame - get_or marks at 0) (omega arith)))
+
+  pub front_on : next ≡ wrap (look + 1) (head + (n + 1))
+  front_on =
+      let e : head + n + 1 ≡ head + (n + 1) = omega arith in
+      on ∙ ap (λ (p : ℕ). wrap (look + 1) (p + 1)) place ∙ wrap_wrap (look + 1) (head + n) 1 (omega arith) ∙ ap (wrap (look + 1)) e
 
 -- ---- entries_rise
 -- both orders rise

@@ -58,18 +58,16 @@ impl FloorKeeper {
     {
         // an entry with a mark below this one is more than look back
         let first = self.frame.saturating_sub(self.look as u64);
+        let mut at = self.head;
         for dropped in 0..len {
-            let at = self.place(dropped);
             if marks[at] >= first {
                 return Front {
                     head: at,
                     len: len - dropped,
                 };
             }
+            at = wrap(self.look + 1, at + 1);
         }
-        Front {
-            head: self.place(len),
-            len: 0,
-        }
+        Front { head: at, len: 0 }
     }
 }

@@ -8,4 +8,7 @@ use Rattle.keeper.proofs.FloorKeeper.drop_front.Given as goal
 
 abbrev pub invariant-loop-dropped : goal.invariant-loop-dropped
 invariant-loop-dropped l =
-    (minima : List Float) → drop_front l.self.look l.self.frame (ring_of (l.self.look + 1) l.marks minima (wrap (l.self.look + 1) (l.self.head + l.dropped)) (l.len - l.dropped)) ≡ drop_front l.self.look l.self.frame (ring_of (l.self.look + 1) l.marks minima l.self.head l.len)
+    let k = l.self in
+    let cap = k.look + 1 in
+    (l.at ≡ wrap cap (k.head + l.dropped))
+    × ((minima : List Float) → drop_front k.look k.frame (ring_of cap l.marks minima l.at (l.len - l.dropped)) ≡ drop_front k.look k.frame (ring_of cap l.marks minima k.head l.len))
