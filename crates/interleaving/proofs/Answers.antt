@@ -9,14 +9,13 @@ use Rattle.std.specs.Prelude.{Ok, Err}
 use Rattle.arithmetic.specs.Reply.{Reply, numbered}
 use Rattle.audio.specs.Format.{sample_bytes, size_of}
 use Rattle.audio.specs.declared.format.Format.{Format}
-use Rattle.audio.proofs.Places.{bytes_count}
 use Rattle.interleaving.specs.Calls.{refused_by, refusal, frames_in, outcome, rearrange_of}
-use Rattle.interleaving.specs.Inner.{Transposed, rows_in, columns_in, frames_of, Fills, Shaped}
+use Rattle.interleaving.specs.Inner.{Transposed, rows_in, columns_in, frames_of, Fills, Taken, Shaped}
 use Rattle.interleaving.specs.declared.shape.Shape.{Shape}
 use Rattle.interleaving.specs.declared.calls.Direction.{Direction}
 use Rattle.interleaving.specs.declared.calls.RearrangeRefusal.{RearrangeRefusal}
 use Rattle.interleaving.specs.declared.calls.RearrangeRefusal.TheVariants.{Channels, Length}
-use Rattle.interleaving.proofs.Facts.{refused_same, one_channel, call_transposed}
+use Rattle.interleaving.proofs.Facts.{taken, refused_same, one_channel, call_transposed}
 
 -- a refusal's number is none of finished work
 refused_some : (why : RearrangeRefusal) → refused_by why ≡ 0 → ⊥
@@ -44,15 +43,18 @@ module _ (direction : Direction) (format : Format) (channels : ℕ) (bytes : Lis
         λ i. record { reply = said i; bytes = sym same i }
 
     module _ (shape : Shape) (is : Shaped format channels (size_of format bytes) shape) where
-      -- the shape's bytes are the call's
-      pub answer_fills : Fills shape bytes
-      answer_fills = rw is.format_same (bytes_count format bytes (shape.channels * frames_of shape) (sym is.whole) (omega (arith, shape.bounded)))
-
-      -- its frames too
+      -- the shape's frames are the call's
       frames_are : frames_of shape ≡ frames_in format channels bytes
       frames_are =
-          let some : 0 < shape.channels = omega (arith, shape.some) in
+          let some : 0 < shape.channels = omega (arith, (taken format channels bytes ok).some, is.channels_same) in
           sym (ap (λ (n : ℕ). n / channels) (sym is.whole) ∙ ap (λ (n : ℕ). shape.channels * frames_of shape / n) (sym is.channels_same) ∙ mul-div_cancel_left (frames_of shape) some)
+
+      -- its bytes too
+      pub answer_taken : Taken shape.format shape.channels (frames_of shape) (length bytes)
+      answer_taken = rw (frames_are, is.format_same, is.channels_same) (taken format channels bytes ok)
+
+      pub answer_fills : Fills shape bytes
+      answer_fills = answer_taken.long
 
       pub answer_moved : (after : List ℕ) → length after ≡ length bytes
           → Transposed (sample_bytes shape.format) (rows_in direction shape.channels (frames_of shape)) (columns_in direction shape.channels (frames_of shape)) bytes after

@@ -16,7 +16,7 @@ use Rattle.audio.specs.Format.{sample_bytes, size_of, places_of}
 use Rattle.audio.specs.declared.format.Format.{Format}
 use Rattle.audio.proofs.Places.{bytes_count, size_same}
 use Rattle.interleaving.specs.Interleaved.{transposed, rearranged, back}
-use Rattle.interleaving.specs.Inner.{Transposed, rows_in, columns_in}
+use Rattle.interleaving.specs.Inner.{Transposed, rows_in, columns_in, Taken}
 use Rattle.interleaving.specs.Calls.{refusal, frames_in, outcome, rearrange_of}
 use Rattle.interleaving.specs.declared.calls.Direction.{Direction}
 use Rattle.interleaving.specs.declared.calls.Direction.TheVariants.{Deinterleave, Interleave}
@@ -56,6 +56,10 @@ module _ (format : Format) (channels : ℕ) (bytes : List ℕ) where
 
     planar_whole : length bytes ≡ sample_bytes format * (channels * (frames_in format channels bytes))
     planar_whole = bytes_count format bytes (channels * (frames_in format channels bytes)) frames_whole (omega (arith, tests.2, frames_whole))
+
+    -- what its steps ask for
+    pub taken : Taken format channels (frames_in format channels bytes) (length bytes)
+    taken = record { some = tests.0; few = tests.1; short = omega (arith, tests.2, frames_whole); long = planar_whole }
 
     -- they are the table that is transposed
     pub table_whole : (direction : Direction) → length bytes ≡ sample_bytes format * (rows_in direction channels (frames_in format channels bytes) * columns_in direction channels (frames_in format channels bytes))

@@ -15,6 +15,7 @@ use Rattle.audio.proofs.Carry.{places-end}
 use Rattle.audio.proofs.Places.{sample_some}
 use Rattle.interleaving.specs.Inner.{piece, run, slid, Lengths, Fills, Spaced, Transposed, Spread}
 use Rattle.interleaving.specs.declared.shape.Shape.{Shape}
+use Rattle.audio.proofs.Numbers.{put_length}
 use Rattle.interleaving.proofs.Pieces.{part_length, times_more, ends_before, put_part, piece_in, piece_before, piece_after, piece_within}
 use Rattle.interleaving.proofs.Spacing.{no_further}
 use Rattle.interleaving.proofs.Tiling.{sample_few, table_fits}
@@ -100,10 +101,12 @@ pub spans : (format : Format) (channels tiles left bytes : ℕ) → Lengths form
 spans format channels tiles left bytes lengths c z h e =
     subst (λ (x : ℕ). Spans x channels (64 * tiles) left c bytes) (sym e) (spans_of (sample_bytes format) channels (64 * tiles) left c bytes (sample_some format) (sample_few format) h lengths.exact)
 
+-- a shape, and bytes that fill it, have such lengths
+pub lengths_in : (shape : Shape) (bytes : List ℕ) → Fills shape bytes → Lengths shape.format shape.channels shape.tiles shape.left (length bytes)
+lengths_in shape bytes fills = record { few = shape.few; short = shape.short; bounded = shape.bounded; exact = fills }
+
 pub spans_in : (shape : Shape) (bytes : List ℕ) → Fills shape bytes → (c z : ℕ) → c < shape.channels → z ≡ sample_bytes shape.format → Spans z shape.channels (64 * shape.tiles) shape.left c (length bytes)
-spans_in shape bytes fills c z h e =
-    let size = sample_bytes shape.format in
-    subst (λ (x : ℕ). Spans x shape.channels (64 * shape.tiles) shape.left c (length bytes)) (sym e) (spans_of size shape.channels (64 * shape.tiles) shape.left c (length bytes) (sample_some shape.format) (sample_few shape.format) h fills)
+spans_in shape bytes fills = spans shape.format shape.channels shape.tiles shape.left (length bytes) (lengths_in shape bytes fills)
 
 -- the whole frames of all channels, and the frames left, as the code has them
 pub record Sums (format : Format) (channels tiles left bytes z : ℕ) : Type 0 where
@@ -126,21 +129,7 @@ sums format channels tiles left bytes lengths z e =
     })
 
 pub sums_in : (shape : Shape) (bytes : List ℕ) → Fills shape bytes → (z : ℕ) → z ≡ sample_bytes shape.format → Sums shape.format shape.channels shape.tiles shape.left (length bytes) z
-sums_in shape bytes fills z e =
-    let format = shape.format in
-    let channels = shape.channels in
-    let tiles = shape.tiles in
-    let left = shape.left in
-    let size = sample_bytes format in
-    let m : channels * (64 * tiles + left) ≡ channels * (64 * tiles) + left * channels = mul-add channels (64 * tiles) left ∙ ap (λ (x : ℕ). channels * (64 * tiles) + x) (mul_comm channels left) in
-    let few = left_few channels left shape.few shape.short in
-    subst (λ (x : ℕ). Sums format channels tiles left (length bytes) x) (sym e)
-    (record {
-      sum = sym (fills ∙ ap (λ (x : ℕ). size * x) m ∙ mul-add size (channels * (64 * tiles)) (left * channels));
-      start = no_further size (sample_some format) (channels * (64 * tiles));
-      room = table_fits format (left * channels) few;
-      few = few;
-    })
+sums_in shape bytes fills = sums shape.format shape.channels shape.tiles shape.left (length bytes) (lengths_in shape bytes fills)
 
 module _ (size channels whole left : ℕ) (before : List ℕ) where
   abbrev all : ℕ
@@ -297,13 +286,15 @@ module _ (size channels whole left : ℕ) (before : List ℕ) where
   -- the same of the lent rest of the bytes
   pub closed_part : (z : ℕ) (kept now tail : List ℕ) → z ≡ size → Closing channels kept now → (let a = z * (channels * whole) in let m = length now - a in a + z * (left * channels) ≡ length now
       → length tail ≡ length (take m (drop a now)) → Transposed size channels left kept tail
-      → Spread size channels whole left (take a now ++ (tail ++ drop m (drop a now))) before)
+      → (length (take a now ++ (tail ++ drop m (drop a now))) ≡ length now) × Spread size channels whole left (take a now ++ (tail ++ drop m (drop a now))) before)
   closed_part z kept now tail e k sum long transposed =
       let a = z * (channels * whole) in
       let m = length now - a in
       let wide : length tail ≡ z * (left * channels) = long ∙ rest_length now a (z * (left * channels)) sum in
       let w : m ≡ z * (left * channels) = omega (arith, sum) in
       let there : put now (size * (channels * whole)) tail ≡ put now a tail = ap (λ (x : ℕ). put now (x * (channels * whole)) tail) (sym e) in
-      rw (put_part now tail a m (wide ∙ sym w))
-      (subst (λ (x : List ℕ). Spread size channels whole left x before) there
-      (closed kept now tail k (subst (λ (x : ℕ). x * (channels * whole) + x * (left * channels) ≡ length now) e sum) (wide ∙ ap (λ (x : ℕ). x * (left * channels)) e) transposed))
+      rw (put_part now tail a m (wide ∙ sym w)) (
+        put_length now a tail (omega (arith, sum, wide)),
+        subst (λ (x : List ℕ). Spread size channels whole left x before) there
+            (closed kept now tail k (subst (λ (x : ℕ). x * (channels * whole) + x * (left * channels) ≡ length now) e sum) (wide ∙ ap (λ (x : ℕ). x * (left * channels)) e) transposed),
+      )

@@ -14,6 +14,7 @@ use Rattle.audio.specs.declared.format.Format.{Format}
 use Rattle.audio.specs.declared.format.Format.TheVariants.{F64, F32}
 use Rattle.audio.proofs.Carry.{places-end}
 use Rattle.interleaving.specs.Inner.{piece, Transposed, TransposedEach}
+use Rattle.audio.proofs.Numbers.{put_length}
 use Rattle.interleaving.proofs.Pieces.{part_length, times_more, ends_before, put_in, put_part, piece_in, piece_before, piece_after, piece_within}
 
 -- a sample has at most eight bytes
@@ -78,7 +79,7 @@ module _ (size rows columns : ℕ) (before : List ℕ) where
   -- the same of a lent part, whose width the code computes
   abbrev Lent : ℕ → ℕ → ℕ → List ℕ → List ℕ → Type 0
   Lent t w m now tile = Transposed size rows columns (take m (drop (t * w) now)) tile → length tile ≡ length (take m (drop (t * w) now))
-      → TransposedEach size rows columns (t + 1) before (take (t * w) now ++ (tile ++ drop m (drop (t * w) now)))
+      → (length (take (t * w) now ++ (tile ++ drop m (drop (t * w) now))) ≡ length now) × TransposedEach size rows columns (t + 1) before (take (t * w) now ++ (tile ++ drop m (drop (t * w) now)))
 
   pub lent_more : (t w m : ℕ) (now tile : List ℕ) → w ≡ size * n → m ≡ w → t * w + w ≤ length now → TransposedEach size rows columns t before now → Lent t w m now tile
   lent_more t w m now tile e f room k =
@@ -88,4 +89,4 @@ module _ (size rows columns : ℕ) (before : List ℕ) where
       whole room transposed long =
           let at = t * (size * n) in
           let wide : length tile ≡ size * n = long ∙ part_length now at (size * n) room in
-          rw (put_part now tile at (size * n) wide) (tiles_more t now tile room wide transposed k)
+          rw (put_part now tile at (size * n) wide) (put_length now at tile (omega (arith, room, wide)), tiles_more t now tile room wide transposed k)

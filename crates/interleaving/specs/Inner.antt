@@ -64,7 +64,7 @@ pub record Spread (size channels whole left : ℕ) (apart together : List ℕ) :
   pub wholes : (c i : ℕ) → c < channels → i < whole → piece size (c * (whole + left) + i) together ≡ piece size (c * whole + i) apart
   pub lefts : (c j : ℕ) → c < channels → j < left → piece size (c * (whole + left) + (whole + j)) together ≡ piece size (channels * whole + (j * channels + c)) apart
 
--- ---- a call that is not refused
+-- ---- a shape
 -- its frames
 abbrev pub frames_of : Shape → ℕ
 frames_of shape = 64 * shape.tiles + shape.left
@@ -72,6 +72,14 @@ frames_of shape = 64 * shape.tiles + shape.left
 -- its bytes
 abbrev pub Fills : Shape → List ℕ → Type 0
 Fills shape bytes = length bytes ≡ sample_bytes shape.format * (shape.channels * frames_of shape)
+
+-- ---- a call that is not refused
+-- so many frames, in so many bytes
+pub record Taken (format : Format) (channels frames bytes : ℕ) : Type 0 where
+  pub some : 1 ≤ channels
+  pub few : channels ≤ 8
+  pub short : channels * frames ≤ 524288
+  pub long : bytes ≡ sample_bytes format * (channels * frames)
 
 -- what so many samples of so many channels are
 pub record Shaped (format : Format) (channels samples : ℕ) (shape : Shape) : Type 0 where

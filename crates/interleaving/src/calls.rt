@@ -1,8 +1,8 @@
 // The call: interleaved audio into planar, within a lent slice, and back.
-ghost use Rattle.std.specs.Prelude.{◌≡◌, List, ℕ, IfOk};
+ghost use Rattle.std.specs.Prelude.{◌≡◌, List, ℕ, length, IfOk};
 ghost use Rattle.arithmetic.specs.Reply.{numbered};
 ghost use Rattle.audio.specs.Format.{sample_bytes, size_of};
-ghost use Rattle.interleaving.specs.Inner.{Fills, frames_of, Shaped, Transposed, rows_in, columns_in};
+ghost use Rattle.interleaving.specs.Inner.{frames_of, Taken, Shaped, Transposed, rows_in, columns_in};
 ghost use Rattle.interleaving.specs.Calls.{refused_by, rearranged_reply, refusal, outcome, rearrange_of};
 
 use crate::close::close_up;
@@ -38,9 +38,10 @@ impl From<RearrangeRefusal> for u32 {
     }
 }
 
-// Frame after frame: channel after channel.
+// Frame after frame: channel after channel. That there is a channel, and no more audio than a call takes, stands in a clause: a
+// `Shape` says what the public steps ask, and no more.
 fn deinterleave_through(shape: Shape, bytes: &mut [u8])
-    requires { Fills shape bytes.old }
+    requires { Taken shape.format shape.channels (frames_of shape) (length bytes.old) }
     ensures { Transposed (sample_bytes shape.format) (frames_of shape) shape.channels bytes.old bytes.new }
 {
     let channels = shape.channels;
@@ -61,7 +62,7 @@ fn deinterleave_through(shape: Shape, bytes: &mut [u8])
 // Channel after channel: frame after frame, by the same steps backwards.
 // One function for both directions would ask at each step which one it is.
 fn interleave_through(shape: Shape, bytes: &mut [u8])
-    requires { Fills shape bytes.old }
+    requires { Taken shape.format shape.channels (frames_of shape) (length bytes.old) }
     ensures { Transposed (sample_bytes shape.format) shape.channels (frames_of shape) bytes.old bytes.new }
 {
     let channels = shape.channels;
@@ -81,7 +82,7 @@ fn interleave_through(shape: Shape, bytes: &mut [u8])
 
 // Either direction: a value, which the definitions go by (`rearrange_of`), and so no closure.
 fn through(direction: Direction, shape: Shape, bytes: &mut [u8])
-    requires { Fills shape bytes.old }
+    requires { Taken shape.format shape.channels (frames_of shape) (length bytes.old) }
     ensures { Transposed (sample_bytes shape.format) (rows_in direction shape.channels (frames_of shape)) (columns_in direction shape.channels (frames_of shape)) bytes.old bytes.new }
 {
     match direction {

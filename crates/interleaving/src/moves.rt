@@ -1,5 +1,5 @@
-// Samples from place to place.
-ghost use Rattle.std.specs.Prelude.{◌≡◌, ℕ, ◌+◌, ◌*◌, ◌≤◌, ◌<◌, length, take, drop};
+// Bytes, and samples, from place to place.
+ghost use Rattle.std.specs.Prelude.{◌≡◌, ℕ, ◌+◌, ◌*◌, ◌≤◌, ◌<◌, length, get_or, take, drop};
 ghost use Rattle.audio.specs.Format.{sample_bytes};
 ghost use Rattle.audio.specs.Inner.{put};
 ghost use Rattle.interleaving.specs.Inner.{piece, Spaced, Transposed};
@@ -16,7 +16,9 @@ pub struct Room {
 }
 
 impl Room {
-    pub fn new() -> Room {
+    pub fn new() -> Room
+        ensures { (k : ℕ) → get_or result.bytes k 0 ≡ 0 }
+    {
         Room { bytes: [0; 4096] }
     }
 
@@ -26,6 +28,15 @@ impl Room {
     {
         put_bytes(&mut self.bytes, at, new);
     }
+}
+
+// n bytes from one place on to another place on, between two slices. For callers: the steps here put parts that they hold (`put_bytes`).
+pub fn copy_bytes(n: usize, from: usize, source: &[u8], to: usize, target: &mut [u8])
+    requires from_inside { from + n ≤ length source.now }
+    requires to_inside { to + n ≤ length target.old }
+    ensures { target.new ≡ put target.old to (take n (drop from source.now)) }
+{
+    target[to..to + n].copy_from_slice(&source[from..from + n]);
 }
 
 // n bytes to another place within one slice, where the two may overlap; not a copy onto themselves, which takes long.

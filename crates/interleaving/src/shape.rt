@@ -1,5 +1,5 @@
-// What a call that nothing refuses rearranges.
-ghost use Rattle.std.specs.Prelude.{◌+◌, ◌*◌, ◌≤◌, ◌<◌};
+// Audio as its tiles and the frames left.
+ghost use Rattle.std.specs.Prelude.{◌≤◌, ◌<◌};
 
 use audio::format::Format;
 
@@ -11,8 +11,7 @@ pub struct Shape {
     pub channels: usize,
     pub tiles: usize,
     pub left: usize,
-    ghost some: { 1 ≤ channels },
     ghost few: { channels ≤ 8 },
     ghost short: { left < 64 },
-    ghost bounded: { channels * (64 * tiles + left) ≤ 524288 },
+    ghost bounded: { tiles ≤ 8192 },
 }

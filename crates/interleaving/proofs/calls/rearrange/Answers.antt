@@ -4,7 +4,7 @@ use Rattle.std.specs.Prelude.{Result, Err}
 use Rattle.std.proofs.lemmas.Result.{err_from_is_err_and}
 use Rattle.interleaving.specs.Calls.{outcome}
 use Rattle.interleaving.specs.declared.calls.RearrangeRefusal.{RearrangeRefusal}
-use Rattle.interleaving.proofs.Answers.{answer_refused, answer_single, answer_fills, answer_moved}
+use Rattle.interleaving.proofs.Answers.{answer_refused, answer_single, answer_taken, answer_moved}
 use Rattle.interleaving.proofs.calls.rearrange.Goals as goal
 
 pub returns-in_err-shape : goal.returns-in_err-shape
@@ -21,7 +21,7 @@ pub through-requires : goal.through-requires
 through-requires c =
     let a = c.args in
     let told = c.in_ok-shape.ensures in
-    answer_fills a.direction a.format a.channels a.bytes.now (told.refused a.bytes.now c.size_of.ensures) c.in_ok-shape.shape (rw c.size_of.ensures at told.shape)
+    answer_taken a.direction a.format a.channels a.bytes.now (told.refused a.bytes.now c.size_of.ensures) c.in_ok-shape.shape (rw c.size_of.ensures at told.shape)
 
 pub returns : goal.returns
 returns c =

@@ -23,4 +23,4 @@ returns c =
     let t = c.transpose_into in
     let e : l.c ≡ shape.channels = omega arith in
     let start = (sums_in shape c.args.bytes.now c.requires _ c.sample_bytes.ensures).sum ∙ sym l.auto.bytes in
-    closed_part (sample_bytes shape.format) shape.channels (64 * shape.tiles) shape.left c.args.bytes.now _ _ _ _ c.sample_bytes.ensures (rw e at l.invariant) start t.auto.target t.ensures
+    (closed_part (sample_bytes shape.format) shape.channels (64 * shape.tiles) shape.left c.args.bytes.now _ _ _ _ c.sample_bytes.ensures (rw e at l.invariant) start t.auto.target t.ensures).1

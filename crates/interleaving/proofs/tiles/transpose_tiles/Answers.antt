@@ -26,4 +26,4 @@ loop-t-preserved c =
     let w : at + z * n - at ≡ z * n = omega arith in
     let e = ap (λ (x : ℕ). x * n) c.sample_bytes.ensures in
     let room = inside z (sample_bytes a.format) n l.t a.tiles (length l.bytes) c.sample_bytes.ensures c.loop-t-test.true (rw l.auto.bytes c.requires.tiles_inside) in
-    lent_more (sample_bytes a.format) a.table.rows a.table.columns a.bytes.now l.t (z * n) (at + z * n - at) l.bytes c.transpose_tile.new.tile e w room l.invariant c.transpose_tile.ensures c.transpose_tile.auto.tile
+    (lent_more (sample_bytes a.format) a.table.rows a.table.columns a.bytes.now l.t (z * n) (at + z * n - at) l.bytes c.transpose_tile.new.tile e w room l.invariant c.transpose_tile.ensures c.transpose_tile.auto.tile).1
