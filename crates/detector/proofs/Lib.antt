@@ -5,6 +5,7 @@ pub mod Turns
 pub mod Sums
 pub mod Pattern
 pub mod Push
+pub mod LastPlace
 pub mod Line
 pub mod Fours
 pub mod Level
