@@ -170,11 +170,11 @@ impl<'a> State<'a> {
 pub fn read_state(bytes: &[u8]) -> KernelProcessor
     ensures { result ≡ processor_in bytes.now }
 {
-    match State::of(bytes) {
-        Some(state) => KernelProcessor {
-            limiter: state.limiter(),
-            bank: bank_with(state.threshold()),
-        },
-        None => KernelProcessor::not_set_up(),
+    let Some(state) = State::of(bytes) else {
+        return KernelProcessor::not_set_up();
+    };
+    KernelProcessor {
+        limiter: state.limiter(),
+        bank: bank_with(state.threshold()),
     }
 }
