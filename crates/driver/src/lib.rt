@@ -1,7 +1,7 @@
 // Module 7 of document 01: the driver (driver.rs), the limiter whole.
 #![tactic(auto)]
 
-// The state, by value.
+// The state.
 pub mod state;
 // What each call answers.
 pub mod answers;

@@ -1,4 +1,4 @@
-// The limiter with its bank, by value (driver.rs: KernelProcessor).
+// The limiter with its bank (driver.rs: KernelProcessor).
 use bank::smoother::Smoother;
 use bank::smoother_bank::SmootherBank;
 use limiter::state::Limiter;
