@@ -92,18 +92,29 @@ no_fraction : (m : ℕ) (e : ℤ) → m < 2 ^ 53 → 2 ^ 52 * down e ≤ m * up 
 no_fraction m (pos k) f h = refl
 no_fraction m (negsuc k) f h = absurd (omega (arith, pow-suc 2 k, pow_pos k))
 
+-- what is not above zero is cut to 0
+cut_none : (x : Float) → lt Number.zero x ≡ false → to_unsigned 64 x ≡ 0
+unfolding lt to_unsigned
+cut_none nan h = refl
+cut_none (inf true) h = refl
+cut_none (inf false) h = clash true refl h
+cut_none (fin true m e) h = refl
+cut_none (fin false m e) h =
+    let z : m * up e ≡ 0 = omega (arith, ltb-false 0 (m * up e) (sym (zero-lt m e) ∙ h)) in
+    rw (z, zero-div (down e)) refl
+
 module _ (rule : ℕ → ℕ → ℕ) (r : Rule rule) where
-  whole_none : (x : Float) → lt Number.zero x ≡ false → to_unsigned 64 x ≡ whole_by rule x
-  unfolding lt to_unsigned
+  pub whole_none : (x : Float) → lt Number.zero x ≡ false → 0 ≡ whole_by rule x
+  unfolding lt
   whole_none nan h = refl
   whole_none (inf true) h = refl
   whole_none (inf false) h = clash true refl h
   whole_none (fin true m e) h = refl
   whole_none (fin false m e) h =
       let z : m * up e ≡ 0 = omega (arith, ltb-false 0 (m * up e) (sym (zero-lt m e) ∙ h)) in
-      rw (z, r.nothing (down e) (down_pos e), zero-div (down e)) refl
+      rw (z, r.nothing (down e) (down_pos e)) refl
 
-  whole_large : (x : Float) (t : ℕ) → fits binary64 x ≡ true → lt Number.zero x ≡ true → lt x all_whole ≡ false → t ≡ to_unsigned 64 x → t ≡ whole_by rule x
+  pub whole_large : (x : Float) (t : ℕ) → fits binary64 x ≡ true → lt Number.zero x ≡ true → lt x all_whole ≡ false → t ≡ to_unsigned 64 x → t ≡ whole_by rule x
   unfolding to_unsigned
   whole_large x t f p = over_zero (λ x. fits binary64 x ≡ true → lt x all_whole ≡ false → t ≡ to_unsigned 64 x → t ≡ whole_by rule x) (λ g h e. e) large x p f
     where
@@ -118,7 +129,7 @@ module _ (rule : ℕ → ℕ → ℕ) (r : Rule rule) where
     where
       go : (b : Bool) → lt Number.zero x ≡ b → to_unsigned 64 x ≡ whole_by rule x
       go true p = whole_large x _ f p (rw p at h) refl
-      go false p = whole_none x p
+      go false p = cut_none x p ∙ whole_none x p
 
 -- ---- from 0 to 2^52, with the whole part t of n / d
 cut_small : (m : ℕ) (e : ℤ) (t : ℕ) → lt (fin false m e) all_whole ≡ true → t ≡ to_unsigned 64 (fin false m e) → (t ≡ m * up e / down e) × (t < 2 ^ 52)

@@ -6,7 +6,7 @@ use Prim.Native.Nat.{ℕ}
 use lib.Dec.{eqb, leb}
 use lib.Ieee.{Float}
 use lib.Ieee.Scale.{finite}
-use Rattle.std.proofs.Common.{Result, Ok, Err}
+use borrow.Author.Tests.{eqb-true}
 use Rattle.arithmetic.specs.Reply.{Reply, finished, refused, numbered, count, float, and_then, must}
 use Rattle.arithmetic.proofs.Passed.{passed_unless}
 use Rattle.limiter.specs.Stores.{Stores}
@@ -18,10 +18,7 @@ use Rattle.bank.specs.Bank.{one_changed, all_changed, call_reply, call_of, set_i
 use Rattle.bank.specs.declared.smoother_bank.SmootherBank.{SmootherBank}
 use Rattle.turns.specs.Machine.{Machine, machine_of, prepared, reset_refusal}
 use Rattle.driver.specs.Calls.{left, settled, parameter_reply, parameter_of, reset_of}
-use Rattle.driver.specs.Answers.{refused_by, answer_reply}
-use Rattle.driver.specs.declared.answers.Refusal.{Refusal}
 use Rattle.driver.proofs.Judged.{prepared_is}
-use Rattle.driver.proofs.Refusing.{refused_some}
 
 -- ---- parameter call
 -- a bank that changes by a reply is a machine that does
@@ -55,22 +52,21 @@ module _ (m : Machine) (id : ℕ) (v : Float) where
         ∙ bank_settled (parameter_reply m id v) m.limiter (one_changed (immediate_set v) id m.bank) m.bank m.stores
 
 -- ---- reset
-module _ (m : Machine) (r : Result (Unit {0}) Refusal) (R : answer_reply r ≡ numbered (reset_refusal m)) where
-  number_is : reset_refusal m ≡ (answer_reply r).number
-  number_is = ap (λ (x : Reply). x.number) (sym R)
+module _ (m : Machine) (r : Reply) (R : r ≡ numbered (reset_refusal m)) (b : Bool) (B : b ≡ eqb r.number 0) where
+  number_is : r.number ≡ reset_refusal m
+  number_is = ap (λ (x : Reply). x.number) R
 
-  pub reset_refused : (why : Refusal) → r ≡ Err why → left (refused_by why) m ≡ reset_of m
+  pub reset_refused : b ≡ false → left r m ≡ reset_of m
   unfolding reset_of
-  reset_refused why E = ap (λ (x : Reply). left x m) (ap answer_reply (sym E) ∙ R) ∙ rw (number_is, E, refused_some why) refl
+  reset_refused f = ap (λ (x : Reply). left x m) R ∙ rw (ap (λ (n : ℕ). eqb n 0) (sym number_is) ∙ sym B ∙ f) refl
 
-  module _ (u : Unit {0}) (F : r ≡ Ok u) where
-    none : reset_refusal m ≡ 0
-    none = number_is ∙ ap (λ (a : Result (Unit {0}) Refusal). (answer_reply a).number) F
+  none : b ≡ true → reset_refusal m ≡ 0
+  none f = sym number_is ∙ eqb-true r.number 0 (sym B ∙ f)
 
-    pub reset_prepared_lem : prepared m.limiter m.bank ≡ true
-    unfolding reset_refusal
-    reset_prepared_lem = (passed_unless (prepared m.limiter m.bank) 17 _ none).0
+  pub reset_prepared_lem : b ≡ true → prepared m.limiter m.bank ≡ true
+  unfolding reset_refusal
+  reset_prepared_lem f = (passed_unless (prepared m.limiter m.bank) 17 _ (none f)).0
 
-    pub reset_done_lem : (o : Reset.Reset) → o ≡ Reset.reset_of m.limiter m.stores → (bank : SmootherBank) → bank ≡ all_changed reset_one m.bank → left (finished []) (machine_of o.limiter bank o.stores) ≡ reset_of m
-    unfolding reset_of
-    reset_done_lem o k bank j = rw (k, j, none) refl
+  pub reset_done_lem : b ≡ true → (o : Reset.Reset) → o ≡ Reset.reset_of m.limiter m.stores → (bank : SmootherBank) → bank ≡ all_changed reset_one m.bank → left (finished []) (machine_of o.limiter bank o.stores) ≡ reset_of m
+  unfolding reset_of
+  reset_done_lem f o k bank j = rw (k, j, none f) refl

@@ -4,4 +4,5 @@ pub mod Called
 pub mod Started
 pub mod Stepped
 pub mod Refusing
+pub mod Answered
 pub mod Wrong

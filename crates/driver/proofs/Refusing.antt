@@ -6,7 +6,6 @@ use Prim.Native.Nat.{ℕ, ◌+◌, ◌-◌, ◌*◌, ◌≤◌}
 use native.Mathlib.Nat.{mul-le-mul_right}
 use native.Mathlib.Omega.{arith}
 use lib.Dec.{eqb, leb}
-use Rattle.std.specs.Result.{IsErrAnd}
 use Rattle.std.proofs.Common.{Result, Ok, Err}
 use borrow.Author.Tests.{eqb-true, eq-eqb, leb-true, leb-false, le-leb, lt-leb}
 use Rattle.arithmetic.specs.Reply.{Reply, numbered, unless, and_then, must}
@@ -29,32 +28,17 @@ use Rattle.driver.specs.Answers.{refused_by, answer_reply, flush_reply, seen}
 use Rattle.driver.specs.declared.answers.Refusal.{Refusal}
 use Rattle.driver.proofs.Judged.{prepared_is}
 
--- ---- what is judged, in turn
--- what a `?` hands on is the refusal that it met
-pub handed_on : {T E : Type 0} (r : Result T E) (e : E) → IsErrAnd r (λ y. y ≡ e) → r ≡ Err e
-handed_on (Ok x) e h = absurd h
-handed_on (Err y) e h = ap Err h
-
--- no refusal is finished work
-pub refused_some : (why : Refusal) → eqb (refused_by why).number 0 ≡ false
-refused_some Refusal.NotSetUp = refl
-refused_some Refusal.StoreLength = refl
-refused_some Refusal.OutOfOrder = refl
-refused_some Refusal.Geometry = refl
-refused_some (Refusal.Event i) = refl
-refused_some Refusal.TooFar = refl
-
+-- ---- replies in turn
 -- a first reply that is refused stands, and one that is finished gives way
-module _ (r : Result (Unit {0}) Refusal) (first next : Reply) (R : answer_reply r ≡ first) where
-  pub first_refused : (why : Refusal) → r ≡ Err why → refused_by why ≡ and_then first next
-  first_refused why E = ap answer_reply (sym E) ∙ R ∙ rw (← R, E, refused_some why) refl
+module _ (r first next : Reply) (R : r ≡ first) (b : Bool) (B : b ≡ eqb r.number 0) where
+  pub first_refused : b ≡ false → r ≡ and_then first next
+  first_refused f = R ∙ rw (ap (λ (x : Reply). eqb x.number 0) (sym R) ∙ sym B ∙ f) refl
 
-  module _ (u : Unit {0}) (F : r ≡ Ok u) where
-    pub first_passed : (s : Reply) → s ≡ next → s ≡ and_then first next
-    first_passed s S = S ∙ rw (← R, F) refl
+  pub first_passed : b ≡ true → (s : Reply) → s ≡ next → s ≡ and_then first next
+  first_passed f s S = S ∙ rw (ap (λ (x : Reply). eqb x.number 0) (sym R) ∙ sym B ∙ f) refl
 
-    pub first_finished : first.number ≡ 0
-    first_finished = rw (← R, F) refl
+  pub first_finished : b ≡ true → first.number ≡ 0
+  first_finished f = sym (ap (λ (x : Reply). x.number) R) ∙ eqb-true r.number 0 (sym B ∙ f)
 
 -- ---- 18, 16 and 19
 module _ (m : Machine) where
@@ -96,31 +80,37 @@ less_room x n most h = go (leb (x + n) most) refl
     go true e = le-leb x (most - n) (omega (arith, leb-true (x + n) most e))
     go false e = lt-leb x (most - n) (omega (arith, leb-false (x + n) most e))
 
--- ---- 22 of a block, where 20 and 21 do not arise
+-- ---- 21 and 22 of a block, where 20 does not arise
 module _ (m : Machine) (position frames : ℕ) (events : List Event) (size : ℕ) (h : frames ≤ m.limiter.max_block) (e : size ≡ m.limiter.channels * frames) where
-  module _ (r : Result (Unit {0}) Refusal) (R : answer_reply r ≡ events_reply frames 0 0 events) (u : Unit {0}) (F : r ≡ Ok u) where
-    pub far_judged : Order.prepared m.limiter ≡ true → (t : Bool) → leb position (farthest - frames) && leb m.limiter.env.keeper.frame (most_frames - frames) ≡ t
+  module _ (r : Reply) (R : r ≡ events_reply frames 0 0 events) (b : Bool) (B : b ≡ eqb r.number 0) where
+    pub event_refused : b ≡ false → r ≡ call_reply m position frames events size
+    event_refused f = rw (le-leb frames m.limiter.max_block h, eq-eqb size (m.limiter.channels * frames) e, ← R, sym B ∙ f) refl
+
+    pub far_judged : Order.prepared m.limiter ≡ true → b ≡ true → (t : Bool) → leb position (farthest - frames) && leb m.limiter.env.keeper.frame (most_frames - frames) ≡ t
         → must t 22 ≡ call_reply m position frames events size
-    far_judged p t T =
+    far_judged p f t T =
         let few = block_most m.limiter p in
         let x = less_room position frames farthest (omega (arith, few, h)) in
         let y = less_room m.limiter.env.keeper.frame frames most_frames (omega (arith, few, h)) in
-        rw (le-leb frames m.limiter.max_block h, eq-eqb size (m.limiter.channels * frames) e, ← R, F, ← T, x, y) refl
+        rw (le-leb frames m.limiter.max_block h, eq-eqb size (m.limiter.channels * frames) e, ← R, sym B ∙ f, ← T, x, y) refl
 
 -- ---- what a block leaves
-module _ (format : Format) (m : Machine) (position frames : ℕ) (events : List Event) (bytes : List ℕ) (size : ℕ) (S : size ≡ size_of format bytes) (r : Result (Unit {0}) Refusal) (R : answer_reply r ≡ block_reply m position frames events size) where
-  reply_is : block_reply m position frames events (size_of format bytes) ≡ answer_reply r
+module _ (format : Format) (m : Machine) (position frames : ℕ) (events : List Event) (bytes : List ℕ) (size : ℕ) (S : size ≡ size_of format bytes) (r : Reply) (R : r ≡ block_reply m position frames events size) (b : Bool) (B : b ≡ eqb r.number 0) where
+  pub passed : b ≡ true → eqb r.number 0 ≡ true
+  passed f = sym B ∙ f
+
+  reply_is : block_reply m position frames events (size_of format bytes) ≡ r
   reply_is = ap (block_reply m position frames events) (sym S) ∙ sym R
 
-  pub block_left : (why : Refusal) → r ≡ Err why → record { reply = refused_by why; machine = m; bytes = bytes } ≡ seen (block_of format m position frames events bytes)
+  pub block_left : b ≡ false → record { reply = r; machine = m; bytes = bytes } ≡ seen (block_of format m position frames events bytes)
   unfolding block_by
-  block_left why E = rw (reply_is, E, refused_some why) refl
+  block_left f = rw (reply_is, sym B ∙ f) refl
 
   -- where nothing is refused
-  pub block_asks : (u : Unit {0}) → r ≡ Ok u → BlockAsked m format position frames bytes
+  pub block_asks : b ≡ true → BlockAsked m format position frames bytes
   unfolding block_reply
-  block_asks u F =
-      let z = ap (λ (x : Reply). x.number) (sym R ∙ ap answer_reply F) in
+  block_asks f =
+      let z = ap (λ (x : Reply). x.number) (sym R) ∙ eqb-true r.number 0 (passed f) in
       let l = m.limiter in
       let geometry = must (sized m l.max_block frames size) 20 in
       let far = must (reaches position frames && has_room m frames) 22 in
@@ -136,10 +126,19 @@ module _ (format : Format) (m : Machine) (position frames : ℕ) (events : List 
         far = leb-true (position + frames) farthest o.0;
       }
 
-  pub block_finished : (told : Reply) (m' : Machine) (bytes' : List ℕ) (u : Unit {0}) → r ≡ Ok u → (let o = block_done (rendered_in format m) format m position frames events bytes in told ≡ o.reply → m' ≡ o.machine → bytes' ≡ o.bytes
+  pub block_finished : (told : Reply) (m' : Machine) (bytes' : List ℕ) → b ≡ true → (let o = block_done (rendered_in format m) format m position frames events bytes in told ≡ o.reply → m' ≡ o.machine → bytes' ≡ o.bytes
       → record { reply = told; machine = m'; bytes = bytes' } ≡ seen (block_of format m position frames events bytes))
   unfolding block_by
-  block_finished told m' bytes' u F T M A = rw (reply_is, F, T, M, A) refl
+  block_finished told m' bytes' f T M A = rw (reply_is, passed f, T, M, A) refl
+
+-- ---- no refusal is finished work
+pub refused_some : (why : Refusal) → eqb (refused_by why).number 0 ≡ false
+refused_some Refusal.NotSetUp = refl
+refused_some Refusal.StoreLength = refl
+refused_some Refusal.OutOfOrder = refl
+refused_some Refusal.Geometry = refl
+refused_some (Refusal.Event i) = refl
+refused_some Refusal.TooFar = refl
 
 -- ---- what a drain leaves
 module _ (format : Format) (m : Machine) (frames : ℕ) (bytes : List ℕ) (size : ℕ) (S : size ≡ size_of format bytes) (r : Result (Unit {0}) Refusal) (N : answer_reply r ≡ drain_reply m frames size) where

@@ -1,9 +1,10 @@
 -- The gain over a run of means: the gains passed, and what the rest comes to, stay the whole.
-use mathlib.Core.Path.{◌≡◌, refl, sym, ◌∙◌}
+use mathlib.Core.Path.{◌≡◌, refl, sym, ap, ◌∙◌}
 use mathlib.Core.Bool.{true, ◌&&◌}
 use mathlib.Core.List.{List, ◌∷◌, ◌++◌}
 use Prim.Native.Nat.{ℕ, ◌+◌, ◌≤◌, ◌<◌}
 use lib.ListN.{length, get_or, set, take, drop}
+use lib.Seq.{set-get_or}
 use lib.Ieee.{Float, nan, le}
 use Rattle.arithmetic.specs.Number
 use Rattle.arithmetic.specs.Number.{one, within}
@@ -43,3 +44,7 @@ module _ (coeff gain : Float) (i : ℕ) (l : List Float) where
   pub follows_done : length l ≤ i → follows_at l gain ≡ follows_from coeff gain i l
   unfolding followed_all
   follows_done h = rw (none_left l i h, all_stored l i h) refl
+
+-- the mean that is the gain stays where it is
+pub stays : (l next : List Float) (i : ℕ) (g : Float) → next ≡ l → g ≡ get_or l i nan → next ≡ set l i g
+stays l next i g n e = n ∙ sym (set-get_or l i nan) ∙ ap (set l i) (sym e)

@@ -17,7 +17,7 @@ use Rattle.floors_text.specs.Print.{refusal_line, Put}
 use Rattle.floors_text.specs.Lines.{lines_of, gain_of}
 use Rattle.floors_text.specs.Text.{opened, frame_text, gain_text, gains_left}
 use Rattle.std.specs.Prelude.{Some, None}
-use Rattle.floors_text.proofs.Puts.{put_none, put_then}
+use Rattle.floors_text.proofs.Puts.{put_none, put_then, put_length}
 use Rattle.floors_text.proofs.Cuts.{first_length}
 use Rattle.floors_text.proofs.Turns.{line_within, line_sized, text_done, text_stops, text-more, left_done, left_stops, left_more}
 use Rattle.floors_text.proofs.Length.{Steady, opened_steady, steady_ready, steady_step, stepped_look, stepped_frame, gain_sized, gains_fit}
@@ -71,6 +71,13 @@ going_start whole look before small most k e =
     }
 
 module _ {whole : List ℕ} {look : ℕ} {before : List ℕ} {k : Keeping} {lines : List ℕ} {number : ℕ} {output : List ℕ} {next : ℕ} (g : Going whole look before k lines number output next) where
+  -- what has been put keeps the length of what it was put into
+  pub same_length : length output ≡ length before
+  same_length =
+      let text = gain_text k number (lines_of lines) in
+      let p : Put output next text (sets output next text) (next + length text) = record { bytes = refl; place = refl } in
+      sym (put_length p) ∙ put_length (g.rest (sets output next text) (next + length text) p)
+
   -- there is room for what is left
   going_room : next + length (gain_text k number (lines_of lines)) ≤ 160000
   going_room =

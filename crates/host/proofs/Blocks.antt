@@ -6,7 +6,7 @@ use Prim.Native.Nat.{ℕ}
 use native.Mathlib.Omega.{arith}
 use lib.Dec.{eqb}
 use lib.ListN.{length}
-use Rattle.std.proofs.Common.{Option, Result, Ok, Err}
+use Rattle.std.proofs.Common.{Option}
 use borrow.Author.Tests.{eqb-true}
 use Rattle.arithmetic.specs.Reply.{Reply, numbered}
 use Rattle.audio.specs.Format.{size_of}
@@ -27,13 +27,12 @@ use Rattle.turns.specs.Events.{events_of}
 use Rattle.turns.specs.Block.{call_reply, block_reply, placed, place_reply, Outcome, block_of}
 use Rattle.turns.specs.Inner.{BlockAsked, driven}
 use Rattle.turns.proofs.Told.{place_finished}
-use Rattle.driver.specs.Answers.{refused_by, answer_reply, machine_at, seen}
-use Rattle.driver.specs.declared.answers.Refusal.{Refusal}
+use Rattle.driver.specs.Answers.{machine_at, seen}
 use Rattle.driver.specs.Parts.{shown_of, bank_with}
 use Rattle.driver.specs.declared.state.KernelProcessor.{KernelProcessor}
 use Rattle.driver.specs.declared.state.Threshold.{Threshold}
 use Rattle.driver.proofs.Judged.{not_set_up_lem}
-use Rattle.driver.proofs.Refusing.{refused_some, first_refused, block_left, block_asks, block_finished}
+use Rattle.driver.proofs.Refusing.{first_refused, block_left, block_asks, block_finished}
 use Rattle.state_bytes.specs.State.{state_words, is_state, limiter_in, bank_in, processor_of, never, processor_in, state_out}
 use Rattle.state_bytes.specs.Shown.{Showing, showing, rendered_at}
 use Rattle.state_bytes.specs.declared.block.RenderedBlock.{RenderedBlock}
@@ -77,41 +76,41 @@ module _ (format : Format) (answer state : List ℕ) (position frames : ℕ) (wo
         rendered answer state q e (place_reply p) (processor_of m) m.stores (reply_words (place_reply p)) r after next refl (R ∙ sym z) A (N ∙ sym (rw z refl)) call stores bytes bytes' o
 
   -- ---- a buffer that is no state
-  never_told : (size : ℕ) → answer_reply (Err Refusal.NotSetUp) ≡ block_reply (machine_at never stores) position frames (events_of words) size
+  never_told : (size : ℕ) → numbered 18 ≡ block_reply (machine_at never stores) position frames (events_of words) size
   unfolding block_reply
   never_told size =
       let m = machine_at never stores in
-      first_refused (Err Refusal.NotSetUp) (numbered (ready_refusal m)) (call_reply m position frames (events_of words) size) (not_set_up_lem m never_prepared) Refusal.NotSetUp refl
+      first_refused (numbered 18) (numbered (ready_refusal m)) (call_reply m position frames (events_of words) size) (not_set_up_lem m never_prepared) false refl refl
 
   pub no_state : is_state state ≡ false → (r : ℕ) → r ≡ 18 → (after : List ℕ) → after ≡ answered_by answer (numbered 18) → returned_with (returned_at r after state stores) bytes ≡ audio_by call answer state stores bytes
   no_state h r R after A =
       told never (sym (read_other state h)) r after (numbered 18)
-      (block_left format (machine_at never stores) position frames (events_of words) bytes (size_of format bytes) refl (Err Refusal.NotSetUp) (never_told (size_of format bytes)) Refusal.NotSetUp refl) refl R A
+      (block_left format (machine_at never stores) position frames (events_of words) bytes (size_of format bytes) refl (numbered 18) (never_told (size_of format bytes)) false refl refl) refl R A
 
   -- ---- a state: its limiter, and what its bank shows, judged
-  module _ (buffer : List ℕ) (same : buffer ≡ state) (h : is_state state ≡ true) (l : Limiter) (L : l ≡ limiter_in (words_in 8 state_words buffer)) (t : Threshold) (T : t ≡ shown_of (bank_in (words_in 8 state_words buffer))) (size : ℕ) (S : size ≡ size_of format bytes) (judged : Result (Unit {0}) Refusal)
-      (J : (b : SmootherBank) → shown_of b ≡ t → answer_reply judged ≡ block_reply (machine_of l b stores) position frames (events_of words) size) where
+  module _ (h : is_state state ≡ true) (l : Limiter) (L : l ≡ limiter_in (words_in 8 state_words state)) (t : Threshold) (T : t ≡ shown_of (bank_in (words_in 8 state_words state))) (size : ℕ) (S : size ≡ size_of format bytes) (reply : Reply)
+      (J : (b : SmootherBank) → shown_of b ≡ t → reply ≡ block_reply (machine_of l b stores) position frames (events_of words) size) (f : Bool) (F : f ≡ eqb reply.number 0) where
     abbrev q : KernelProcessor
     q = record { limiter = l; bank = bank_with t }
 
     held : q ≡ processor_in state
-    held = read_parts buffer (ap is_state same ∙ h) l L t T (bank_with t) refl ∙ ap processor_in same
+    held = read_parts state h l L t T (bank_with t) refl
 
-    pub refused_block : (why : Refusal) → judged ≡ Err why → (r : ℕ) → r ≡ (refused_by why).number → (after : List ℕ) → after ≡ answered_by answer (refused_by why) → returned_with (returned_at r after state stores) bytes ≡ audio_by call answer state stores bytes
-    refused_block why E r R after A =
-        told q held r after (refused_by why) (block_left format (machine_at q stores) position frames (events_of words) bytes size S judged (J (bank_with t) refl) why E) (refused_some why) R A
+    pub refused_block : f ≡ false → (r : ℕ) → r ≡ reply.number → (after : List ℕ) → after ≡ answered_by answer reply → returned_with (returned_at r after state stores) bytes ≡ audio_by call answer state stores bytes
+    refused_block z r R after A =
+        told q held r after reply (block_left format (machine_at q stores) position frames (events_of words) bytes size S reply (J (bank_with t) refl) f F z) (sym F ∙ z) R A
 
-    pub block_may : (u : Unit {0}) → judged ≡ Ok u → BlockAsked (machine_of l (bank_with t) stores) format position frames bytes
-    block_may u F = block_asks format (machine_at q stores) position frames (events_of words) bytes size S judged (J (bank_with t) refl) u F
+    pub block_may : f ≡ true → BlockAsked (machine_of l (bank_with t) stores) format position frames bytes
+    block_may z = block_asks format (machine_at q stores) position frames (events_of words) bytes size S reply (J (bank_with t) refl) f F z
 
-    pub rendered_block : (u : Unit {0}) → judged ≡ Ok u → (done : RenderedBlock) (later : Stores) (bytes' : List ℕ)
+    pub rendered_block : f ≡ true → (done : RenderedBlock) (later : Stores) (bytes' : List ℕ)
         → (let o = driven format (machine_of l (bank_with t) stores) position frames words bytes in rendered_at done later ≡ showing o.machine → bytes' ≡ o.bytes → place_found_at done.frame done.seat ≡ place_told (not (eqb (length answer) 0)) (peaks_of_frames o.frames)
         → (r : ℕ) → r ≡ 0 → (after : List ℕ) → after ≡ answered_by answer (placed done.frame done.seat) → (next : List ℕ) → ((b : SmootherBank) → shown_of b ≡ done.threshold → next ≡ state_out (record { limiter = done.limiter; bank = b }))
         → returned_with (returned_at r after next later) bytes' ≡ audio_by call answer state stores bytes)
-    rendered_block u F done later bytes' D B P r R after A next N =
+    rendered_block z done later bytes' D B P r R after A next N =
         let o = driven format (machine_of l (bank_with t) stores) position frames words bytes in
         let m = o.machine in
         let p = place_of (peaks_of_frames o.frames) in
         ap (λ (s : Showing). returned_with (returned_at r after next s.stores) bytes') D
-        ∙ kept q held r after p m bytes' (block_finished format (machine_at q stores) position frames (events_of words) bytes size S judged (J (bank_with t) refl) (place_reply p) m bytes' u F refl refl B) R (A ∙ place_told_lem answer done.frame done.seat (peaks_of_frames o.frames) P) next
+        ∙ kept q held r after p m bytes' (block_finished format (machine_at q stores) position frames (events_of words) bytes size S reply (J (bank_with t) refl) f F (place_reply p) m bytes' z refl refl B) R (A ∙ place_told_lem answer done.frame done.seat (peaks_of_frames o.frames) P) next
         (N m.bank (ap (λ (s : Showing). s.threshold) (sym D)) ∙ ap (λ (s : Showing). state_out (record { limiter = s.limiter; bank = m.bank })) D)

@@ -2,6 +2,7 @@
 pub mod Kept
 pub mod Through
 pub mod Blocks
+pub mod Answered
 pub mod Buffers
 pub mod Few
 pub mod FileBlocks

@@ -1,6 +1,6 @@
 -- The public calls, on plain values: which tests lead to which answer.
 use mathlib.Core.Path.{◌≡◌, refl}
-use mathlib.Core.Bool.{Bool, true, false, ◌&&◌}
+use mathlib.Core.Bool.{Bool, true, false, ◌&&◌, beq}
 use mathlib.Core.List.{List, []}
 use Prim.Native.Nat.{ℕ, ◌+◌, ◌≤◌, ◌<◌}
 use native.Mathlib.Omega.{arith}
@@ -11,7 +11,7 @@ use borrow.Author.Tests.{leb-true, le-leb, lt-leb, eqb-true}
 use Rattle.arithmetic.specs.Number
 use Rattle.arithmetic.specs.Reply.{finished, refused, unless}
 use Rattle.arithmetic.proofs.Order.{and-true}
-use Rattle.keeper.specs.InOrder.{most_frames}
+use Rattle.keeper.specs.InOrder.{most_frames, counts_in_order}
 use Rattle.keeper.specs.Keeper.{refusal_number, Keeping, keeping_at, ordered, look_taken, stores_fit, KeeperLeft, fresh_keeper, setup_refusal, setup_of, Stepped, stepped_of, step_refusal, finished_step, step_of}
 use Rattle.keeper.specs.declared.KeeperRefusal.{KeeperRefusal}
 
@@ -31,6 +31,12 @@ regroup true false f v u = refl
 regroup false true true v u = refl
 regroup false true false v u = refl
 regroup false false f v u = refl
+
+pub counts_inside : (look head len frame : ℕ) → counts_in_order look head len frame ≡ true → (head ≤ look) × (len ≤ look + 1)
+counts_inside look head len frame h =
+    let a = and-true (leb frame most_frames) (leb len (look + 1) && (beq (eqb len 0) (eqb frame 0) && leb head look)) h in
+    let b = and-true (leb len (look + 1)) (beq (eqb len 0) (eqb frame 0) && leb head look) a.1 in
+    (leb-true head look (and-true (beq (eqb len 0) (eqb frame 0)) (leb head look) b.1).1, leb-true len (look + 1) b.0)
 
 -- ---- what a judgement answers: a refusal has a number, and where there is none every test is passed
 refusal_some : (why : KeeperRefusal) → eqb (refusal_number why) 0 ≡ false

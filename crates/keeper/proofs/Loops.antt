@@ -2,7 +2,7 @@
 use native.Mathlib.Numerals.{add-one}
 use lib.Seq.{drop-length}
 use mathlib.Core.Path.{◌≡◌, refl, sym, ap, ◌∙◌}
-use mathlib.Core.Bool.{Bool, false, ◌&&◌}
+use mathlib.Core.Bool.{Bool, true, false, ◌&&◌}
 use mathlib.Core.List.{List, [], ◌∷◌, ◌++◌, append-nil}
 use Prim.Native.Nat.{ℕ, zero, suc, ◌+◌, ◌-◌, ◌≤◌, ◌<◌}
 use native.Mathlib.Omega.{arith}
@@ -58,6 +58,11 @@ module _ (look head len frame : ℕ) (marks : List ℕ) (inside : head ≤ look)
 -- both orders rise
 abbrev pub rises : List Entry → Bool
 rises ring = rising less_mark ring && rising less_minimum ring
+
+pub rises_none : (cap : ℕ) (marks : List ℕ) (minima : List Float) (head left : ℕ) → left ≤ 1 → true ≡ rises (ring_of cap marks minima head left)
+rises_none cap marks minima head zero h = refl
+rises_none cap marks minima head (suc zero) h = refl
+rises_none cap marks minima head (suc (suc n)) h = absurd (omega arith)
 
 -- ---- ends_fit
 module _ (look head len last frame : ℕ) (marks : List ℕ) (minima : List Float) (inside : head ≤ look) (some : 0 < len) (at : last ≡ wrap (look + 1) (head + (len - 1))) where

@@ -30,6 +30,13 @@ wrap_cases cap i = go (ltb i cap) refl
 pub wrap_below : (cap i : ℕ) → i < cap + cap → wrap cap i < cap
 wrap_below cap i h = elim (wrap_cases cap i) [ inl w ↦ omega arith | inr w ↦ omega arith ]
 
+-- the place of the back of n entries, and that of the front when `left` of n are left
+pub back_inside : (cap head n back : ℕ) → back ≡ wrap cap (head + n - 1) → head < cap → n ≤ cap → back < cap
+back_inside cap head n back at hh hn = rw at (wrap_below cap (head + n - 1) (omega arith))
+
+pub front_inside : (cap head n left front : ℕ) → front ≡ wrap cap (head + (n - left)) → head < cap → n ≤ cap → front < cap
+front_inside cap head n left front at hh hn = rw at (wrap_below cap (head + (n - left)) (omega arith))
+
 -- a place and a way on from it
 pub wrap_wrap : (cap a b : ℕ) → a + b < cap + cap → wrap cap (wrap cap a + b) ≡ wrap cap (a + b)
 wrap_wrap cap a b h = elim (wrap_cases cap a) [

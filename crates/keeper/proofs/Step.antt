@@ -322,6 +322,10 @@ module _ (k : Keeping) (x : Float) (r : Ready k) (rg : Float) (gain : rg ≡ uni
             let l = left_most k x r in
             (rw head_is (head_inside k x r), rw left_count (left_room k x r), omega (arith, left_count))
 
+        -- the place of the new entry
+        pub place_fits : (place : ℕ) → place ≡ wrap (k.keeper.look + 1) (head + left) → place < k.keeper.look + 1
+        place_fits place placed = let f = front_fits in rw placed (wrap_below (k.keeper.look + 1) (head + left) (omega arith))
+
         pub step_done : (place : ℕ) → place ≡ wrap (k.keeper.look + 1) (head + left) → ◌≡◌ {A = Stepped}
             (record {
               floor = get_or (set k.minima place rg) head nan;

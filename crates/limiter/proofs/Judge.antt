@@ -19,8 +19,8 @@ use Rattle.settings.specs.declared.LimiterSettings.{LimiterSettings}
 use Rattle.settings.specs.declared.ProcessSpec.{ProcessSpec}
 use Rattle.settings.proofs.Taken.{taken, refused_number}
 use Rattle.settings.proofs.Stretches.{house_accepted, house_length}
-use Rattle.limiter.specs.Prepare.{refusal_reply, prepare_reply, prepare_refusal, prepared_at, filled_for, prepare_of}
-use Rattle.limiter.specs.State.{started}
+use Rattle.limiter.specs.Prepare.{refusal_reply, prepare_reply, prepare_refusal, limiter_left, filled_for, prepare_of}
+use Rattle.limiter.specs.State.{not_set_up, started}
 use Rattle.limiter.specs.Stores.{Stores, lengths_of, lengths_fit}
 use Rattle.limiter.specs.declared.prepare.PrepareRefusal.{PrepareRefusal}
 use Rattle.limiter.specs.declared.prepare.PrepareRefusal.TheVariants as Why
@@ -78,6 +78,11 @@ refused_case Why.NoHouse = refl
 refused_case Why.StoreLength = refl
 refused_case Why.Weights = refl
 
+-- only a finished setup has number 0
+pub other_case : {A : Type 0} (a : Result A PrepareRefusal) → ((done : A) → a ≡ Ok done → ⊥) → false ≡ eqb (prepare_reply a).number 0
+other_case (Ok done) o = absurd (o done refl)
+other_case (Err why) o = sym (refused_case why)
+
 -- ---- what a setup that nothing refuses has passed
 pub record Passed (s : LimiterSettings) (spec : ProcessSpec) (stores : Stores) : Type 0 where
   pub none : refusal_of s spec ≡ 0
@@ -111,18 +116,18 @@ weights_ready s spec stores p = go spec.house p.housed p.weighed
     go true h a = (house_length spec.rate _ h, house_accepted spec.rate _ h)
     go false h a = ((fit spec.channels (look_of s.lookahead_ms spec.rate) (lengths_of stores) p.fitting).weights_is, a)
 
--- ---- what setup leaves, by what is judged of the lengths that were found
-module _ (s : LimiterSettings) (spec : ProcessSpec) (stores : Stores) (l : StoreLengths) (L : l ≡ lengths_of stores) (r : Result (Unit {0}) PrepareRefusal) (J : prepare_reply r ≡ prepare_refusal s spec l stores.weights) where
-  judged : prepare_reply r ≡ prepare_refusal s spec (lengths_of stores) stores.weights
-  judged = J ∙ ap (λ (l : StoreLengths). prepare_refusal s spec l stores.weights) L
+-- ---- what setup leaves
+module _ (s : LimiterSettings) (spec : ProcessSpec) (stores : Stores) (r : Reply) (J : r ≡ prepare_refusal s spec (lengths_of stores) stores.weights) (b : Bool) (B : b ≡ eqb r.number 0) where
+  test : eqb (prepare_refusal s spec (lengths_of stores) stores.weights).number 0 ≡ b
+  test = sym (B ∙ ap (λ (z : Reply). eqb z.number 0) J)
 
-  pub refused_prepare : (why : PrepareRefusal) → r ≡ Err why → prepared_at (Err why) stores ≡ prepare_of s spec stores
+  pub refused_prepare : b ≡ false → limiter_left r not_set_up stores ≡ prepare_of s spec stores
   unfolding prepare_of
-  refused_prepare why e = rw (← judged, e, refused_case why) refl
+  refused_prepare e = rw (test ∙ e) (ap (λ (z : Reply). limiter_left z not_set_up stores) J)
 
-  pub finished_prepare : (u : Unit {0}) → r ≡ Ok u → prepared_at (Ok (started s spec)) (filled_for s spec stores) ≡ prepare_of s spec stores
+  pub finished_prepare : b ≡ true → limiter_left r (started s spec) (filled_for s spec stores) ≡ prepare_of s spec stores
   unfolding prepare_of
-  finished_prepare u e = rw (← judged, e) refl
+  finished_prepare e = rw (test ∙ e) (ap (λ (z : Reply). limiter_left z (started s spec) (filled_for s spec stores)) J)
 
-  pub all_passed : (u : Unit {0}) → r ≡ Ok u → Passed s spec stores
-  all_passed u e = passed s spec stores (ap (λ (z : Reply). z.number) (sym judged ∙ ap prepare_reply e))
+  pub all_passed : b ≡ true → Passed s spec stores
+  all_passed e = passed s spec stores (eqb-true _ 0 (test ∙ e))

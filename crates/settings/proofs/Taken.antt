@@ -1,5 +1,5 @@
 -- Settings of which none of 8 to 14 arises pass every rule.
-use Rattle.std.proofs.Common.{◌≡◌, true, false, eqb, Result, Ok, sym, refl, ap, ◌∙◌}
+use Rattle.std.proofs.Common.{◌≡◌, Bool, true, false, ◌&&◌, eqb, Result, Ok, sym, refl, ap, ◌∙◌}
 use Rattle.arithmetic.specs.Reply.{Reply, numbered, unless}
 use Rattle.arithmetic.proofs.Passed.{passed_unless}
 use Rattle.keeper.specs.Keeper.{look_taken}
@@ -36,6 +36,25 @@ taken s spec h =
     let k13 = passed_unless (channels_taken spec.channels) 12 g k12.1 in
     let k14 = passed_unless (block_taken spec.max_block) 13 0 k13.1 in
     record { rate_is = k8.0; margin_is = k9.0; lookahead_is = k10.0; release_is = k11.0; look_is = k12.0; channels_is = k13.0; block_is = k14.0 }
+
+-- the seven tests together
+none_arises : (a b c d e f g : Bool)
+    → (a && (b && (c && (d && (e && (f && g)))))) ≡ eqb (unless a 8 (unless b 9 (unless c 10 (unless d 11 (unless e 12 (unless f 13 (unless g 14 0))))))) 0
+none_arises false b c d e f g = refl
+none_arises true false c d e f g = refl
+none_arises true true false d e f g = refl
+none_arises true true true false e f g = refl
+none_arises true true true true false f g = refl
+none_arises true true true true true false g = refl
+none_arises true true true true true true false = refl
+none_arises true true true true true true true = refl
+
+pub tests_together : (s : LimiterSettings) (spec : ProcessSpec)
+    → (rate_taken spec.rate && (margin_taken s.true_peak_margin_db && (lookahead_taken s.lookahead_ms && (release_taken s.release_ms
+    && (look_taken (look_of s.lookahead_ms spec.rate) && (channels_taken spec.channels && block_taken spec.max_block)))))) ≡ eqb (refusal_of s spec) 0
+tests_together s spec =
+    none_arises (rate_taken spec.rate) (margin_taken s.true_peak_margin_db) (lookahead_taken s.lookahead_ms) (release_taken s.release_ms)
+    (look_taken (look_of s.lookahead_ms spec.rate)) (channels_taken spec.channels) (block_taken spec.max_block)
 
 -- no refusal has the number of finished work
 pub refused_number : (why : SettingsRefusal) → eqb (refusal_number why) 0 ≡ false

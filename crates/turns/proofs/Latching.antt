@@ -1,19 +1,21 @@
 -- The turns of the loops over events: what the rest answers stays what the whole answers.
 use mathlib.Core.Path.{◌≡◌, refl}
-use mathlib.Core.Bool.{true, false}
+use mathlib.Core.Bool.{true, false, not, ◌&&◌}
 use mathlib.Core.List.{List, [], ◌∷◌}
-use Prim.Native.Nat.{ℕ, suc, ◌+◌, ◌-◌, ◌*◌, ◌%◌, ◌≤◌, ◌<◌}
+use Prim.Native.Nat.{ℕ, suc, ◌+◌, ◌-◌, ◌*◌, ◌/◌, ◌%◌, ◌≤◌, ◌<◌}
 use native.Mathlib.Numerals.{add-one}
 use native.Mathlib.Omega.{arith}
-use lib.ListN.{get_or}
-use borrow.Author.Tests.{le-leb, lt-leb, eq-eqb, ne_eqb}
+use lib.Dec.{eqb, leb}
+use lib.ListN.{length, get_or}
+use borrow.Author.Tests.{leb-true, le-leb, lt-leb, eq-eqb, ne_eqb, not-true}
 use Rattle.arithmetic.specs.Reply.{finished, refused, count}
+use Rattle.arithmetic.proofs.Order.{and-true}
 use Rattle.detector.specs.Run.{run_length}
 use Rattle.bank.specs.Smoother.{stepped}
 use Rattle.bank.specs.Bank.{all_changed}
 use Rattle.bank.specs.declared.smoother_bank.SmootherBank.{SmootherBank}
 use Rattle.turns.specs.Events.{Event, event_at, events_from, misplaced, events_reply, latched_one, Latched, latched, latched_all}
-use Rattle.turns.specs.Inner.{before_run}
+use Rattle.turns.specs.Inner.{waiting_at, before_run}
 
 module _ (words : List ℕ) (n i : ℕ) where
   -- an event, and those after it
@@ -76,3 +78,11 @@ module _ (position first : ℕ) (events : List Event) (b : SmootherBank) (l : La
 
   pub step_left : (position % run_length ≡ 0 → ⊥) → l ≡ before_run position first events b
   step_left e = rw (ne_eqb (position % run_length) 0 e, ← L) refl
+
+-- ---- a run before which nothing is due
+pub nothing_due : (words : List ℕ) (cursor position first : ℕ) (b : SmootherBank) → leb (length words / 3) cursor && not (eqb (position % run_length) 0) ≡ true
+    → record { bank = b; waiting = waiting_at words cursor } ≡ before_run position first (waiting_at words cursor) b
+unfolding latched
+nothing_due words cursor position first b h =
+    let t = and-true (leb (length words / 3) cursor) (not (eqb (position % run_length) 0)) h in
+    rw (events_end words (length words / 3) cursor (leb-true (length words / 3) cursor t.0), not-true (eqb (position % run_length) 0) t.1) refl

@@ -6,7 +6,8 @@ use Rattle.turns.specs.Machine.{machine_of, ready_refusal}
 use Rattle.turns.specs.Events.{events_of}
 use Rattle.turns.specs.Block.{call_reply, block_reply}
 use Rattle.driver.specs.Parts.{bank_with}
-use Rattle.driver.proofs.Refusing.{handed_on, first_refused, first_passed, first_finished, ready_kernel}
+use Rattle.driver.proofs.Refusing.{ready_kernel}
+use Rattle.driver.proofs.Answered.{handed_on, first_refused, first_passed, first_finished}
 use Rattle.driver.proofs.process.judge_block.Goals as goal
 
 pub returns-in_err-judge : goal.returns-in_err-judge

@@ -3,7 +3,8 @@ use native.Mathlib.Omega.{arith}
 use mathlib.Core.Bool.{true}
 use Rattle.turns.specs.Events.{events_of}
 use Rattle.turns.specs.Machine.{machine_of}
-use Rattle.driver.proofs.Refusing.{block_most, size_most, far_judged}
+use Rattle.driver.proofs.Refusing.{block_most, size_most}
+use Rattle.driver.proofs.Answered.{far_judged}
 use Rattle.driver.proofs.process.judge_call.Goals as goal
 
 pub overflow_mul-l : goal.overflow_mul-l

@@ -1,7 +1,8 @@
 -- `process_as`: a block through bytes.
 use mathlib.Core.Path.{sym, ap, ◌∙◌}
 use Rattle.std.proofs.Common.{is_some}
-use Rattle.host.proofs.Blocks.{no_state, refused_block, block_may, rendered_block}
+use Rattle.host.proofs.Blocks.{no_state}
+use Rattle.host.proofs.Answered.{refused_block, block_may, rendered_block}
 use Rattle.host.proofs.calls.process_as.Goals as goal
 
 pub returns-in_default-clause-left : goal.returns-in_default-clause-left

@@ -2,7 +2,8 @@
 use mathlib.Core.Path.{refl}
 use Rattle.limiter.specs.Stores.{stores_in}
 use Rattle.frame.proofs.Lent.{stays_here}
-use Rattle.driver.proofs.Refusing.{handed_on, drain_left_lem, drain_may, drain_asked, drain_finished}
+use Rattle.driver.proofs.Refusing.{drain_left_lem, drain_may, drain_asked, drain_finished}
+use Rattle.driver.proofs.Answered.{handed_on}
 use Rattle.driver.proofs.state.KernelProcessor.flush.Goals as goal
 
 pub returns-in_err-judge_drain : goal.returns-in_err-judge_drain

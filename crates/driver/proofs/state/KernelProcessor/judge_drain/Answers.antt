@@ -5,7 +5,8 @@ use Rattle.limiter.specs.Stores.{stores_in}
 use Rattle.turns.specs.Machine.{ready_refusal}
 use Rattle.turns.specs.Drain.{tail_reply, drain_reply}
 use Rattle.driver.specs.Answers.{machine_at}
-use Rattle.driver.proofs.Refusing.{handed_on, first_refused, first_passed, first_finished, ready_kernel}
+use Rattle.driver.proofs.Refusing.{ready_kernel}
+use Rattle.driver.proofs.Answered.{handed_on, first_refused, first_passed, first_finished}
 use Rattle.driver.proofs.state.KernelProcessor.judge_drain.Goals as goal
 
 pub returns-in_err-judge : goal.returns-in_err-judge

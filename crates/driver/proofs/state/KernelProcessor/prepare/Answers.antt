@@ -1,7 +1,7 @@
 -- `prepare`: the bank's refusal, 7, the limiter's, or both set up.
 use mathlib.Core.Path.{sym, ◌∙◌}
 use Rattle.limiter.specs.Stores.{stores_at}
-use Rattle.driver.proofs.Refusing.{handed_on}
+use Rattle.driver.proofs.Answered.{handed_on}
 use Rattle.driver.proofs.Started.{bank_refused, over_budget, limiter_refused, limiter_told}
 use Rattle.driver.proofs.state.KernelProcessor.prepare.Goals as goal
 

@@ -5,7 +5,7 @@ use Rattle.turns.specs.Machine.{machine_of}
 use Rattle.turns.specs.Events.{events_of}
 use Rattle.turns.specs.Block.{placed, place_reply}
 use Rattle.frame.proofs.Lent.{stays_here}
-use Rattle.driver.proofs.Refusing.{handed_on, block_asks, block_left, block_finished}
+use Rattle.driver.proofs.Answered.{handed_on, block_asks, block_left, block_finished}
 use Rattle.driver.proofs.state.KernelProcessor.process.Goals as goal
 
 pub returns-in_err-judge_lent : goal.returns-in_err-judge_lent

@@ -4,8 +4,7 @@ use Rattle.limiter.specs.Stores.{stores_at}
 use Rattle.bank.specs.Smoother.{reset_one}
 use Rattle.limiter.specs.Reset.{reset_at}
 use Rattle.driver.proofs.Judged.{prepared_is}
-use Rattle.driver.proofs.Refusing.{handed_on}
-use Rattle.driver.proofs.Called.{reset_refused, reset_prepared_lem, reset_done_lem}
+use Rattle.driver.proofs.Answered.{handed_on, reset_refused, reset_prepared_lem, reset_done_lem}
 use Rattle.driver.proofs.state.KernelProcessor.reset.Goals as goal
 
 pub returns-in_err-judge_reset : goal.returns-in_err-judge_reset

@@ -2,7 +2,7 @@
 use mathlib.Core.Path.{refl}
 use mathlib.Core.List.{[]}
 use Rattle.envelope.specs.Step.{gain_step_at}
-use Rattle.driver.proofs.Refusing.{handed_on}
+use Rattle.driver.proofs.Answered.{handed_on}
 use Rattle.driver.proofs.Stepped.{gain_refused, gain_ready, gain_done_lem}
 use Rattle.driver.proofs.state.KernelProcessor.step_env.Goals as goal
 

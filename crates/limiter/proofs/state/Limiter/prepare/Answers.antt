@@ -3,7 +3,7 @@ use Rattle.std.proofs.lemmas.Result.{err_from_is_err_and}
 use lib.Ieee.{of_bits}
 use Rattle.settings.proofs.Taken.{taken}
 use Rattle.limiter.specs.Stores.{stores_at}
-use Rattle.limiter.proofs.Judge.{refused_prepare, finished_prepare, all_passed}
+use Rattle.limiter.proofs.Answered.{refused_prepare, finished_prepare, all_passed}
 use Rattle.limiter.proofs.state.Limiter.prepare.Goals as goal
 
 pub returns-in_err-judge : goal.returns-in_err-judge
