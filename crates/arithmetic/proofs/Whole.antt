@@ -92,16 +92,17 @@ no_fraction : (m : ℕ) (e : ℤ) → m < 2 ^ 53 → 2 ^ 52 * down e ≤ m * up 
 no_fraction m (pos k) f h = refl
 no_fraction m (negsuc k) f h = absurd (omega (arith, pow-suc 2 k, pow_pos k))
 
--- what is not above zero is cut to 0
+-- what is not above zero has no magnitude, and is cut to 0
+no_magnitude : (m : ℕ) (e : ℤ) → lt Number.zero (fin false m e) ≡ false → m * up e ≡ 0
+no_magnitude m e h = omega (arith, ltb-false 0 (m * up e) (sym (zero-lt m e) ∙ h))
+
 cut_none : (x : Float) → lt Number.zero x ≡ false → to_unsigned 64 x ≡ 0
 unfolding lt to_unsigned
 cut_none nan h = refl
 cut_none (inf true) h = refl
 cut_none (inf false) h = clash true refl h
 cut_none (fin true m e) h = refl
-cut_none (fin false m e) h =
-    let z : m * up e ≡ 0 = omega (arith, ltb-false 0 (m * up e) (sym (zero-lt m e) ∙ h)) in
-    rw (z, zero-div (down e)) refl
+cut_none (fin false m e) h = rw (no_magnitude m e h, zero-div (down e)) refl
 
 module _ (rule : ℕ → ℕ → ℕ) (r : Rule rule) where
   pub whole_none : (x : Float) → lt Number.zero x ≡ false → 0 ≡ whole_by rule x
@@ -110,9 +111,7 @@ module _ (rule : ℕ → ℕ → ℕ) (r : Rule rule) where
   whole_none (inf true) h = refl
   whole_none (inf false) h = clash true refl h
   whole_none (fin true m e) h = refl
-  whole_none (fin false m e) h =
-      let z : m * up e ≡ 0 = omega (arith, ltb-false 0 (m * up e) (sym (zero-lt m e) ∙ h)) in
-      rw (z, r.nothing (down e) (down_pos e)) refl
+  whole_none (fin false m e) h = rw (no_magnitude m e h, r.nothing (down e) (down_pos e)) refl
 
   pub whole_large : (x : Float) (t : ℕ) → fits binary64 x ≡ true → lt Number.zero x ≡ true → lt x all_whole ≡ false → t ≡ to_unsigned 64 x → t ≡ whole_by rule x
   unfolding to_unsigned

@@ -33,10 +33,10 @@ handed_on (Err y) e h = ap Err h
 
 -- the reply of an answer, in either case
 module _ (r : Result (Unit {0}) Refusal) (reply : Reply) (R : answer_reply r ≡ reply) where
-  refusal_is : (why : Refusal) → r ≡ Err why → refused_by why ≡ reply
+  pub refusal_is : (why : Refusal) → r ≡ Err why → refused_by why ≡ reply
   refusal_is why E = ap answer_reply (sym E) ∙ R
 
-  none_is : (u : Unit {0}) → r ≡ Ok u → finished [] ≡ reply
+  pub none_is : (u : Unit {0}) → r ≡ Ok u → finished [] ≡ reply
   none_is u F = ap answer_reply (sym F) ∙ R
 
 -- ---- replies in turn

@@ -4,7 +4,7 @@ use mathlib.Core.List.{List, [], ◌++◌}
 use Prim.Native.Nat.{ℕ, ◌+◌, ◌*◌, ◌≤◌, ◌<◌}
 use native.Mathlib.Omega.{arith}
 use lib.ListN.{length, take, drop, length-append, length-drop}
-use lib.Seq.{sets}
+use lib.Seq.{sets, length-sets}
 use Rattle.std.specs.Prelude.{Result, Ok, Err, IsOk}
 use lib.Ieee.{Float}
 use borrow.Author.Tests.{le-leb, eq-eqb}
@@ -71,18 +71,20 @@ going_start whole look before small most k e =
     }
 
 module _ {whole : List ℕ} {look : ℕ} {before : List ℕ} {k : Keeping} {lines : List ℕ} {number : ℕ} {output : List ℕ} {next : ℕ} (g : Going whole look before k lines number output next) where
+  -- the text of what is left
+  abbrev left_text : List ℕ
+  left_text = gain_text k number (lines_of lines)
+
+  whole_put : Put before 0 (gain_text (opened look) 2 (lines_of whole)) (sets output next left_text) (next + length left_text)
+  whole_put = g.rest (sets output next left_text) (next + length left_text) (record { bytes = refl; place = refl })
+
   -- what has been put keeps the length of what it was put into
   pub same_length : length output ≡ length before
-  same_length =
-      let text = gain_text k number (lines_of lines) in
-      let p : Put output next text (sets output next text) (next + length text) = record { bytes = refl; place = refl } in
-      sym (put_length p) ∙ put_length (g.rest (sets output next text) (next + length text) p)
+  same_length = sym (length-sets output next left_text) ∙ put_length whole_put
 
   -- there is room for what is left
   going_room : next + length (gain_text k number (lines_of lines)) ≤ 160000
-  going_room =
-      let p = g.rest (sets output next (gain_text k number (lines_of lines))) (next + length (gain_text k number (lines_of lines))) (record { bytes = refl; place = refl }) in
-      omega (arith, p.place, gains_fit look whole g.most g.small)
+  going_room = omega (arith, whole_put.place, gains_fit look whole g.most g.small)
 
   pub going_few : k.keeper.frame < 10000
   going_few = let f = g.few in let s = g.small in omega arith

@@ -23,6 +23,7 @@ use Rattle.driver.specs.Answers.{refused_by, answer_reply}
 use Rattle.driver.specs.Parts.{shown_of, bank_with}
 use Rattle.driver.specs.declared.answers.Refusal.{Refusal}
 use Rattle.driver.specs.declared.state.Threshold.{Threshold}
+use Rattle.driver.proofs.Answered.{refusal_is, none_is}
 use Rattle.driver.proofs.Refusing.{refused_some}
 use Rattle.state_bytes.specs.State.{state_words, is_state, limiter_in, bank_in, state_out}
 use Rattle.state_bytes.specs.Shown.{showing, rendered_at}
@@ -46,11 +47,11 @@ module _ (format : Format) (answer state : List ℕ) (position frames : ℕ) (wo
 
     pub refused_block : (why : Refusal) → judged ≡ Err why → (r : ℕ) → r ≡ (refused_by why).number → (after : List ℕ) → after ≡ answered_by answer (refused_by why) → returned_with (returned_at r after state stores) bytes ≡ audio_by call answer state stores bytes
     refused_block why E =
-        Blocks.refused_block format answer state position frames words bytes stores h l limiter_is t shown_is size S (refused_by why) (λ b e. ap answer_reply (sym E) ∙ J b e) false (sym (refused_some why)) refl
+        Blocks.refused_block format answer state position frames words bytes stores h l limiter_is t shown_is size S (refused_by why) (λ b e. refusal_is judged _ (J b e) why E) false (sym (refused_some why)) refl
 
     module _ (u : Unit {0}) (F : judged ≡ Ok u) where
       none : (b : SmootherBank) → shown_of b ≡ t → finished [] ≡ block_reply (machine_of l b stores) position frames (events_of words) size
-      none b e = ap answer_reply (sym F) ∙ J b e
+      none b e = none_is judged _ (J b e) u F
 
       pub block_may : BlockAsked (machine_of l (bank_with t) stores) format position frames bytes
       block_may = Blocks.block_may format answer state position frames words bytes stores h l limiter_is t shown_is size S (finished []) none true refl refl
